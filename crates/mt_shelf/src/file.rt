@@ -1,0 +1,21 @@
+//! Files by name.
+
+use mt_types::List;
+
+/// A file and its bytes.
+#[derive(Debug, Drop)]
+pub struct FileBytes {
+    /// Its path, or its name below a part.
+    pub name: List<u8>,
+    /// What it holds.
+    pub bytes: List<u8>,
+}
+
+/// A file of a listing.
+#[derive(Debug, Drop)]
+pub struct Entry {
+    /// Its name below the listed part, with `/` between folders.
+    pub name: List<u8>,
+    /// Its size in bytes.
+    pub size: u64,
+}

@@ -1,0 +1,40 @@
+//! The definition of a table, and of one stored part of it.
+
+use crate::column::Column;
+use crate::partition::PartExpr;
+use crate::projection::Projection;
+use crate::settings::Settings;
+use crate::skip::Skip;
+use mt_types::List;
+
+/// A MergeTree table. A `u32` names a column by its place in `columns`, from 0.
+#[derive(Debug, Drop)]
+pub struct Table {
+    /// The table's name, without its database.
+    pub name: List<u8>,
+    /// From 1 to 256 columns, of different names.
+    pub columns: List<Column>,
+    /// The partition key's expressions; none where there is no partition key.
+    pub partition: List<PartExpr>,
+    /// The sort key: from 1 to 16 columns.
+    pub sort: List<u32>,
+    /// How many columns of the sort key are the primary key.
+    pub primary: u32,
+    /// The skip indexes, at most 16.
+    pub skips: List<Skip>,
+    /// The projections, at most 8.
+    pub projections: List<Projection>,
+    /// What the layout depends on.
+    pub settings: Settings,
+}
+
+/// What one folder stores: the base part of a table, or one of its projections.
+#[derive(Debug, Drop)]
+pub struct PartDef {
+    /// The stored columns.
+    pub columns: List<Column>,
+    /// The sort key, by places in `columns`.
+    pub sort: List<u32>,
+    /// How many columns of the sort key are the primary key.
+    pub primary: u32,
+}
