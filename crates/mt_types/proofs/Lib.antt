@@ -1,3 +1,6 @@
 pub mod OrderLemmas
 pub mod Leb128Lemmas
 pub mod DefaultLemmas
+pub mod TextLemmas
+pub mod Levels
+pub mod SizeLemmas
