@@ -4,3 +4,5 @@ pub mod DefaultLemmas
 pub mod TextLemmas
 pub mod Levels
 pub mod SizeLemmas
+pub mod KindLemmas
+pub mod NameLemmas
