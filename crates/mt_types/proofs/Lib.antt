@@ -6,3 +6,4 @@ pub mod Levels
 pub mod SizeLemmas
 pub mod KindLemmas
 pub mod NameLemmas
+pub mod ReadingLemmas
