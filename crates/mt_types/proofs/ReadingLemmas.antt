@@ -1,6 +1,6 @@
 -- What is read of a text is a type of the profile that has this name.
-use Rattle.std.proofs.Common.{◌≡◌, ◌⊎◌, inl, inr, ℕ, zero, suc, ◌+◌, ◌≤◌, ◌<◌, Bool, true, false, List, [], ◌∷◌, ◌++◌, Option, Some, None, refl, ap, sym, ◌∙◌, arith, subst, lit≤}
-use Rattle.std.specs.Prelude.{codes, nat_lt, nat_le, ◌&&◌, option_map, if◌then◌else◌}
+use Rattle.std.proofs.Common.{◌≡◌, ◌≢◌, ◌⊎◌, inl, inr, ℕ, zero, suc, ◌+◌, ◌≤◌, ◌<◌, Bool, true, false, List, [], ◌∷◌, ◌++◌, Option, Some, None, Result, Ok, Err, refl, ap, sym, ◌∙◌, arith, subst, lit≤}
+use Rattle.std.specs.Prelude.{IfOk, codes, nat_lt, nat_le, ◌&&◌, option_map, if◌then◌else◌}
 use Rattle.std.specs.Str.{bytes_eq}
 use Rattle.std.specs.Fmt.{decimal}
 use Rattle.std.proofs.lemmas.Bool.{lt-ltb, le-leb}
@@ -12,10 +12,13 @@ use Rattle.mt_types.specs.declared.ty.Agg.{Agg}
 use Rattle.mt_types.specs.declared.ty.Agg.TheVariants.{Sum, Min, Max}
 use Rattle.mt_types.specs.declared.ty.Ty.{Ty}
 use Rattle.mt_types.specs.declared.ty.Ty.TheVariants.{UInt, Int, FixedString, Str, Date, Nullable, Array, State, CountState}
+use Rattle.mt_types.specs.declared.ty.read_name.TyError.{TyError}
+use Rattle.mt_types.specs.declared.ty.read_name.TyError.TheVariants.{NotAType, NoMemory}
 use Rattle.mt_types.specs.Names.{type_name, state_opening, width_text}
-use Rattle.mt_types.specs.NameReading.{after_prefix, between, width_named, integer_named, number_named, scalar_named, optional_named, nested_named, type_named, size_named, within, state_named}
+use Rattle.mt_types.specs.NameReading.{GivesType, after_prefix, between, width_named, integer_named, number_named, scalar_named, optional_named, nested_named, type_named, size_named, within, state_named}
 use Rattle.mt_types.specs.Profile.{Kind, Whole, Day, Bytes, Optional, Nested, Stored, Unknown, kind_of, is_profile, is_known, optional_kind, array_kind, state_kind}
 use Rattle.mt_types.proofs.Levels.{name-UInt, name-Int, name-FixedString, name-Str, name-Date, name-Nullable, name-Array, name-State, name-CountState, kind-UInt, kind-Int, kind-FixedString, kind-Str, kind-Date, kind-Nullable, kind-Array, kind-State, kind-CountState}
+use Rattle.mt_types.proofs.NameLemmas.{type_named_of_name}
 use Rattle.mt_types.proofs.SizeLemmas.{size_is}
 use Rattle.mt_types.proofs.TextLemmas.{after_prefix_is, between_is}
 
@@ -149,7 +152,7 @@ scalar_is text t e =
         | inl (s, n, is, read, same) ↦
             let size = size_is s n read in
             named_as IsScalar t (FixedString n) text (codes "FixedString(" ++ decimal n ++ codes ")") Bytes same (name-FixedString n)
-                (between_is (codes "FixedString(") text s is ∙ ap (λ v. codes "FixedString(" ++ v ++ codes ")") (sym size.2)) (sized_kind n size.1 size.0) tt
+            (between_is (codes "FixedString(") text s is ∙ ap (λ v. codes "FixedString(" ++ v ++ codes ")") (sym size.2)) (sized_kind n size.1 size.0) tt
         | inr e3 ↦ weaker IsNumber IsScalar t text number_scalar (number_is text t e3)
       ]
     ]
@@ -171,7 +174,7 @@ optional_is text t e =
     elim (within_is Nullable scalar_named _ (between (codes "Nullable(") text) t e) [
       | inl (s, inner, is, read, same) ↦
           around IsScalar (NestsIn 0) t (Nullable inner) inner text s (codes "Nullable(") optional_kind same (name-Nullable inner) (kind-Nullable inner) is
-              (λ k h. subst (NestsIn 0) (sym (optional_of_scalar k h)) tt) (scalar_is s inner read)
+          (λ k h. subst (NestsIn 0) (sym (optional_of_scalar k h)) tt) (scalar_is s inner read)
       | inr e2 ↦ weaker IsScalar (NestsIn 0) t text (scalar_nests 0) (scalar_is text t e2)
     ]
 
@@ -195,7 +198,7 @@ nested_is (suc arrays) fits text t e =
     elim (within_is Array (nested_named arrays) (optional_named text) (between (codes "Array(") text) t e) [
       | inl (s, inner, is, read, same) ↦
           around (NestsIn arrays) (NestsIn (suc arrays)) t (Array inner) inner text s (codes "Array(") array_kind same (name-Array inner) (kind-Array inner) is
-              (array_nests arrays (omega arith)) (nested_is arrays (omega arith) s inner read)
+          (array_nests arrays (omega arith)) (nested_is arrays (omega arith) s inner read)
       | inr e2 ↦ weaker (NestsIn 0) (NestsIn (suc arrays)) t text (nests_more (suc arrays)) (optional_is text t e2)
     ]
 
@@ -251,3 +254,27 @@ type_is text t e =
 
 pub name_of_type_named : (text : List ℕ) (t : Ty) → type_named text ≡ Some t → (is_profile t ≡ true) × (type_name t ≡ text)
 name_of_type_named text t e = let h = type_is text t e in (h.kind, h.name)
+
+-- ---- a reading's answer
+
+pub found_of : (text : List ℕ) (r : Result Ty TyError) → GivesType r (type_named text) → IfOk r (λ t. (is_profile t ≡ true) × (type_name t ≡ text))
+found_of text (Ok t) h = name_of_type_named text t h
+found_of text (Err NotAType) h = tt
+found_of text (Err NoMemory) h = tt
+
+pub only_of : (text : List ℕ) (r : Result Ty TyError) → GivesType r (type_named text) → (t : Ty) → is_profile t ≡ true → type_name t ≡ text → (r ≡ Ok t) ⊎ (r ≡ Err NoMemory)
+only_of text (Ok u) h t profile name =
+    let read : type_named text ≡ Some t = ap type_named (sym name) ∙ type_named_of_name t profile in
+    let same : u ≡ t = cc in
+    inl (ap Ok same)
+only_of text (Err NotAType) h t profile name =
+    let read : type_named text ≡ Some t = ap type_named (sym name) ∙ type_named_of_name t profile in
+    let never : None ≡ Some t = sym h ∙ read in cc
+only_of text (Err NoMemory) h t profile name = inr refl
+
+pub cause_of : (text : List ℕ) (r : Result Ty TyError) → GivesType r (type_named text) → r ≡ Err NotAType → (t : Ty) → is_profile t ≡ true → type_name t ≢ text
+cause_of text r h is t profile name =
+    elim (only_of text r h t profile name) [
+      | inl found ↦ let never : Ok t ≡ Err NotAType = sym found ∙ is in cc
+      | inr none ↦ let never : NoMemory ≡ NotAType = cc in cc
+    ]

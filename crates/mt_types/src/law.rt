@@ -54,14 +54,10 @@ pub fn written_numbers_are_read()
 /// What a name is read as, where it names a type of the profile (`Ty::read_name`).
 pub fn names_are_read()
     ensures { (t : Ty) → is_profile t ≡ true → type_named (type_name t) ≡ Some t }
-{
-}
+{}
 
 /// Only names are read, each as the type of the profile that has it.
 pub fn only_names_are_read()
-    ensures {
-        (text : List ℕ) (t : Ty) → type_named text ≡ Some t
-            → (is_profile t ≡ true) × (type_name t ≡ text)
-    }
-{
-}
+    ensures { (text : List ℕ) (t : Ty) → type_named text ≡ Some t
+        → (is_profile t ≡ true) × (type_name t ≡ text) }
+{}

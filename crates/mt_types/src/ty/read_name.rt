@@ -1,6 +1,6 @@
 //! Types by their names, as columns.txt has them.
 
-ghost use Rattle.std.specs.Prelude.{◌≡◌, ◌≤◌, IfOk, IfSome, option_copied, option_map};
+ghost use Rattle.std.specs.Prelude.{◌≡◌, ◌≢◌, ◌≤◌, ◌⊎◌, IfOk, IfSome, option_copied, option_map, true};
 ghost use Rattle.mt_types.specs.declared.ty.Ty.TheVariants.{State};
 ghost use Rattle.mt_types.specs.NameReading.{GivesType, between, integer_named, nested_named, number_named, optional_named, next_size, scalar_named, size_named, type_named, width_named};
 
@@ -44,26 +44,39 @@ impl From<NoMemory> for TyError {
 
 impl Ty {
     ghost use Rattle.mt_types.specs.declared.ty.Ty.{Ty};
-    ghost use Rattle.mt_types.specs.declared.ty.read_name.TyError.TheVariants.{NotAType, NoMemory};
+    ghost use Rattle.mt_types.specs.Names.{type_name};
+    ghost use Rattle.mt_types.specs.Profile.{is_profile};
 
     /// The type of the profile that has this name (ClickHouse: `DataTypeFactory`).
     pub fn read_name(alloc: Global, text: &[u8]) -> Result<Ty, TyError>
-        ensures reads { GivesType result (type_named text.now) }
+        ensures found { IfOk result (λ ty. (is_profile ty ≡ true) × (type_name ty ≡ text.now)) }
+        ensures only { (ty : Ty) → is_profile ty ≡ true → type_name ty ≡ text.now
+            → (result ≡ Ok ty) ⊎ (result ≡ Err TyError.NoMemory) }
+        ensures cause { result ≡ Err TyError.NotAType → (ty : Ty) → is_profile ty ≡ true → type_name ty ≢ text.now }
+
+        // The same by the function that reads names.
+        ensures value { GivesType result (type_named text.now) }
     {
-        if text == b"AggregateFunction(count)".as_slice() {
-            return Ok(Ty::CountState);
-        }
-        if let Some(argument) = between(Agg::Sum.state_opening(), text) {
-            return state_of(alloc, Agg::Sum, read_integer(argument));
-        }
-        if let Some(argument) = between(Agg::Min.state_opening(), text) {
-            return state_of(alloc, Agg::Min, read_number(argument));
-        }
-        if let Some(argument) = between(Agg::Max.state_opening(), text) {
-            return state_of(alloc, Agg::Max, read_number(argument));
-        }
-        read_nested(alloc, MAX_ARRAY_DEPTH, text)
+        read_type(alloc, text)
     }
+}
+
+fn read_type(alloc: Global, text: &[u8]) -> Result<Ty, TyError>
+    ensures { GivesType result (type_named text.now) }
+{
+    if text == b"AggregateFunction(count)".as_slice() {
+        return Ok(Ty::CountState);
+    }
+    if let Some(argument) = between(Agg::Sum.state_opening(), text) {
+        return state_of(alloc, Agg::Sum, read_integer(argument));
+    }
+    if let Some(argument) = between(Agg::Min.state_opening(), text) {
+        return state_of(alloc, Agg::Min, read_number(argument));
+    }
+    if let Some(argument) = between(Agg::Max.state_opening(), text) {
+        return state_of(alloc, Agg::Max, read_number(argument));
+    }
+    read_nested(alloc, MAX_ARRAY_DEPTH, text)
 }
 
 fn state_of(alloc: Global, agg: Agg, argument: Option<Ty>) -> Result<Ty, TyError>
