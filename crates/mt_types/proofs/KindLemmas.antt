@@ -1,5 +1,5 @@
 -- The types of each kind.
-use Rattle.std.proofs.Common.{◌≡◌, ℕ, suc, ◌+◌, ◌<◌, ◌≤◌, arith, Bool, true, false, refl, ap, sym, ◌∙◌}
+use Rattle.std.proofs.Common.{◌≡◌, ℕ, suc, ◌+◌, ◌<◌, ◌≤◌, arith, Bool, true, false, refl, sym, ◌∙◌, subst}
 use Rattle.std.specs.Prelude.{nat_le, nat_lt, ◌&&◌, if◌then◌else◌}
 use Rattle.std.proofs.lemmas.Bool.{leb-true, ltb-true}
 use Rattle.mt_types.specs.declared.limits.TheConstants.{MAX_FIXED_STRING, MAX_ARRAY_DEPTH}
@@ -12,18 +12,23 @@ use Rattle.mt_types.specs.declared.ty.Ty.TheVariants.{UInt, Int, FixedString, St
 use Rattle.mt_types.specs.Profile.{Kind, Whole, Day, Bytes, Optional, Nested, Stored, Unknown, kind_of, optional_kind, array_kind, state_kind}
 use Rattle.mt_types.proofs.Levels.{same_level, kind_at}
 
+-- what sum takes
+abbrev pub IsWhole : Kind → Type 0
+IsWhole Whole = Unit {0}
+IsWhole _ = ⊥
+
 -- what min and max take
-abbrev pub is_number_kind : Kind → Bool
-is_number_kind Whole = true
-is_number_kind Day = true
-is_number_kind _ = false
+abbrev pub IsNumber : Kind → Type 0
+IsNumber Whole = Unit {0}
+IsNumber Day = Unit {0}
+IsNumber _ = ⊥
 
 -- what Nullable takes
-abbrev pub is_scalar_kind : Kind → Bool
-is_scalar_kind Whole = true
-is_scalar_kind Day = true
-is_scalar_kind Bytes = true
-is_scalar_kind _ = false
+abbrev pub IsScalar : Kind → Type 0
+IsScalar Whole = Unit {0}
+IsScalar Day = Unit {0}
+IsScalar Bytes = Unit {0}
+IsScalar _ = ⊥
 
 -- what has at most so many arrays and is no state
 abbrev pub Nests : (arrays : ℕ) → Kind → Type 0
@@ -39,7 +44,7 @@ pub data Known (t : Ty) : Type 0 where
   day : t ≡ Date → kind_of t ≡ Day → Known t
   text : t ≡ Str → kind_of t ≡ Bytes → Known t
   fixed : (n : ℕ) → t ≡ FixedString n → 1 ≤ n → n ≤ MAX_FIXED_STRING → kind_of t ≡ Bytes → Known t
-  optional : (inner : Ty) → t ≡ Nullable inner → is_scalar_kind (kind_of inner) ≡ true → kind_of t ≡ Optional → Known t
+  optional : (inner : Ty) → t ≡ Nullable inner → IsScalar (kind_of inner) → kind_of t ≡ Optional → Known t
   nested : (inner : Ty) (depth : ℕ) → t ≡ Array inner → array_kind (kind_of inner) ≡ Nested depth → kind_of t ≡ Nested depth → Known t
   stored : (agg : Agg) (inner : Ty) → t ≡ State agg inner → state_kind agg (kind_of inner) ≡ Stored → kind_of t ≡ Stored → Known t
   counted : t ≡ CountState → kind_of t ≡ Stored → Known t
@@ -56,9 +61,9 @@ fixed_known t n true e is k =
 fixed_known t n false e is k = outside k
 
 optional_known : (t inner : Ty) (k : Kind) → kind_of inner ≡ k → t ≡ Nullable inner → kind_of t ≡ optional_kind k → Known t
-optional_known t inner Whole e is k = optional inner is (ap is_scalar_kind e) k
-optional_known t inner Day e is k = optional inner is (ap is_scalar_kind e) k
-optional_known t inner Bytes e is k = optional inner is (ap is_scalar_kind e) k
+optional_known t inner Whole e is k = optional inner is (subst IsScalar (sym e) tt) k
+optional_known t inner Day e is k = optional inner is (subst IsScalar (sym e) tt) k
+optional_known t inner Bytes e is k = optional inner is (subst IsScalar (sym e) tt) k
 optional_known t inner _ e is k = outside k
 
 -- Array and the states give no other kind than their own
@@ -136,18 +141,17 @@ array_depth (Nested d) depth e = let is = deeper_is d depth (nat_lt d MAX_ARRAY_
 array_depth Stored depth e = cc
 array_depth Unknown depth e = cc
 
--- sum takes an integer
-pub sum_argument : (k : Kind) → state_kind Sum k ≡ Stored → k ≡ Whole
-sum_argument Whole e = refl
+-- the arguments of states
+pub sum_argument : (k : Kind) → state_kind Sum k ≡ Stored → IsWhole k
+sum_argument Whole e = tt
 sum_argument _ e = cc
 
--- min and max take a number
-pub least_argument : (k : Kind) → state_kind Min k ≡ Stored → is_number_kind k ≡ true
-least_argument Whole e = refl
-least_argument Day e = refl
+pub least_argument : (k : Kind) → state_kind Min k ≡ Stored → IsNumber k
+least_argument Whole e = tt
+least_argument Day e = tt
 least_argument _ e = cc
 
-pub greatest_argument : (k : Kind) → state_kind Max k ≡ Stored → is_number_kind k ≡ true
-greatest_argument Whole e = refl
-greatest_argument Day e = refl
+pub greatest_argument : (k : Kind) → state_kind Max k ≡ Stored → IsNumber k
+greatest_argument Whole e = tt
+greatest_argument Day e = tt
 greatest_argument _ e = cc

@@ -1,6 +1,6 @@
 -- What is read of a text is a type of the profile that has this name.
-use Rattle.std.proofs.Common.{◌≡◌, ◌≢◌, ◌⊎◌, inl, inr, ℕ, zero, suc, ◌+◌, ◌≤◌, ◌<◌, Bool, true, false, List, [], ◌∷◌, ◌++◌, Option, Some, None, Result, Ok, Err, refl, ap, sym, ◌∙◌, arith, subst, lit≤}
-use Rattle.std.specs.Prelude.{IfOk, codes, nat_lt, nat_le, ◌&&◌, option_map, if◌then◌else◌}
+use Rattle.std.proofs.Common.{◌≡◌, ◌≢◌, ◌⊎◌, inl, inr, ℕ, zero, suc, ◌+◌, ◌≤◌, ◌<◌, Bool, true, false, List, ◌++◌, Option, Some, None, Result, Ok, Err, refl, ap, sym, ◌∙◌, arith, subst, lit≤}
+use Rattle.std.specs.Prelude.{IfOk, codes, nat_lt, option_map, if◌then◌else◌}
 use Rattle.std.specs.Str.{bytes_eq}
 use Rattle.std.specs.Fmt.{decimal}
 use Rattle.std.proofs.lemmas.Bool.{lt-ltb, le-leb}
@@ -8,7 +8,6 @@ use Rattle.std.proofs.lemmas.Slice.Eq.{bytes_eq-Decides}
 use Rattle.mt_types.specs.declared.limits.TheConstants.{MAX_FIXED_STRING, MAX_ARRAY_DEPTH}
 use Rattle.mt_types.specs.declared.ty.Width.{Width}
 use Rattle.mt_types.specs.declared.ty.Width.TheVariants.{W8, W16, W32, W64}
-use Rattle.mt_types.specs.declared.ty.Agg.{Agg}
 use Rattle.mt_types.specs.declared.ty.Agg.TheVariants.{Sum, Min, Max}
 use Rattle.mt_types.specs.declared.ty.Ty.{Ty}
 use Rattle.mt_types.specs.declared.ty.Ty.TheVariants.{UInt, Int, FixedString, Str, Date, Nullable, Array, State, CountState}
@@ -18,6 +17,7 @@ use Rattle.mt_types.specs.Names.{type_name, state_opening, width_text}
 use Rattle.mt_types.specs.NameReading.{GivesType, after_prefix, between, width_named, integer_named, number_named, scalar_named, optional_named, nested_named, type_named, size_named, within, state_named}
 use Rattle.mt_types.specs.Profile.{Kind, Whole, Day, Bytes, Optional, Nested, Stored, Unknown, kind_of, is_profile, is_known, optional_kind, array_kind, state_kind}
 use Rattle.mt_types.proofs.Levels.{name-UInt, name-Int, name-FixedString, name-Str, name-Date, name-Nullable, name-Array, name-State, name-CountState, kind-UInt, kind-Int, kind-FixedString, kind-Str, kind-Date, kind-Nullable, kind-Array, kind-State, kind-CountState}
+use Rattle.mt_types.proofs.KindLemmas.{IsWhole, IsNumber, IsScalar, Nests}
 use Rattle.mt_types.proofs.NameLemmas.{type_named_of_name}
 use Rattle.mt_types.proofs.SizeLemmas.{size_is}
 use Rattle.mt_types.proofs.TextLemmas.{after_prefix_is, between_is}
@@ -57,28 +57,6 @@ named_as K t u text name k same is text_is kind_is holds = record {
 
 -- ---- numbers
 
-abbrev IsWhole : Kind → Type 0
-IsWhole Whole = Unit {0}
-IsWhole _ = ⊥
-
-abbrev IsNumber : Kind → Type 0
-IsNumber Whole = Unit {0}
-IsNumber Day = Unit {0}
-IsNumber _ = ⊥
-
-abbrev IsScalar : Kind → Type 0
-IsScalar Whole = Unit {0}
-IsScalar Day = Unit {0}
-IsScalar Bytes = Unit {0}
-IsScalar _ = ⊥
-
--- Nullable's argument at most, inside at most so many arrays
-abbrev NestsIn : ℕ → Kind → Type 0
-NestsIn arrays Stored = ⊥
-NestsIn arrays Unknown = ⊥
-NestsIn arrays (Nested depth) = depth ≤ arrays
-NestsIn arrays _ = Unit {0}
-
 whole_number : (k : Kind) → IsWhole k → IsNumber k
 whole_number Whole h = tt
 whole_number _ h = absurd h
@@ -88,13 +66,13 @@ number_scalar Whole h = tt
 number_scalar Day h = tt
 number_scalar _ h = absurd h
 
-scalar_nests : (arrays : ℕ) (k : Kind) → IsScalar k → NestsIn arrays k
+scalar_nests : (arrays : ℕ) (k : Kind) → IsScalar k → Nests arrays k
 scalar_nests arrays Whole h = tt
 scalar_nests arrays Day h = tt
 scalar_nests arrays Bytes h = tt
 scalar_nests arrays _ h = absurd h
 
-nests_more : (arrays : ℕ) (k : Kind) → NestsIn 0 k → NestsIn arrays k
+nests_more : (arrays : ℕ) (k : Kind) → Nests 0 k → Nests arrays k
 nests_more arrays Whole h = tt
 nests_more arrays Day h = tt
 nests_more arrays Bytes h = tt
@@ -169,21 +147,21 @@ around : (K L : Kind → Type 0) (t u inner : Ty) (text s opening : List ℕ) (w
 around K L t u inner text s opening wrap same name kind is step h =
     named_as L t u text (opening ++ type_name inner ++ codes ")") (wrap (kind_of inner)) same name (between_is opening text s is ∙ ap (λ v. opening ++ v ++ codes ")") (sym h.name)) kind (step (kind_of inner) h.kind)
 
-optional_is : (text : List ℕ) (t : Ty) → optional_named text ≡ Some t → Named (NestsIn 0) t text
+optional_is : (text : List ℕ) (t : Ty) → optional_named text ≡ Some t → Named (Nests 0) t text
 optional_is text t e =
     elim (within_is Nullable scalar_named _ (between (codes "Nullable(") text) t e) [
       | inl (s, inner, is, read, same) ↦
-          around IsScalar (NestsIn 0) t (Nullable inner) inner text s (codes "Nullable(") optional_kind same (name-Nullable inner) (kind-Nullable inner) is
-          (λ k h. subst (NestsIn 0) (sym (optional_of_scalar k h)) tt) (scalar_is s inner read)
-      | inr e2 ↦ weaker IsScalar (NestsIn 0) t text (scalar_nests 0) (scalar_is text t e2)
+          around IsScalar (Nests 0) t (Nullable inner) inner text s (codes "Nullable(") optional_kind same (name-Nullable inner) (kind-Nullable inner) is
+          (λ k h. subst (Nests 0) (sym (optional_of_scalar k h)) tt) (scalar_is s inner read)
+      | inr e2 ↦ weaker IsScalar (Nests 0) t text (scalar_nests 0) (scalar_is text t e2)
     ]
 
 -- ---- Array and the states
 
-deeper_nests : (arrays d : ℕ) → d ≤ arrays → arrays < MAX_ARRAY_DEPTH → NestsIn (suc arrays) (if nat_lt d MAX_ARRAY_DEPTH then Nested (d + 1) else Unknown)
+deeper_nests : (arrays d : ℕ) → d ≤ arrays → arrays < MAX_ARRAY_DEPTH → Nests (suc arrays) (if nat_lt d MAX_ARRAY_DEPTH then Nested (d + 1) else Unknown)
 deeper_nests arrays d in_arrays below = let less : d < MAX_ARRAY_DEPTH = omega arith in rw (lt-ltb d MAX_ARRAY_DEPTH less) (omega arith)
 
-array_nests : (arrays : ℕ) → arrays < MAX_ARRAY_DEPTH → (k : Kind) → NestsIn arrays k → NestsIn (suc arrays) (array_kind k)
+array_nests : (arrays : ℕ) → arrays < MAX_ARRAY_DEPTH → (k : Kind) → Nests arrays k → Nests (suc arrays) (array_kind k)
 array_nests arrays below Whole h = omega arith
 array_nests arrays below Day h = omega arith
 array_nests arrays below Bytes h = omega arith
@@ -192,20 +170,20 @@ array_nests arrays below (Nested d) h = deeper_nests arrays d h below
 array_nests arrays below Stored h = absurd h
 array_nests arrays below Unknown h = absurd h
 
-nested_is : (arrays : ℕ) → arrays ≤ MAX_ARRAY_DEPTH → (text : List ℕ) (t : Ty) → nested_named arrays text ≡ Some t → Named (NestsIn arrays) t text
+nested_is : (arrays : ℕ) → arrays ≤ MAX_ARRAY_DEPTH → (text : List ℕ) (t : Ty) → nested_named arrays text ≡ Some t → Named (Nests arrays) t text
 nested_is zero fits text t e = optional_is text t e
 nested_is (suc arrays) fits text t e =
     elim (within_is Array (nested_named arrays) (optional_named text) (between (codes "Array(") text) t e) [
       | inl (s, inner, is, read, same) ↦
-          around (NestsIn arrays) (NestsIn (suc arrays)) t (Array inner) inner text s (codes "Array(") array_kind same (name-Array inner) (kind-Array inner) is
+          around (Nests arrays) (Nests (suc arrays)) t (Array inner) inner text s (codes "Array(") array_kind same (name-Array inner) (kind-Array inner) is
           (array_nests arrays (omega arith)) (nested_is arrays (omega arith) s inner read)
-      | inr e2 ↦ weaker (NestsIn 0) (NestsIn (suc arrays)) t text (nests_more (suc arrays)) (optional_is text t e2)
+      | inr e2 ↦ weaker (Nests 0) (Nests (suc arrays)) t text (nests_more (suc arrays)) (optional_is text t e2)
     ]
 
 abbrev IsOfProfile : Kind → Type 0
 IsOfProfile k = is_known k ≡ true
 
-nests_known : (k : Kind) → NestsIn MAX_ARRAY_DEPTH k → IsOfProfile k
+nests_known : (k : Kind) → Nests MAX_ARRAY_DEPTH k → IsOfProfile k
 nests_known Whole h = refl
 nests_known Day h = refl
 nests_known Bytes h = refl
@@ -232,7 +210,7 @@ greatest_is : (text : List ℕ) (t : Ty) → within (State Max) number_named (ne
 greatest_is text t e =
     elim (within_is (State Max) number_named (nested_named MAX_ARRAY_DEPTH text) (between (state_opening Max) text) t e) [
       | inl (s, inner, is, read, same) ↦ around IsNumber IsOfProfile t (State Max inner) inner text s (state_opening Max) (state_kind Max) same (name-State Max inner) (kind-State Max inner) is greatest_known (number_is s inner read)
-      | inr e2 ↦ weaker (NestsIn MAX_ARRAY_DEPTH) IsOfProfile t text nests_known (nested_is MAX_ARRAY_DEPTH (lit≤ tt) text t e2)
+      | inr e2 ↦ weaker (Nests MAX_ARRAY_DEPTH) IsOfProfile t text nests_known (nested_is MAX_ARRAY_DEPTH (lit≤ tt) text t e2)
     ]
 
 state_is : (text : List ℕ) (t : Ty) → state_named text (nested_named MAX_ARRAY_DEPTH text) ≡ Some t → Named IsOfProfile t text
@@ -252,6 +230,7 @@ type_is text t e =
       | inr e2 ↦ state_is text t e2
     ]
 
+-- the law
 pub name_of_type_named : (text : List ℕ) (t : Ty) → type_named text ≡ Some t → (is_profile t ≡ true) × (type_name t ≡ text)
 name_of_type_named text t e = let h = type_is text t e in (h.kind, h.name)
 

@@ -61,3 +61,9 @@ pub fn only_names_are_read()
     ensures { (text : List ℕ) (t : Ty) → type_named text ≡ Some t
         → (is_profile t ≡ true) × (type_name t ≡ text) }
 {}
+
+/// So no two types of the profile have one name.
+pub fn types_have_their_own_names()
+    ensures { (s t : Ty) → is_profile s ≡ true → is_profile t ≡ true
+        → type_name s ≡ type_name t → s ≡ t }
+{}

@@ -92,6 +92,25 @@ impl Ty {
         }
     }
 
+    /// The same type.
+    pub fn copy(&self, alloc: Global) -> Result<Ty, NoMemory>
+        ensures { IfOk result (λ copied. copied ≡ self.now) }
+    {
+        match self {
+            Ty::UInt(width) => Ok(Ty::UInt(*width)),
+            Ty::Int(width) => Ok(Ty::Int(*width)),
+            Ty::FixedString(size) => Ok(Ty::FixedString(*size)),
+            Ty::Str => Ok(Ty::Str),
+            Ty::Date => Ok(Ty::Date),
+            Ty::Nullable(inner) => Ok(Ty::Nullable(Boxed::new(alloc, inner.get().copy(alloc)?)?)),
+            Ty::Array(inner) => Ok(Ty::Array(Boxed::new(alloc, inner.get().copy(alloc)?)?)),
+            Ty::State(agg, inner) => {
+                Ok(Ty::State(*agg, Boxed::new(alloc, inner.get().copy(alloc)?)?))
+            }
+            Ty::CountState => Ok(Ty::CountState),
+        }
+    }
+
     /// The value that stands where none is given, as under a NULL.
     pub fn default_of(&self, alloc: Global) -> Result<Value, NoMemory>
         ensures { IfOk result (λ value. value ≡ default_of self.now) }

@@ -52,7 +52,8 @@ impl Ty {
         ensures found { IfOk result (λ ty. (is_profile ty ≡ true) × (type_name ty ≡ text.now)) }
         ensures only { (ty : Ty) → is_profile ty ≡ true → type_name ty ≡ text.now
             → (result ≡ Ok ty) ⊎ (result ≡ Err TyError.NoMemory) }
-        ensures cause { result ≡ Err TyError.NotAType → (ty : Ty) → is_profile ty ≡ true → type_name ty ≢ text.now }
+        ensures cause { result ≡ Err TyError.NotAType
+            → (ty : Ty) → is_profile ty ≡ true → type_name ty ≢ text.now }
 
         // The same by the function that reads names.
         ensures value { GivesType result (type_named text.now) }
