@@ -1,13 +1,11 @@
-// A library with one function.
+//! Marks: where the granules of a data file begin.
+//!
+//! `write_marks` gives exactly the bytes of a marks file's entries, Wide or Compact.
 #![tactic(auto)]
 
-ghost use Rattle.std.specs.Prelude.{◌≡◌};
-ghost use Rattle.mt_marks.specs.Echo.{echo_of};
+mod marks;
+mod writing;
 
-// The `ensures` clause is the contract: what `echo` returns is `echo_of` of its argument, a definition
-// in `specs/Echo.antt`, which a caller's clause can cite too.
-pub fn echo(x: usize) -> usize
-    ensures { result ≡ echo_of x }
-{
-    x
-}
+pub use marks::Marks;
+pub use mt_defs::Mark;
+pub use writing::write_marks;
