@@ -1,7 +1,8 @@
 //! Writing marks files.
 
-ghost use Rattle.std.specs.Prelude.{◌≡◌, ◌*◌, ◌≤◌, ◌++◌, length, IfOk, OnOk};
-ghost use Rattle.mt_defs.specs.Marks.{entry_bytes, entry_marks, marks_bytes};
+ghost use Rattle.std.specs.Prelude.{◌≡◌, ◌++◌, IfOk, OnOk};
+ghost use Rattle.mt_defs.specs.Marks.{entry_bytes, mark_bytes, marks_bytes};
+ghost use Rattle.mt_marks.specs.Entries.{AreMarks, entry_marks};
 
 use crate::marks::Marks;
 use mt_defs::Mark;
@@ -14,11 +15,8 @@ const ROWS_BYTES: usize = 8;
 
 /// The bytes of a marks file: for each number of rows its marks, and then the number.
 pub fn write_marks(alloc: Global, marks: &Marks) -> Result<List<u8>, NoMemory>
-    requires some { 1 ≤ marks.now.per_granule }
-    requires few { marks.now.per_granule ≤ 256 }
-    requires each { length marks.now.places ≡ marks.now.per_granule * length marks.now.rows }
-    ensures { IfOk result (λ bytes. bytes ≡
-        marks_bytes (entry_marks marks.now.per_granule marks.now.places marks.now.rows) marks.now.rows) }
+    requires { AreMarks marks.now }
+    ensures { IfOk result (λ bytes. bytes ≡ marks_bytes (entry_marks marks.now) marks.now.rows) }
 {
     let mut bytes = Vec::with_capacity(alloc, size_of_marks(marks))?;
     let mut rest = marks.places.as_slice();
@@ -40,9 +38,16 @@ fn append_entry(marks: &[Mark], rows: u64, out: &mut Vec<u8>) -> Result<(), NoMe
     ensures { OnOk result (out.new.items ≡ out.old.items ++ entry_bytes marks.now rows) }
 {
     for mark in marks {
-        out.extend_from_slice(&mark.offset.to_le_bytes())?;
-        out.extend_from_slice(&mark.inner.to_le_bytes())?;
+        append_mark(*mark, out)?;
     }
     out.extend_from_slice(&rows.to_le_bytes())?;
+    Ok(())
+}
+
+fn append_mark(mark: Mark, out: &mut Vec<u8>) -> Result<(), NoMemory>
+    ensures { OnOk result (out.new.items ≡ out.old.items ++ mark_bytes mark) }
+{
+    out.extend_from_slice(&mark.offset.to_le_bytes())?;
+    out.extend_from_slice(&mark.inner.to_le_bytes())?;
     Ok(())
 }
