@@ -1,0 +1,9 @@
+pub mod Steps
+pub mod Dates
+pub mod Texts
+pub mod Scalars
+pub mod Cells
+pub mod Nesting
+pub mod Arrays
+pub mod Fields
+pub mod Reading
