@@ -1,19 +1,18 @@
 -- A type's default is one of its values.
-use Rattle.std.proofs.Common.{◌≡◌, ℕ, ℤ, pos, Bool, true, List, [], refl, ap, ◌∙◌, sym}
-use Rattle.std.specs.Prelude.{replicate, length, ◌==◌, nat_le}
+use Rattle.std.proofs.Common.{◌≡◌, pos, Bool, true, [], refl, ap, ◌∙◌}
+use Rattle.std.specs.Prelude.{replicate, length}
 use Rattle.std.proofs.lemmas.Bool.{eq-eqb}
 use Rattle.std.proofs.lemmas.List.{length-replicate}
 use Rattle.mt_types.specs.declared.ty.Width.{Width}
 use Rattle.mt_types.specs.declared.ty.Width.TheVariants.{W8, W16, W32, W64}
-use Rattle.mt_types.specs.declared.ty.Agg.{Agg}
 use Rattle.mt_types.specs.declared.ty.Agg.TheVariants.{Sum, Min, Max}
 use Rattle.mt_types.specs.declared.ty.Ty.{Ty, map-Ty, out-Ty}
 use Rattle.mt_types.specs.declared.ty.Ty.TheOpen.{Ty-F}
 use Rattle.mt_types.specs.declared.ty.Ty.TheFolds.{fold_out-Ty}
-use Rattle.mt_types.specs.declared.value.Value.{Value, out-Value}
+use Rattle.mt_types.specs.declared.value.Value.{Value}
 use Rattle.mt_types.specs.declared.value.Value.TheVariants.{outs-Num, outs-Text, outs-Null, outs-List, outs-State}
 use Rattle.mt_types.specs.Defaults.{default_of, default_at}
-use Rattle.mt_types.specs.Fits.{fits_of, fits_step, bits, is_unsigned, is_signed, num_at}
+use Rattle.mt_types.specs.Fits.{fits_of, fits_step, bits, is_unsigned, is_signed}
 
 zero_unsigned : (w : Width) → is_unsigned (bits w) (pos 0) ≡ true
 zero_unsigned W8 = refl

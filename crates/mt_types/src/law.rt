@@ -1,6 +1,6 @@
 //! Laws of the order and of numbers, each the contract of a function that does nothing.
 
-ghost use Rattle.std.specs.Prelude.{◌≡◌, ◌++◌, ◌^◌, ◌<◌, ℕ, List, length, true};
+ghost use Rattle.std.specs.Prelude.{◌≡◌, ◌++◌, ◌^◌, ◌<◌, ℕ, List, length, true, Some};
 ghost use Rattle.std.specs.Cmp.{IsTotalOrder};
 ghost use Rattle.std.specs.declared.cmp.Ordering.TheVariants.{Equal};
 ghost use Rattle.mt_types.specs.declared.ty.Ty.{Ty};
@@ -10,7 +10,10 @@ ghost use Rattle.mt_types.specs.declared.varint.VarInt.TheVariants.{Got};
 ghost use Rattle.mt_types.specs.Defaults.{default_of};
 ghost use Rattle.mt_types.specs.Fits.{fits_of};
 ghost use Rattle.mt_types.specs.Leb128.{leb128, Reads};
+ghost use Rattle.mt_types.specs.NameReading.{type_named};
+ghost use Rattle.mt_types.specs.Names.{type_name};
 ghost use Rattle.mt_types.specs.Order.{value_cmp, values_cmp};
+ghost use Rattle.mt_types.specs.Profile.{is_profile};
 
 /// The order on values is total: antisymmetric and transitive, and tied values compare alike.
 pub fn values_are_totally_ordered()
@@ -46,4 +49,21 @@ pub fn numbers_have_one_encoding()
 pub fn written_numbers_are_read()
     ensures { (outcome : VarInt) (n : ℕ) (rest : List ℕ) → n < 2 ^ 64
         → Reads outcome (leb128 n ++ rest) → outcome ≡ Got n (length (leb128 n)) }
+{}
+
+/// What a name is read as, where it names a type of the profile (`Ty::read_name`).
+pub fn names_are_read()
+    ensures { (t : Ty) → is_profile t ≡ true → type_named (type_name t) ≡ Some t }
+{}
+
+/// Only names are read, each as the type of the profile that has it.
+pub fn only_names_are_read()
+    ensures { (text : List ℕ) (t : Ty) → type_named text ≡ Some t
+        → (is_profile t ≡ true) × (type_name t ≡ text) }
+{}
+
+/// So no two types of the profile have one name.
+pub fn types_have_their_own_names()
+    ensures { (s t : Ty) → is_profile s ≡ true → is_profile t ≡ true
+        → type_name s ≡ type_name t → s ≡ t }
 {}
