@@ -1,0 +1,6 @@
+pub mod Prefixes
+pub mod Parts
+pub mod DigitRuns
+pub mod Days
+pub mod Escapes
+pub mod Lines
