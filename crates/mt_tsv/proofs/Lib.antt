@@ -4,3 +4,5 @@ pub mod DigitRuns
 pub mod Days
 pub mod Escapes
 pub mod Lines
+pub mod Elements
+pub mod Items

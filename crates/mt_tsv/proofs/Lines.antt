@@ -1,5 +1,5 @@
 -- Fields and lines, one after the other.
-use Rattle.std.proofs.Common.{◌≡◌, ℕ, suc, ◌+◌, ◌<◌, ◌≤◌, Bool, true, false, cond, ltb, eqb, List, [], ◌∷◌, ◌++◌, length, get_or, drop, drop-cons, Option, Some, None, Result, Ok, Err, refl, sym, ap, ◌∙◌, arith}
+use Rattle.std.proofs.Common.{◌≡◌, ℕ, suc, ◌+◌, ◌<◌, ◌≤◌, Bool, true, false, cond, ltb, eqb, List, [], ◌∷◌, ◌++◌, length, get_or, drop, drop-cons, Some, None, Result, Ok, Err, refl, sym, ap, ◌∙◌, arith}
 use Rattle.std.specs.List.{slice_split}
 use Rattle.std.proofs.lemmas.Bool.{eq-eqb, ne_eqb, lt-ltb, le-ltb}
 use Rattle.std.proofs.lemmas.List.{append-nil}
@@ -86,7 +86,7 @@ rows_cut prefix columns before room texts line whole e z h =
 
 pub rows_step : (columns : List Column) (before room : ℕ) (texts : List (List ℕ)) (line : List ℕ) (after : List ℕ) (p : ℕ → Bool) → texts ≡ line ∷ slice_split p after
     → rows_of columns before room texts ≡ (at (before + 1) (row_of columns line) >>= λ values. unless_bad (ltb before MAX_ROWS) row.Rows
-      (with_room (room_after (cells_of values) room) λ left. onto values (rows_of columns (before + 1) left (slice_split p after))))
+    (with_room (room_after (cells_of values) room) λ left. onto values (rows_of columns (before + 1) left (slice_split p after))))
 unfolding rows_of
 rows_step columns before room texts line after p e =
     let s = split_cons p after in

@@ -5,7 +5,6 @@ use Rattle.jiff_core.specs.Calendar.{days_in_month, days_from_civil}
 use Rattle.mt_tsv.specs.declared.ascii.TheConstants.{MINUS}
 
 infixl 10 ◌>>=◌
-
 -- the next step, if there is a value
 abbrev ◌>>=◌ : {A B : Type 0} → Option A → (A → Option B) → Option B
 o >>= f = option_and_then f o

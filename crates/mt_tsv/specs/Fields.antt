@@ -6,8 +6,9 @@ use Rattle.mt_types.specs.declared.value.Value.{Value}
 use Rattle.mt_types.specs.declared.value.Value.TheVariants.{Null as NullValue}
 use Rattle.mt_tsv.specs.declared.ascii.TheConstants.{BACKSLASH}
 use Rattle.mt_tsv.specs.declared.fault.RowWhy.{RowWhy}
-use Rattle.mt_tsv.specs.declared.fault.RowWhy.TheVariants.{Null, List as BadList}
+use Rattle.mt_tsv.specs.declared.fault.RowWhy.TheVariants.{Null}
 use Rattle.mt_tsv.specs.Scalars.{scalar_at, scalar_of}
+use Rattle.mt_tsv.specs.Arrays.{array_of, element_of}
 
 -- \N, which is NULL
 abbrev pub is_null : List ℕ → Bool
@@ -20,7 +21,7 @@ unless_null field reading = if is_null field then Err Null else reading
 
 abbrev pub field_at : Ty-F Ty → List ℕ → Result Value RowWhy
 field_at (Ty-F.Nullable inner) field = if is_null field then Ok NullValue else scalar_of inner field
-field_at (Ty-F.Array inner) field = Err BadList
+field_at (Ty-F.Array inner) field = array_of (element_of inner) field
 field_at ty field = unless_null field (scalar_at ty field)
 
 -- the value of a field of a column of this type

@@ -3,5 +3,7 @@ pub mod Dates
 pub mod Texts
 pub mod Scalars
 pub mod Cells
+pub mod Nesting
+pub mod Arrays
 pub mod Fields
 pub mod Reading

@@ -61,7 +61,7 @@ rows_of columns before room (rest ∷ []) = unless_bad (length rest == 0) (row.A
 rows_of columns before room (line ∷ next ∷ more) = do
   values ← at (before + 1) (row_of columns line)
   unless_bad (nat_lt before MAX_ROWS) row.Rows
-    (with_room (room_after (cells_of values) room) λ left. onto values (rows_of columns (before + 1) left (next ∷ more)))
+      (with_room (room_after (cells_of values) room) λ left. onto values (rows_of columns (before + 1) left (next ∷ more)))
 
 -- the rows of a text
 unfoldable pub rows_reading : List Column → List ℕ → Result (List (List Value)) RowError

@@ -19,7 +19,7 @@ use Rattle.mt_tsv.specs.Texts.{bounded_text, padded_text}
 unfoldable pub magnitude_of : List ℕ → Result ℕ RowWhy
 magnitude_of text =
     unless_bad (nat_lt 0 (length text) && all_ascii_digits text) Number
-      (unless_bad (nat_lt (digits_value 10 text) (2 ^ 64)) Range (Ok (digits_value 10 text)))
+    (unless_bad (nat_lt (digits_value 10 text) (2 ^ 64)) Range (Ok (digits_value 10 text)))
 
 -- an integer: digits, or a minus and digits
 unfoldable pub integer_of : List ℕ → Result ℤ RowWhy

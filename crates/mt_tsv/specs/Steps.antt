@@ -1,5 +1,5 @@
 -- Readings that may fail, step by step, and what code returns of them.
-use Rattle.std.specs.Prelude.{◌≡◌, List, [], ◌∷◌, Result, Ok, Err, Bool, if◌then◌else◌}
+use Rattle.std.specs.Prelude.{◌≡◌, List, ◌∷◌, Result, Ok, Err, Bool, if◌then◌else◌}
 use Rattle.mt_tsv.specs.declared.fault.RowWhy.{RowWhy}
 use Rattle.mt_tsv.specs.declared.fault.FieldError.{FieldError}
 use Rattle.mt_tsv.specs.declared.fault.FieldError.TheVariants as field
@@ -7,7 +7,6 @@ use Rattle.mt_tsv.specs.declared.fault.RowError.{RowError}
 use Rattle.mt_tsv.specs.declared.fault.RowError.TheVariants as row
 
 infixl 10 ◌>>=◌
-
 -- the next step, if this one has a value
 abbrev pub ◌>>=◌ : {A B E : Type 0} → Result A E → (A → Result B E) → Result B E
 (Ok x) >>= f = f x

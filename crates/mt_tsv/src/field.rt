@@ -4,6 +4,7 @@ ghost use Rattle.std.specs.Prelude.{◌≡◌};
 ghost use Rattle.mt_tsv.specs.Steps.{Gives};
 ghost use Rattle.mt_tsv.specs.Fields.{is_null, field_of};
 
+use crate::array::read_array;
 use crate::fault::{FieldError, RowWhy};
 use crate::scalar::read_scalar;
 use mt_types::{Ty, Value};
@@ -27,7 +28,7 @@ pub fn read_field(alloc: Global, ty: &Ty, field: &[u8]) -> Result<Value, FieldEr
             }
             read_scalar(alloc, inner.get(), field)
         }
-        Ty::Array(_) => Err(FieldError::Bad(RowWhy::List)),
+        Ty::Array(inner) => read_array(alloc, inner.get(), field),
         _ => {
             if is_null(field) {
                 return Err(FieldError::Bad(RowWhy::Null));

@@ -3,14 +3,17 @@
 //! `read_rows` gives exactly the rows of a text, or the first line that is none with its first why.
 #![tactic(auto)]
 
+mod array;
 mod ascii;
 mod cells;
 mod date;
 mod digits;
 mod fault;
 mod field;
+mod level;
 mod limits;
 mod line;
+mod nesting;
 mod number;
 mod rows;
 mod scalar;

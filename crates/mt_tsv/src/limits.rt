@@ -9,3 +9,6 @@ pub const MAX_CELLS: usize = 16_777_216;
 
 /// The most bytes of a `String`.
 pub const MAX_TEXT: usize = 16_777_216;
+
+/// The most elements of one array.
+pub const MAX_ITEMS: usize = 1_048_576;

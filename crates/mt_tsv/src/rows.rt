@@ -43,7 +43,10 @@ pub fn read_rows(alloc: Global, table: &Table, text: &[u8]) -> Result<List<Row>,
                 return Ok(rows);
             }
             let why = RowWhy::NoLineEnd;
-            return Err(RowError::At { line: line_number, why });
+            return Err(RowError::At {
+                line: line_number,
+                why,
+            });
         };
         let row = match read_row(alloc, columns, line) {
             Ok(row) => row,

@@ -1,4 +1,4 @@
-use Rattle.std.proofs.Common.{◌≡◌, ◌∷◌, ◌++◌, [], length, drop, ap, sym, ◌∙◌, arith, refl}
+use Rattle.std.proofs.Common.{length, drop, ap, ◌∙◌, arith, refl}
 use Rattle.std.specs.Option.{option_copied}
 use Rattle.std.specs.Prelude.{◌==◌}
 use Rattle.std.proofs.lemmas.List.{drop_all}
