@@ -23,8 +23,7 @@ fn at_line(line: u64, error: FieldError) -> RowError
     }
 }
 
-/// The rows of a text (docs/FORMAT.md, "Lines of tab separated values"; ClickHouse: `TabSeparated`,
-/// with fewer escapes).
+/// The rows of a text (docs/LANGUAGE.md, "Lines"; ClickHouse: `TabSeparated`, with fewer escapes).
 ///
 /// Whichever line is out of form or passes a limit first decides; of one line its form comes before
 /// `Rows`, and `Rows` before `Cells`.
