@@ -6,6 +6,6 @@ pub mod Escapes
 pub mod Lines
 pub mod Elements
 pub mod Items
-pub mod RowLimits
-pub mod FieldFits
-pub mod RowsFit
+pub mod Joins
+pub mod Casts
+pub mod Walk

@@ -5,5 +5,6 @@ pub mod Scalars
 pub mod Cells
 pub mod Nesting
 pub mod Arrays
+pub mod Printing
 pub mod Fields
 pub mod Reading

@@ -7,7 +7,9 @@ mod array;
 mod ascii;
 mod cells;
 mod date;
+mod day;
 mod digits;
+mod escape;
 mod fault;
 mod field;
 mod level;
@@ -15,11 +17,16 @@ mod limits;
 mod line;
 mod nesting;
 mod number;
+mod print;
 mod rows;
 mod scalar;
 mod split;
+#[cfg(test)]
+mod tests;
 mod text;
+mod writing;
 
 pub use fault::{RowError, RowWhy};
 pub use limits::{MAX_CELLS, MAX_ROWS};
 pub use rows::read_rows;
+pub use writing::write_row;
