@@ -1,0 +1,15 @@
+//! The writer: rows in key order, and the one folder that stands for them.
+//!
+//! `sort_rows` gives the one stable order of rows, and `build` exactly the files of the writer's folder.
+#![tactic(auto)]
+
+
+
+
+mod items;
+mod names;
+mod sorting;
+
+
+
+pub use sorting::sort_rows;
