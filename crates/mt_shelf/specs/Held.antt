@@ -4,7 +4,7 @@ use Rattle.std.specs.Option.{option_map}
 use Rattle.std.specs.List.{list_all, filter_map}
 use Rattle.std.specs.Ordering.{nat_cmp}
 use Rattle.std.specs.Cmp.Lexicographic.{slice_cmp}
-use Rattle.std.specs.FinMap.{get, from_entries, insert}
+use Rattle.std.specs.FinMap.{get, from_entries, insert, len}
 use Rattle.std.specs.Str.{IsUtf8}
 use Rattle.mt_shelf.specs.Paths.{name_below, is_relative}
 use Rattle.mt_shelf.specs.Files.{Files, Draft, is_file_path}
@@ -26,6 +26,10 @@ names_in held = map (λ file. file.name) held
 -- each has a path
 abbrev pub all_paths : List FileBytes → Bool
 all_paths held = list_all is_file_path (names_in held)
+
+-- no two have the same name
+abbrev pub AllDiffer : List FileBytes → Type 0
+AllDiffer held = len (files_in held) ≡ length held
 
 abbrev pub put_of : List ℕ → FileBytes → Option (List ℕ × List ℕ)
 put_of target file = option_map (λ name. (name, file.bytes)) (name_below target file.name)

@@ -5,7 +5,7 @@ ghost use Rattle.std.specs.List.{list_any};
 ghost use Rattle.std.specs.FinMap.{get, insert};
 ghost use Rattle.mt_shelf.specs.Paths.{is_at_or_below};
 ghost use Rattle.mt_shelf.specs.Files.{is_file_path, stands};
-ghost use Rattle.mt_shelf.specs.Held.{files_in, all_paths, with_files, IsFirst};
+ghost use Rattle.mt_shelf.specs.Held.{files_in, all_paths, AllDiffer, with_files, IsFirst};
 
 use crate::FileBytes;
 use crate::paths::is_at_or_below;
@@ -33,6 +33,7 @@ pub fn set_file(held: &mut Vec<FileBytes>, file: FileBytes) -> Result<(), NoMemo
     ensures len { vec_len held.new ≤ vec_len held.old + 1 }
     ensures capacity { vec_capacity held.old ≤ vec_capacity held.new }
     ensures paths { all_paths held.old.items ≡ true → is_file_path file.name ≡ true → all_paths held.new.items ≡ true }
+    ensures names { AllDiffer held.old.items → AllDiffer held.new.items }
 {
     match position_of(held, file.name.as_slice()) {
         Some(i) => {
@@ -51,9 +52,11 @@ pub fn set_file(held: &mut Vec<FileBytes>, file: FileBytes) -> Result<(), NoMemo
 pub fn set_files(held: &mut Vec<FileBytes>, draft: &mut Vec<FileBytes>)
     requires room { vec_len held.old + vec_len draft.old ≤ vec_capacity held.old }
     requires paths { all_paths held.old.items ≡ true }
+    requires names { AllDiffer held.old.items }
     requires draft_paths { all_paths draft.old.items ≡ true }
     ensures files { files_in held.new.items ≡ with_files draft.old.items (files_in held.old.items) }
     ensures paths { all_paths held.new.items ≡ true }
+    ensures names { AllDiffer held.new.items }
     ensures emptied { draft.new.items ≡ [] }
 {
     while !draft.is_empty() {
