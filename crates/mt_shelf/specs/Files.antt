@@ -42,6 +42,10 @@ listing_of (entry ∷ more) = Some (entry ∷ more)
 abbrev pub is_file_path : List ℕ → Bool
 is_file_path path = is_utf8 path && is_path path
 
+-- a name below a folder, in UTF-8
+abbrev pub is_file_name : List ℕ → Bool
+is_file_name name = is_utf8 name && is_relative name
+
 abbrev pub HasPaths : Files → Type 0
 HasPaths files = IsTrue (list_all is_file_path (keys files))
 
@@ -52,7 +56,7 @@ is_before entry (first ∷ more) = is_lt (slice_cmp nat_cmp entry.name first.nam
 
 -- names in UTF-8, that differ and rise
 pub record IsListing (listing : List Entry) : Type 0 where
-  pub names : IsTrue (list_all (λ e. is_utf8 e.name && is_relative e.name) listing)
+  pub names : IsTrue (list_all (λ e. is_file_name e.name) listing)
   pub rising : IsTrue (is_sorted (slice_cmp nat_cmp) (map (λ e. (e.name, e.size)) listing))
 
 -- the path is a file's, and the place is inside it

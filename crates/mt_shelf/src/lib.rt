@@ -46,4 +46,4 @@ pub use source::{MemSource, SureSource};
 pub use std_streams::{StdSink, StdSource};
 pub use stream::{Sink, Source};
 pub use sure_shelf::SureShelf;
-pub use writing::{store, write_all};
+pub use writing::{have_names, store, write_all};

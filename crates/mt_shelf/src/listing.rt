@@ -1,15 +1,14 @@
 //! The files below a folder, read without recursion.
-ghost use Rattle.std.specs.Prelude.{◌≡◌, ◌≤◌, ◌+◌, ◌&&◌, IfOk, IsTrue, true, map, length, drop, vec_len};
+ghost use Rattle.std.specs.Prelude.{◌≡◌, ◌≤◌, ◌+◌, IfOk, IsTrue, true, map, length, drop, vec_len};
 ghost use Rattle.std.specs.List.{list_all};
-ghost use Rattle.std.specs.Str.{is_utf8};
 ghost use Rattle.std.specs.Ordering.{nat_cmp};
 ghost use Rattle.std.specs.Cmp.Lexicographic.{slice_cmp};
 ghost use Rattle.std.specs.FinMap.{is_sorted};
-ghost use Rattle.mt_shelf.specs.Files.{IsListing, is_before};
-ghost use Rattle.mt_shelf.specs.Paths.{is_relative};
+ghost use Rattle.mt_shelf.specs.Files.{IsListing, is_before, is_file_name};
 
 use crate::draft::{is_draft_name, path_of};
-use crate::{Entry, is_relative};
+use crate::Entry;
+use crate::paths::is_file_name;
 use mt_types::List;
 use std::alloc::Global;
 use std::cmp::Ordering;
@@ -155,18 +154,9 @@ fn is_listing(entries: &[Entry]) -> bool
 }
 
 fn are_names(entries: &[Entry]) -> bool
-    ensures { result ≡ list_all (λ e. is_utf8 e.name && is_relative e.name) entries.now }
+    ensures { result ≡ list_all (λ e. is_file_name e.name) entries.now }
 {
-    entries.iter().all(|entry| is_text_name(entry.name.as_slice()))
-}
-
-fn is_text_name(name: &[u8]) -> bool
-    ensures { result ≡ (is_utf8 name.now && is_relative name.now) }
-{
-    match str::from_utf8(name) {
-        Ok(_) => is_relative(name),
-        Err(_) => false,
-    }
+    entries.iter().all(|entry| is_file_name(entry.name.as_slice()))
 }
 
 fn is_rising(entries: &[Entry]) -> bool

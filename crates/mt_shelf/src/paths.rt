@@ -1,6 +1,7 @@
 //! The form of paths, and which paths lie below a folder.
 ghost use Rattle.std.specs.Prelude.{◌≡◌, IfOk};
 ghost use Rattle.std.specs.Option.{option_copied};
+ghost use Rattle.mt_shelf.specs.Files.{is_file_name};
 ghost use Rattle.mt_shelf.specs.Paths.{is_name, is_relative, is_path, is_dots, has_no_zero, name_below, is_at_or_below, joined_path};
 
 use crate::bytes::{rest_from, subslice};
@@ -43,6 +44,16 @@ pub fn is_relative(path: &[u8]) -> bool
         }
     }
     is_name(subslice(path, 0, end)) & rest_good
+}
+
+/// Whether the bytes are such names, in UTF-8.
+pub fn is_file_name(name: &[u8]) -> bool
+    ensures { result ≡ is_file_name name.now }
+{
+    match str::from_utf8(name) {
+        Ok(_) => is_relative(name),
+        Err(_) => false,
+    }
 }
 
 /// Whether the text is a path: names parted by `/`, behind a `/` or none.

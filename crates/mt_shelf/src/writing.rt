@@ -1,16 +1,18 @@
 //! Writing whole: bytes into a sink, and files onto a shelf.
 ghost use Rattle.std.specs.Prelude.{◌≡◌, ◌<◌, ◌≤◌, ◌⊎◌, length, map, OnOk, OnErr, IsErrOf, IsTrue, true, All};
 ghost use Rattle.std.specs.Option.{option_map};
+ghost use Rattle.std.specs.List.{list_all};
 ghost use Rattle.std.specs.Str.{IsUtf8};
 ghost use Rattle.std.specs.Io.KnownBytes.{append_known};
 ghost use Rattle.mt_shelf.specs.Causes.{HasCause};
 ghost use Rattle.mt_shelf.specs.Paths.{is_path, is_relative};
-ghost use Rattle.mt_shelf.specs.Files.{gained_files};
+ghost use Rattle.mt_shelf.specs.Files.{gained_files, is_file_name};
 ghost use Rattle.mt_shelf.specs.State.{files_of, after_put, after_puts, Drops, Stores};
 ghost use Rattle.mt_shelf.specs.Held.{pair_of, HasName};
 ghost use Rattle.mt_shelf.specs.Streams.{GrowsByPrefix};
 
 use crate::bytes::rest_from;
+use crate::paths::is_file_name;
 use crate::{CallError, FileBytes, Shelf, Sink};
 
 /// Writes all bytes.
@@ -51,6 +53,19 @@ fn put_all<F: Shelf>(shelf: &mut F, files: &[FileBytes]) -> Result<(), CallError
         put_file(shelf, file)?;
     }
     Ok(())
+}
+
+/// Whether the files' names are ones that `store` takes.
+pub fn have_names(files: &[FileBytes]) -> bool
+    ensures { result ≡ true → All HasName files.now }
+{
+    all_file_names(files)
+}
+
+fn all_file_names(files: &[FileBytes]) -> bool
+    ensures { result ≡ list_all (λ file. is_file_name file.name) files.now }
+{
+    files.iter().all(|file| is_file_name(file.name.as_slice()))
 }
 
 /// Publishes files below a part in one step.

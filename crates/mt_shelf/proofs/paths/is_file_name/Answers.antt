@@ -2,7 +2,7 @@ use Rattle.std.proofs.Common.{◌≡◌, refl, sym, ◌∙◌, ap, Bool, true, f
 use Rattle.std.specs.Str.{is_utf8, IsUtf8}
 use Rattle.std.proofs.lemmas.Str.{is_utf8-from_IsUtf8, IsUtf8-from_is_utf8}
 use Rattle.mt_shelf.specs.Paths.{is_relative}
-use Rattle.mt_shelf.proofs.listing.is_text_name.Goals as goal
+use Rattle.mt_shelf.proofs.paths.is_file_name.Goals as goal
 
 no_text : (name : List ℕ) → (IsUtf8 name → ⊥) → (x : Bool) → false ≡ (is_utf8 name && x)
 no_text name none x = by_test (is_utf8 name) refl
