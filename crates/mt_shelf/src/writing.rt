@@ -46,7 +46,7 @@ fn put_all<F: Shelf>(shelf: &mut F, files: &[FileBytes]) -> Result<(), CallError
     requires names { All HasName files.now }
     requires begun { (F.state shelf.old).begun ≡ true }
     ensures ok { OnOk result (F.state shelf.new ≡ after_puts (map pair_of files.now) (F.state shelf.old)) }
-    ensures err { OnErr result (files_of (F.state shelf.new) ≡ files_of (F.state shelf.old)) }
+    ensures err { OnErr result (Drops (F.state shelf.old) (F.state shelf.new)) }
     ensures cause { HasCause (F.faults shelf.old) (F.faults shelf.new) result }
 {
     for file in files {
