@@ -238,8 +238,8 @@ widened k q less [] all = tt
 widened k q less (e ∷ es) all =
     let later : slice_cmp nat_cmp q e.0 ≡ Less = is_less (slice_cmp nat_cmp q e.0) (first (is_lt (slice_cmp nat_cmp q e.0)) (below_all (slice_cmp nat_cmp) q es) all) in
     both (is_lt (slice_cmp nat_cmp k e.0)) (below_all (slice_cmp nat_cmp) k es)
-      (less_is (slice_cmp nat_cmp k e.0) (le_lt_trans nat_list_cmp_total k q e.0 (ap is_le less) later))
-      (widened k q less es (second (is_lt (slice_cmp nat_cmp q e.0)) (below_all (slice_cmp nat_cmp) q es) all))
+    (less_is (slice_cmp nat_cmp k e.0) (le_lt_trans nat_list_cmp_total k q e.0 (ap is_le less) later))
+    (widened k q less es (second (is_lt (slice_cmp nat_cmp q e.0)) (below_all (slice_cmp nat_cmp) q es) all))
 
 -- a lesser name in front of names that rise
 rising_cons : (e : Entry) (es : List Entry) → is_before e es ≡ true → is_sorted (slice_cmp nat_cmp) (map keyed es) ≡ true → is_sorted (slice_cmp nat_cmp) (map keyed (e ∷ es)) ≡ true
@@ -249,8 +249,8 @@ rising_cons e (f ∷ es) less rising =
     let sorted : T (below_all (slice_cmp nat_cmp) f.name (map keyed es) && is_sorted (slice_cmp nat_cmp) (map keyed es)) = T_from_true _ rising in
     let all : T (below_all (slice_cmp nat_cmp) f.name (map keyed es)) = first (below_all (slice_cmp nat_cmp) f.name (map keyed es)) (is_sorted (slice_cmp nat_cmp) (map keyed es)) sorted in
     true_from_T _ (both (below_all (slice_cmp nat_cmp) e.name (map keyed (f ∷ es))) (is_sorted (slice_cmp nat_cmp) (map keyed (f ∷ es)))
-      (both (is_lt (slice_cmp nat_cmp e.name f.name)) (below_all (slice_cmp nat_cmp) e.name (map keyed es)) lt (widened e.name f.name (is_less (slice_cmp nat_cmp e.name f.name) lt) (map keyed es) all))
-      sorted)
+    (both (is_lt (slice_cmp nat_cmp e.name f.name)) (below_all (slice_cmp nat_cmp) e.name (map keyed es)) lt (widened e.name f.name (is_less (slice_cmp nat_cmp e.name f.name) lt) (map keyed es) all))
+    sorted)
 
 -- one entry more, by its index
 pub rising_from : (entries : List Entry) (i j : ℕ) (e : Entry) → i ≡ suc j → j < length entries → e ≡ get_or entries j e → is_before e (drop i entries) ≡ true

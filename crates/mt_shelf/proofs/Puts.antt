@@ -166,7 +166,7 @@ puts_either false target draft now file is good one = ap (list_all (is_put targe
 has_name : (file : FileBytes) → is_file_name file.name ≡ true → HasName file
 has_name file good = record {
   utf8 = IsUtf8-from_is_utf8 file.name (first_true (is_utf8 file.name) (is_relative file.name) good);
-  form = second_true (is_utf8 file.name) (is_relative file.name) good
+  form = second_true (is_utf8 file.name) (is_relative file.name) good;
 }
 
 -- the test of names

@@ -11,7 +11,7 @@ use crate::FileBytes;
 use crate::paths::is_at_or_below;
 use mt_types::NoMemory;
 
-/// Where the first file of a path stands.
+/// The index of the first file of a path.
 pub fn position_of(held: &[FileBytes], path: &[u8]) -> Option<usize>
     ensures first { MatchOption result (get (files_in held.now) path.now ≡ None) (IsFirst held.now path.now) }
     ensures inside { IfSome result (λ i. i < length held.now) }
@@ -25,7 +25,7 @@ pub fn position_of(held: &[FileBytes], path: &[u8]) -> Option<usize>
     None
 }
 
-/// Puts a file in the place of the one of its path, or at the end.
+/// Puts a file in place of the one of its path, or at the end.
 pub fn set_file(held: &mut Vec<FileBytes>, file: FileBytes) -> Result<(), NoMemory>
     ensures files { OnOk result (files_in held.new.items ≡ insert (files_in held.old.items) file.name file.bytes) }
     ensures err { OnErr result (held.new.items ≡ held.old.items) }
@@ -48,7 +48,7 @@ pub fn set_file(held: &mut Vec<FileBytes>, file: FileBytes) -> Result<(), NoMemo
     }
 }
 
-/// Puts each file of a draft in its place, in order. There is room for all.
+/// Puts each file of a draft so, in order. There is room for all, so that all or none are put.
 pub fn set_files(held: &mut Vec<FileBytes>, draft: &mut Vec<FileBytes>)
     requires room { vec_len held.old + vec_len draft.old ≤ vec_capacity held.old }
     requires paths { all_paths held.old.items ≡ true }

@@ -6,8 +6,8 @@ ghost use Rattle.std.specs.Cmp.Lexicographic.{slice_cmp};
 ghost use Rattle.std.specs.FinMap.{is_sorted};
 ghost use Rattle.mt_shelf.specs.Files.{IsListing, is_before, is_file_name};
 
-use crate::draft::{is_draft_name, path_of};
 use crate::Entry;
+use crate::draft::{is_draft_name, path_of};
 use crate::paths::is_file_name;
 use mt_types::List;
 use std::alloc::Global;
@@ -41,7 +41,10 @@ struct Walk {
 }
 
 /// The files below a part in byte order. A path that is no folder has none.
-pub fn list_folder<R: Files + AllocGlobal + Clone + Drop>(rt: &R, part: &str) -> io::Result<Vec<Entry>>
+pub fn list_folder<R: Files + AllocGlobal + Clone + Drop>(
+    rt: &R,
+    part: &str,
+) -> io::Result<Vec<Entry>>
     ensures { IfOk result (λ entries. IsListing entries.items) }
 {
     let mut walk = Walk::of(rt, part)?;
@@ -88,7 +91,11 @@ impl Walk {
         })
     }
 
-    fn read_folder<R: Files + AllocGlobal + Clone + Drop>(&mut self, rt: &R, folder: &Folder) -> io::Result<()>
+    fn read_folder<R: Files + AllocGlobal + Clone + Drop>(
+        &mut self,
+        rt: &R,
+        folder: &Folder,
+    ) -> io::Result<()>
         ensures { vec_len self.new.folders + self.new.names ≤ vec_len self.old.folders + self.old.names }
     {
         for found in fs::read_dir(rt, folder.path.as_str())? {
@@ -156,7 +163,9 @@ fn is_listing(entries: &[Entry]) -> bool
 fn are_names(entries: &[Entry]) -> bool
     ensures { result ≡ list_all (λ e. is_file_name e.name) entries.now }
 {
-    entries.iter().all(|entry| is_file_name(entry.name.as_slice()))
+    entries
+        .iter()
+        .all(|entry| is_file_name(entry.name.as_slice()))
 }
 
 fn is_rising(entries: &[Entry]) -> bool

@@ -8,7 +8,7 @@ use crate::{CallError, Entry, FileBytes, Shelf, SureShelf};
 use mt_types::List;
 use std::alloc::Global;
 
-/// Files in memory, with calls that fail.
+/// Files in memory, where the calls fail that are to.
 #[derive(Drop)]
 pub struct MemShelf {
     shelf: SureShelf,

@@ -35,7 +35,12 @@ pub fn read_all<S: Source>(alloc: Global, source: &mut S, limit: usize) -> Resul
 }
 
 // Reads by way of a buffer.
-fn read_to_end<S: Source>(alloc: Global, source: &mut S, buffer: &mut [u8], limit: usize) -> Result<Input, CallError>
+fn read_to_end<S: Source>(
+    alloc: Global,
+    source: &mut S,
+    buffer: &mut [u8],
+    limit: usize,
+) -> Result<Input, CallError>
     requires room { 0 < length buffer.old }
     requires limit { limit < 2 ^ 62 }
     ensures input { IfOk result (IsInput limit (S.left source.old) (S.left source.new)) }
@@ -52,7 +57,7 @@ fn read_to_end<S: Source>(alloc: Global, source: &mut S, buffer: &mut [u8], limi
     Ok(Input::TooLong)
 }
 
-/// Reads a whole file of a known size.
+/// Reads a whole file of a known size, however little each read gives.
 pub fn read_file<F: Shelf>(
     alloc: Global,
     shelf: &mut F,
@@ -72,7 +77,7 @@ pub fn read_file<F: Shelf>(
     Ok(List::of(bytes))
 }
 
-// Fills the bytes with those of a file.
+// Fills a buffer of a file's size with the file.
 fn fill_from<F: Shelf>(shelf: &mut F, path: &str, bytes: &mut [u8]) -> Result<(), CallError>
     requires path { IsTrue (is_path path.now) }
     requires size { IfSome (files_of (F.state shelf.old)) (λ files. option_map length (get files path.now) ≡ Some (length bytes.old)) }
@@ -89,7 +94,7 @@ fn fill_from<F: Shelf>(shelf: &mut F, path: &str, bytes: &mut [u8]) -> Result<()
     Ok(())
 }
 
-// Reads once, into the place of the file's own bytes.
+// Reads once, from an offset of the file to the same of the buffer.
 fn read_into<F: Shelf>(
     shelf: &mut F,
     path: &str,

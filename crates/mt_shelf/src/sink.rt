@@ -48,7 +48,7 @@ impl Sink for SureSink {
     }
 }
 
-/// Bytes in memory, with calls that fail.
+/// Bytes in memory, where the calls fail that are to.
 #[derive(Drop)]
 pub struct MemSink {
     sink: SureSink,

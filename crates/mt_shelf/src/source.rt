@@ -63,7 +63,7 @@ impl Source for SureSource {
     }
 }
 
-/// Bytes in memory, with calls that fail.
+/// Bytes in memory, where the calls fail that are to.
 #[derive(Drop)]
 pub struct MemSource {
     source: SureSource,

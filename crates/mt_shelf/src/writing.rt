@@ -15,7 +15,7 @@ use crate::bytes::rest_from;
 use crate::paths::is_file_name;
 use crate::{CallError, FileBytes, Shelf, Sink};
 
-/// Writes all bytes.
+/// Writes all bytes. After an error the first of them are written.
 pub fn write_all<K: Sink>(sink: &mut K, bytes: &[u8]) -> Result<(), CallError>
     ensures ok { OnOk result (K.written sink.new ≡ append_known (K.written sink.old) bytes.now) }
     ensures err { OnErr result (GrowsByPrefix bytes.now (K.written sink.old) (K.written sink.new)) }
@@ -68,7 +68,7 @@ fn all_file_names(files: &[FileBytes]) -> bool
     files.iter().all(|file| is_file_name(file.name.as_slice()))
 }
 
-/// Publishes files below a part in one step.
+/// Publishes files below a part in one step. After `Failed` they may stand, after `NoMemory` not.
 pub fn store<F: Shelf>(shelf: &mut F, part: &str, files: &[FileBytes]) -> Result<(), CallError>
     requires part { IsTrue (is_path part.now) }
     requires names { All HasName files.now }

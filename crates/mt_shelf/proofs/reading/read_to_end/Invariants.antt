@@ -6,7 +6,7 @@ abbrev pub invariant-loop-source : goal.invariant-loop-source
 invariant-loop-source g l = record {
   left : g.S.Source.left l.fn.source ≡ prepend_known l.text.items (g.S.Source.left l.source);
   faults : g.S.Source.faults l.source ≡ g.S.Source.faults l.fn.source;
-  room : 0 < length l.buffer
+  room : 0 < length l.buffer;
 }
 
 abbrev pub decreases-loop-source : goal.decreases-loop-source
