@@ -6,7 +6,7 @@ use Rattle.std.proofs.lemmas.List.{take_all}
 use Rattle.std.proofs.Math.Dec.{T}
 use Rattle.std.specs.Cmp.{tied_itself, nat_cmp_total}
 use Rattle.std.specs.Option.{option_map}
-use Rattle.std.specs.FinMap.Entries.{below_all, is_sorted-put}
+use Rattle.std.specs.FinMap.Entries.{below_all}
 use Rattle.std.proofs.lemmas.Option.{slice_get_read}
 use Rattle.std.proofs.lemmas.Cmp.{nat_list_cmp_total}
 use Rattle.std.proofs.lemmas.Map.Lookups.{exact_bytes}
@@ -14,7 +14,6 @@ use Rattle.std.specs.FinMap.{put, is_sorted, entries, entries-insert, entries_so
 use Rattle.std.specs.BTreeMap.Comparable.{le_lt_trans}
 use Rattle.mt_shelf.specs.Paths.{joined_path, name_below, is_path, is_relative}
 use Rattle.std.specs.Str.{is_utf8, IsUtf8}
-use Rattle.std.proofs.lemmas.Str.{is_utf8-from_IsUtf8}
 use Rattle.mt_shelf.specs.Files.{Files, entry_of, entries_below, is_file_path, HasPaths, IsListing, is_before}
 use Rattle.mt_shelf.proofs.Puts.{joined_below, first_true, second_true, both_true, good_name_below}
 use Rattle.mt_shelf.specs.KeptPaths.{entries-empty}

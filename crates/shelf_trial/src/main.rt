@@ -7,7 +7,7 @@ mod same;
 
 use mt_shelf::{DirShelf, FileSet, MemShelf, SureShelf};
 use mt_types::List;
-use std::{fs, io};
+use std::{env, fs, io};
 
 fn main(rt: HostRuntime) -> io::Result<()> {
     let alloc = rt.alloc();
@@ -25,5 +25,8 @@ fn main(rt: HostRuntime) -> io::Result<()> {
     }
     let mut dir = DirShelf::new(rt);
     same::try_shelf(&rt, &mut dir)?;
-    folders::try_folders(&rt, &mut dir)
+    folders::try_folders(&rt, &mut dir)?;
+    let here = env::current_dir(&rt)?;
+    let part = format!(in alloc; "{}/abs", here.to_string_lossy())?;
+    folders::try_absolute(&rt, &mut dir, part.as_str())
 }

@@ -1,13 +1,23 @@
 //! Calls that mean the same over every shelf, each printed with what it gave.
 
-use mt_shelf::{FileBytes, Shelf, have_names, is_path, read_file, store};
+use mt_shelf::{CallError, FileBytes, Shelf, have_names, is_path, read_file, store};
 use mt_types::List;
 use std::io;
 
 /// Stores parts, and shows what stands then.
 pub fn try_shelf<R: Print + AllocGlobal, F: Shelf>(rt: &R, shelf: &mut F) -> io::Result<()> {
     show_part(rt, shelf, "p")?;
-    store_part(rt, shelf, "p", &[("b.bin", "hello"), ("a.bin", "abc"), ("p.proj/b.bin", "xyz"), ("a.bin", "")])?;
+    store_part(
+        rt,
+        shelf,
+        "p",
+        &[
+            ("b.bin", "hello"),
+            ("a.bin", "abc"),
+            ("p.proj/b.bin", "xyz"),
+            ("a.bin", ""),
+        ],
+    )?;
     show_part(rt, shelf, "p")?;
     show_part(rt, shelf, "p/p.proj")?;
     show_part(rt, shelf, "p/a.bin")?;
@@ -19,7 +29,11 @@ pub fn try_shelf<R: Print + AllocGlobal, F: Shelf>(rt: &R, shelf: &mut F) -> io:
 }
 
 /// Prints whether a part is there, and its files.
-pub fn show_part<R: Print + AllocGlobal, F: Shelf>(rt: &R, shelf: &mut F, part: &str) -> io::Result<()> {
+pub fn show_part<R: Print + AllocGlobal, F: Shelf>(
+    rt: &R,
+    shelf: &mut F,
+    part: &str,
+) -> io::Result<()> {
     if !is_path(part) {
         return println!(rt; "{part}: not a path");
     }
@@ -43,7 +57,11 @@ pub fn show_part<R: Print + AllocGlobal, F: Shelf>(rt: &R, shelf: &mut F, part: 
 }
 
 /// Prints what a file holds.
-pub fn show_bytes<R: Print + AllocGlobal, F: Shelf>(rt: &R, shelf: &mut F, path: &str) -> io::Result<()> {
+pub fn show_bytes<R: Print + AllocGlobal, F: Shelf>(
+    rt: &R,
+    shelf: &mut F,
+    path: &str,
+) -> io::Result<()> {
     if !is_path(path) {
         return println!(rt; "{path}: not a path");
     }
@@ -68,7 +86,12 @@ fn show_size<R: Print, F: Shelf>(rt: &R, shelf: &mut F, path: &str) -> io::Resul
 }
 
 /// Stores files below a part, given by names and texts.
-pub fn store_part<R: Print + AllocGlobal, F: Shelf>(rt: &R, shelf: &mut F, part: &str, texts: &[(&str, &str)]) -> io::Result<()> {
+pub fn store_part<R: Print + AllocGlobal, F: Shelf>(
+    rt: &R,
+    shelf: &mut F,
+    part: &str,
+    texts: &[(&str, &str)],
+) -> io::Result<()> {
     let mut files = Vec::new(rt.alloc());
     for (name, text) in texts {
         files.push(FileBytes {
@@ -76,11 +99,18 @@ pub fn store_part<R: Print + AllocGlobal, F: Shelf>(rt: &R, shelf: &mut F, part:
             bytes: List::of(Vec::from_slice(rt.alloc(), text.as_bytes())?),
         })?;
     }
-    if !is_path(part) || !have_names(files.as_slice()) {
-        return println!(rt; "{part}: not a path");
-    }
-    match store(shelf, part, files.as_slice()) {
+    match store_files(shelf, part, files.as_slice()) {
         Ok(()) => println!(rt; "{part}: stored"),
         Err(error) => println!(rt; "{part}: {error}"),
     }
+}
+
+fn store_files<F: Shelf>(shelf: &mut F, part: &str, files: &[FileBytes]) -> Result<(), CallError> {
+    if !is_path(part) {
+        return Err(CallError::Failed);
+    }
+    if !have_names(files) {
+        return Err(CallError::Failed);
+    }
+    store(shelf, part, files)
 }

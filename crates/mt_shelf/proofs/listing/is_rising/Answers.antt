@@ -1,6 +1,5 @@
-use Rattle.std.proofs.Common.{◌≡◌, ◌+◌, ◌-◌, suc, drop, List, refl, sym, ◌∙◌, ap, arith}
+use Rattle.std.proofs.Common.{◌≡◌, ◌+◌, ◌-◌, drop, sym, ◌∙◌, ap, arith}
 use Rattle.mt_shelf.specs.Files.{is_before}
-use Rattle.mt_shelf.specs.declared.file.Entry.{Entry}
 use Rattle.mt_shelf.proofs.Listings.{rising_from}
 use Rattle.mt_shelf.proofs.listing.is_rising.Goals as goal
 
