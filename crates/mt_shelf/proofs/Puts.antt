@@ -174,3 +174,10 @@ pub All-HasName : (files : List FileBytes) → list_all (λ f. is_file_name f.na
 All-HasName [] good k d inside = absurd (omega arith)
 All-HasName (file ∷ files) good zero d inside = has_name file (first_true (is_file_name file.name) (list_all (λ f. is_file_name f.name) files) good)
 All-HasName (file ∷ files) good (suc k) d inside = All-HasName files (second_true (is_file_name file.name) (list_all (λ f. is_file_name f.name) files) good) k d (omega arith)
+
+pub HasName-all : (files : List FileBytes) → All HasName files → list_all (λ f. is_file_name f.name) files ≡ true
+HasName-all [] names = refl
+HasName-all (file ∷ files) names =
+    let name : HasName file = names 0 file (omega arith) in
+    let good : is_file_name file.name ≡ true = both_true (is_utf8 file.name) (is_relative file.name) (is_utf8-from_IsUtf8 file.name name.utf8) name.form in
+    both_true (is_file_name file.name) (list_all (λ f. is_file_name f.name) files) good (HasName-all files (λ k d inside. names (suc k) d (omega arith)))

@@ -57,7 +57,8 @@ fn put_all<F: Shelf>(shelf: &mut F, files: &[FileBytes]) -> Result<(), CallError
 
 /// Whether the files' names are ones that `store` takes.
 pub fn have_names(files: &[FileBytes]) -> bool
-    ensures { result ≡ true → All HasName files.now }
+    ensures found { result ≡ true → All HasName files.now }
+    ensures only { All HasName files.now → result ≡ true }
 {
     all_file_names(files)
 }
