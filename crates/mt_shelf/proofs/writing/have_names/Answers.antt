@@ -1,4 +1,4 @@
-use Rattle.std.proofs.Common.{◌≡◌, ◌∙◌, sym}
+use Rattle.std.proofs.Common.{◌∙◌, sym}
 use Rattle.mt_shelf.proofs.Puts.{All-HasName, HasName-all}
 use Rattle.mt_shelf.proofs.writing.have_names.Goals as goal
 
