@@ -1,20 +1,20 @@
 -- Files in a list, as a finite map.
-use Rattle.std.proofs.Common.{◌≡◌, ◌<◌, ◌≤◌, ◌+◌, ℕ, suc, nat_eq, Bool, true, false, cond, ◌&&◌, List, [], ◌∷◌, ◌++◌, map, length, take, drop, get_or, slice_set, slice_get, Option, Some, None, refl, sym, ◌∙◌, ap, subst, arith, add-one, length-take-le}
+use Rattle.std.proofs.Common.{◌≡◌, ◌<◌, ◌≤◌, ◌+◌, ℕ, suc, nat_eq, Bool, true, false, cond, ◌&&◌, List, [], ◌∷◌, ◌++◌, map, length, take, drop, get_or, slice_set, slice_get, Option, Some, None, is_some, length-append, refl, sym, ◌∙◌, ap, subst, arith, add-one, length-take-le}
 use Rattle.std.proofs.Math.Seq.{split_at, set-append_seam, get_or-append_seam, take-suc}
-use Rattle.std.proofs.lemmas.List.{map-append}
+use Rattle.std.proofs.lemmas.List.{length-set, map-append}
 use Rattle.std.proofs.lemmas.List.Folds.{list_all-append}
 use Rattle.std.proofs.lemmas.Option.{slice_get_read}
 use Rattle.std.specs.Option.{option_map}
 use Rattle.std.specs.List.{list_all}
 use Rattle.std.specs.Ordering.{nat_cmp, eq_by_cmp, is_eq}
 use Rattle.std.specs.Cmp.Lexicographic.{slice_cmp, pointwise, texts_ties}
-use Rattle.std.specs.FinMap.{find, get, insert, get-from_entries, get-insert, same_map, nat_cmp-IsAntisymmetric, slice_cmp-IsAntisymmetric, from_entries, from_entries_push}
+use Rattle.std.specs.FinMap.{find, get, insert, get-from_entries, get-insert, same_map, len, len-insert, nat_cmp-IsAntisymmetric, slice_cmp-IsAntisymmetric, from_entries, from_entries_push}
 use Rattle.std.proofs.lemmas.Cmp.{nat_list_cmp_total}
 use Rattle.std.proofs.lemmas.Map.Lookups.{exact_bytes}
 use Rattle.std.specs.declared.cmp.Ordering.{Ordering}
 use Rattle.std.specs.declared.cmp.Ordering.TheVariants.{Less, Equal, Greater}
 use Rattle.mt_shelf.specs.Files.{Files, is_file_path}
-use Rattle.mt_shelf.specs.Held.{pair_of, files_in, IsFirst, names_in, all_paths}
+use Rattle.mt_shelf.specs.Held.{pair_of, files_in, IsFirst, names_in, all_paths, AllDiffer}
 use Rattle.mt_shelf.specs.declared.file.FileBytes.{FileBytes}
 
 -- what a path has in a list
@@ -141,3 +141,23 @@ found_first path held i file inside is before same =
     ∙ ap (λ (o : Option (List ℕ)). or_else o (at_path path (file ∷ drop (suc i) held))) before
     ∙ ap (λ (t : Bool). cond t (Some file.bytes) (at_path path (drop (suc i) held))) (sym (texts_ties path file.name) ∙ same)
     ∙ ap (option_map (λ f. f.bytes)) (sym (slice_get_read held (length held) i file refl inside is))
+
+-- a file in the place of the one of its path
+pub differ-set : (held : List FileBytes) (i : ℕ) (old : FileBytes) (path bytes : List ℕ) → IsFirst held path i → old ≡ get_or held i old → i < length held
+    → get (files_in held) path ≡ option_map (λ f. f.bytes) (slice_get held i) → AllDiffer held → AllDiffer (slice_set held i (record { name = old.name; bytes = bytes }))
+differ-set held i old path bytes first is inside found differ =
+    let there : get (files_in held) path ≡ Some old.bytes = found ∙ ap (option_map (λ f. f.bytes)) (slice_get_read held (length held) i old refl inside is) in
+    ap len (files-set held i old path bytes first is)
+    ∙ len-insert nat_list_cmp_total (files_in held) path bytes
+    ∙ ap (λ (b : Bool). cond b (len (files_in held)) (len (files_in held) + 1)) (ap is_some there)
+    ∙ differ
+    ∙ sym (length-set held i (record { name = old.name; bytes = bytes }))
+
+-- a new path at the end
+pub differ-push : (held : List FileBytes) (file : FileBytes) → get (files_in held) file.name ≡ None → AllDiffer held → AllDiffer (held ++ file ∷ [])
+differ-push held file none differ =
+    ap len (files-push held file none)
+    ∙ len-insert nat_list_cmp_total (files_in held) file.name file.bytes
+    ∙ ap (λ (b : Bool). cond b (len (files_in held)) (len (files_in held) + 1)) (ap is_some none)
+    ∙ ap (λ (n : ℕ). n + 1) differ
+    ∙ sym (length-append held (file ∷ []))

@@ -2,6 +2,6 @@ pub mod Slices
 pub mod Drafts
 pub mod PathNames
 pub mod HeldFacts
-pub mod Listing
+pub mod Listings
 pub mod Puts
 pub mod WholeFiles

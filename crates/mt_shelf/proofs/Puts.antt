@@ -1,5 +1,5 @@
 -- Drafts by whole paths.
-use Rattle.std.proofs.Common.{◌≡◌, ℕ, Bool, true, false, cond, ◌&&◌, ◌==◌, List, [], ◌∷◌, ◌++◌, Option, Some, None, is_some, refl, sym, ◌∙◌, ap, subst, arith, rules, get_or, length, drop, ◌<◌, ◌+◌, length-append}
+use Rattle.std.proofs.Common.{◌≡◌, ℕ, suc, zero, Bool, true, false, cond, ◌&&◌, ◌==◌, List, [], ◌∷◌, ◌++◌, Option, Some, None, is_some, refl, sym, ◌∙◌, ap, subst, arith, rules, get_or, length, drop, ◌<◌, ◌+◌, length-append}
 use Rattle.std.proofs.lemmas.Bool.{eqb-true, eq-eqb}
 use Rattle.std.proofs.lemmas.Str.{IsUtf8-append, is_utf8-from_IsUtf8, IsUtf8-from_is_utf8, IsUtf8-from_ascii, IsUtf8-drop, IsCharBoundary-after_ascii}
 use Rattle.std.proofs.Math.Seq.{get_or-append_seam, drop-append-add}
@@ -7,10 +7,11 @@ use Rattle.std.proofs.lemmas.List.Folds.{list_all-append}
 use Rattle.std.specs.Str.{is_utf8, IsUtf8}
 use Rattle.std.specs.Option.{option_map}
 use Rattle.std.specs.List.{list_all, cons_option}
+use Rattle.std.specs.Prelude.{All}
 use Rattle.std.specs.FinMap.{insert}
 use Rattle.mt_shelf.specs.Paths.{names_of, onto_first, is_name, is_relative, is_path, joined_path, name_below}
-use Rattle.mt_shelf.specs.Files.{Files, gained_files, is_file_path}
-use Rattle.mt_shelf.specs.Held.{all_paths, put_of, draft_in, with_files, is_put}
+use Rattle.mt_shelf.specs.Files.{Files, gained_files, is_file_path, is_file_name}
+use Rattle.mt_shelf.specs.Held.{all_paths, put_of, draft_in, with_files, is_put, HasName}
 use Rattle.mt_shelf.specs.declared.file.FileBytes.{FileBytes}
 
 pub below_joined : (target name : List ℕ) → name_below target (joined_path target name) ≡ Some name
@@ -161,3 +162,22 @@ good_name_below part path name utf8 form good is =
 pub puts_either : (b : Bool) (target : List ℕ) (draft now : List FileBytes) (file : FileBytes) → now ≡ cond b (draft ++ file ∷ []) draft → list_all (is_put target) draft ≡ true → is_put target file ≡ true → list_all (is_put target) now ≡ true
 puts_either true target draft now file is good one = ap (list_all (is_put target)) is ∙ puts-push target draft file good one
 puts_either false target draft now file is good one = ap (list_all (is_put target)) is ∙ good
+
+has_name : (file : FileBytes) → is_file_name file.name ≡ true → HasName file
+has_name file good = record {
+  utf8 = IsUtf8-from_is_utf8 file.name (first_true (is_utf8 file.name) (is_relative file.name) good);
+  form = second_true (is_utf8 file.name) (is_relative file.name) good;
+}
+
+-- the test of names
+pub All-HasName : (files : List FileBytes) → list_all (λ f. is_file_name f.name) files ≡ true → All HasName files
+All-HasName [] good k d inside = absurd (omega arith)
+All-HasName (file ∷ files) good zero d inside = has_name file (first_true (is_file_name file.name) (list_all (λ f. is_file_name f.name) files) good)
+All-HasName (file ∷ files) good (suc k) d inside = All-HasName files (second_true (is_file_name file.name) (list_all (λ f. is_file_name f.name) files) good) k d (omega arith)
+
+pub HasName-all : (files : List FileBytes) → All HasName files → list_all (λ f. is_file_name f.name) files ≡ true
+HasName-all [] names = refl
+HasName-all (file ∷ files) names =
+    let name : HasName file = names 0 file (omega arith) in
+    let good : is_file_name file.name ≡ true = both_true (is_utf8 file.name) (is_relative file.name) (is_utf8-from_IsUtf8 file.name name.utf8) name.form in
+    both_true (is_file_name file.name) (list_all (λ f. is_file_name f.name) files) good (HasName-all files (λ k d inside. names (suc k) d (omega arith)))

@@ -1,4 +1,5 @@
--- Tests of the paths of a map, over the list that it was made of.
+-- Lemmas: a test of all paths of a map is one of the list that it was made of. The last is the law
+-- of the shelves in memory, and so stands here and not in proofs/.
 use Rattle.std.specs.Prelude.{◌≡◌, ℕ, Bool, true, false, ◌||◌, ◌&&◌, List, [], ◌∷◌, map, length, refl}
 use Rattle.std.proofs.Common.{sym, ◌∙◌, ap, arith}
 use Rattle.std.specs.List.{list_any, list_all}

@@ -40,7 +40,7 @@ fn add_entry(
     }
 }
 
-/// Puts an entry in its place by name.
+/// Puts an entry where its name belongs.
 pub fn put_entry(entries: &mut Vec<Entry>, entry: Entry) -> Result<(), NoMemory>
     ensures { OnOk result (entries.new.items ≡ with_entry entry.name entry.size entries.old.items) }
 {

@@ -1,5 +1,5 @@
 //! The calls that are to fail, of an object in memory.
-ghost use Rattle.std.specs.Prelude.{◌≡◌, ◌≤◌};
+ghost use Rattle.std.specs.Prelude.{◌≡◌, ◌≤◌, ◌↔◌, IsTrue, Contains};
 ghost use Rattle.std.specs.Bool.{OnTrue, OnFalse};
 ghost use Rattle.mt_shelf.specs.Causes.{Rose};
 
@@ -27,6 +27,7 @@ impl Failures {
 
     /// Counts a call, and returns whether it is to fail.
     pub fn fails_next(&mut self) -> bool
+        ensures numbered { IsTrue result ↔ Contains self.old.failing self.new.calls }
         ensures later { self.old.faults ≤ self.new.faults }
         ensures failed { OnTrue result (Rose self.old.faults self.new.faults) }
         ensures kept { OnFalse result (self.new.faults ≡ self.old.faults) }

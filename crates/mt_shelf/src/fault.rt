@@ -1,6 +1,8 @@
 //! What can be wrong with a part.
 
 use mt_types::List;
+use std::error::Error;
+use std::fmt;
 
 /// Why a part stands for no rows (docs/FORMAT.md, "The first fault").
 #[derive(Clone, Copy, Debug, PartialEq, Eq)]
@@ -49,7 +51,13 @@ pub enum Why {
     Stray,
 }
 
-/// The first fault of a part, with its place.
+impl fmt::Display for Why {
+    fn fmt<W: fmt::Write>(&self, f: &mut fmt::Formatter<W>) -> fmt::Result {
+        write!(f, "{self:?}")
+    }
+}
+
+/// The first fault of a part, and where it is.
 #[derive(Debug, Drop)]
 pub struct Fault {
     /// The file's name below the part.
@@ -62,6 +70,21 @@ pub struct Fault {
     pub why: Why,
 }
 
+impl fmt::Display for Fault {
+    fn fmt<W: fmt::Write>(&self, f: &mut fmt::Formatter<W>) -> fmt::Result {
+        write!(f, "{}", str::from_utf8(self.file.as_slice()).unwrap_or("?"))?;
+        if let Some(granule) = self.granule {
+            write!(f, " granule {granule}")?;
+        }
+        if let Some(at) = self.at {
+            write!(f, " at {at}")?;
+        }
+        write!(f, ": {}", self.why)
+    }
+}
+
+impl Error for Fault {}
+
 /// Why a part wasn't read.
 #[derive(Debug, Drop)]
 pub enum ReadError {
@@ -72,3 +95,15 @@ pub enum ReadError {
     /// Memory was refused.
     NoMemory,
 }
+
+impl fmt::Display for ReadError {
+    fn fmt<W: fmt::Write>(&self, f: &mut fmt::Formatter<W>) -> fmt::Result {
+        match self {
+            ReadError::AtFault(fault) => write!(f, "{fault}"),
+            ReadError::Shelf => write!(f, "the shelf failed"),
+            ReadError::NoMemory => write!(f, "no memory"),
+        }
+    }
+}
+
+impl Error for ReadError {}

@@ -5,13 +5,13 @@ ghost use Rattle.std.specs.List.{list_any};
 ghost use Rattle.std.specs.FinMap.{get, insert};
 ghost use Rattle.mt_shelf.specs.Paths.{is_at_or_below};
 ghost use Rattle.mt_shelf.specs.Files.{is_file_path, stands};
-ghost use Rattle.mt_shelf.specs.Held.{files_in, all_paths, with_files, IsFirst};
+ghost use Rattle.mt_shelf.specs.Held.{files_in, all_paths, AllDiffer, with_files, IsFirst};
 
 use crate::FileBytes;
 use crate::paths::is_at_or_below;
 use mt_types::NoMemory;
 
-/// Where the first file of a path stands.
+/// The index of the first file of a path.
 pub fn position_of(held: &[FileBytes], path: &[u8]) -> Option<usize>
     ensures first { MatchOption result (get (files_in held.now) path.now ≡ None) (IsFirst held.now path.now) }
     ensures inside { IfSome result (λ i. i < length held.now) }
@@ -25,7 +25,7 @@ pub fn position_of(held: &[FileBytes], path: &[u8]) -> Option<usize>
     None
 }
 
-/// Puts a file in the place of the one of its path, or at the end.
+/// Puts a file in place of the one of its path, or at the end.
 pub fn set_file(held: &mut Vec<FileBytes>, file: FileBytes) -> Result<(), NoMemory>
     ensures files { OnOk result (files_in held.new.items ≡ insert (files_in held.old.items) file.name file.bytes) }
     ensures err { OnErr result (held.new.items ≡ held.old.items) }
@@ -33,6 +33,7 @@ pub fn set_file(held: &mut Vec<FileBytes>, file: FileBytes) -> Result<(), NoMemo
     ensures len { vec_len held.new ≤ vec_len held.old + 1 }
     ensures capacity { vec_capacity held.old ≤ vec_capacity held.new }
     ensures paths { all_paths held.old.items ≡ true → is_file_path file.name ≡ true → all_paths held.new.items ≡ true }
+    ensures names { AllDiffer held.old.items → AllDiffer held.new.items }
 {
     match position_of(held, file.name.as_slice()) {
         Some(i) => {
@@ -47,13 +48,15 @@ pub fn set_file(held: &mut Vec<FileBytes>, file: FileBytes) -> Result<(), NoMemo
     }
 }
 
-/// Puts each file of a draft in its place, in order. There is room for all.
+/// Puts each file of a draft so, in order. There is room for all, so that all or none are put.
 pub fn set_files(held: &mut Vec<FileBytes>, draft: &mut Vec<FileBytes>)
     requires room { vec_len held.old + vec_len draft.old ≤ vec_capacity held.old }
     requires paths { all_paths held.old.items ≡ true }
+    requires names { AllDiffer held.old.items }
     requires draft_paths { all_paths draft.old.items ≡ true }
     ensures files { files_in held.new.items ≡ with_files draft.old.items (files_in held.old.items) }
     ensures paths { all_paths held.new.items ≡ true }
+    ensures names { AllDiffer held.new.items }
     ensures emptied { draft.new.items ≡ [] }
 {
     while !draft.is_empty() {

@@ -1,6 +1,6 @@
-// A shelf in memory with calls that fail.
+//! A shelf in memory with calls that fail.
 ghost use Rattle.std.specs.Prelude.{◌≡◌, ◌<◌, Some, true, false};
-ghost use Rattle.mt_shelf.specs.Held.{files_in, all_paths};
+ghost use Rattle.mt_shelf.specs.Held.{files_in, all_paths, AllDiffer};
 ghost use Rattle.mt_shelf.specs.State.{files_of};
 
 use crate::failures::Failures;
@@ -8,7 +8,7 @@ use crate::{CallError, Entry, FileBytes, Shelf, SureShelf};
 use mt_types::List;
 use std::alloc::Global;
 
-/// Files in memory, with calls that fail.
+/// Files in memory, where the calls fail that are to.
 #[derive(Drop)]
 pub struct MemShelf {
     shelf: SureShelf,
@@ -16,10 +16,12 @@ pub struct MemShelf {
 }
 
 impl MemShelf {
-    /// `failing` numbers the calls that fail, from 1; a read gives at most `most` bytes.
+    /// Holds the files, whose names are different paths. `failing` numbers the calls that fail,
+    /// from 1 over all calls; a read gives at most `most` bytes.
     pub fn new(alloc: Global, files: List<FileBytes>, failing: List<u64>, most: usize) -> MemShelf
         requires most { 0 < most }
         requires paths { all_paths files ≡ true }
+        requires names { AllDiffer files }
         ensures files { files_of (⟦<MemShelf as Shelf>⟧.state result) ≡ Some (files_in files) }
         ensures begun { (⟦<MemShelf as Shelf>⟧.state result).begun ≡ false }
         ensures taken { (⟦<MemShelf as Shelf>⟧.state result).taken ≡ 0 }
@@ -31,13 +33,15 @@ impl MemShelf {
         }
     }
 
-    /// Each file once.
+    /// Shows each file once, in no stated order.
     pub fn held(&self) -> &[FileBytes]
-        ensures { files_of (⟦<MemShelf as Shelf>⟧.state self.now) ≡ Some (files_in result.now) }
+        ensures files { files_of (⟦<MemShelf as Shelf>⟧.state self.now) ≡ Some (files_in result.now) }
+        ensures once { AllDiffer result.now }
     {
         self.shelf.held()
     }
 
+    /// The bytes that reads gave, together.
     pub fn bytes_taken(&self) -> u64
         ensures { result ≡ (⟦<MemShelf as Shelf>⟧.state self.now).taken }
     {

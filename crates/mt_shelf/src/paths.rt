@@ -1,6 +1,7 @@
 //! The form of paths, and which paths lie below a folder.
 ghost use Rattle.std.specs.Prelude.{◌≡◌, IfOk};
 ghost use Rattle.std.specs.Option.{option_copied};
+ghost use Rattle.mt_shelf.specs.Files.{is_file_name};
 ghost use Rattle.mt_shelf.specs.Paths.{is_name, is_relative, is_path, is_dots, has_no_zero, name_below, is_at_or_below, joined_path};
 
 use crate::bytes::{rest_from, subslice};
@@ -30,7 +31,7 @@ fn is_name(name: &[u8]) -> bool
     !is_dots(name) && has_no_zero(name)
 }
 
-/// Whether the bytes are names parted by `/`.
+/// Whether the bytes are names with `/` between them, each neither empty nor `.` nor `..`.
 pub fn is_relative(path: &[u8]) -> bool
     ensures { result ≡ is_relative path.now }
 {
@@ -45,7 +46,17 @@ pub fn is_relative(path: &[u8]) -> bool
     is_name(subslice(path, 0, end)) & rest_good
 }
 
-/// Whether the text is a path: names parted by `/`, behind a `/` or none.
+/// Whether the bytes are such names, in UTF-8, as the name of a file below a part is.
+pub fn is_file_name(name: &[u8]) -> bool
+    ensures { result ≡ is_file_name name.now }
+{
+    match str::from_utf8(name) {
+        Ok(_) => is_relative(name),
+        Err(_) => false,
+    }
+}
+
+/// Whether the text is a path: names with `/` between them, after a `/` or none.
 pub fn is_path(path: &str) -> bool
     ensures { result ≡ is_path path.now }
 {
@@ -56,7 +67,7 @@ pub fn is_path(path: &str) -> bool
     }
 }
 
-/// What a path has behind a part and a `/`.
+/// The name that a path has below a part, after its `/`.
 pub fn name_below<'a>(part: &[u8], path: &'a [u8]) -> Option<&'a [u8]>
     ensures { option_copied result ≡ name_below part.now path.now }
 {
@@ -77,7 +88,7 @@ pub fn name_below<'a>(part: &[u8], path: &'a [u8]) -> Option<&'a [u8]>
     }
 }
 
-/// Whether the path is the part's or below it.
+/// Whether the path is the part's, or lies below it.
 pub fn is_at_or_below(part: &[u8], path: &[u8]) -> bool
     ensures { result ≡ is_at_or_below part.now path.now }
 {

@@ -13,7 +13,7 @@ use mt_types::List;
 use std::alloc::Global;
 
 /// How many bytes one read asks a source for.
-const READ_BYTES: usize = 4096;
+const READ_BYTES: usize = 65536;
 
 /// What a source had left.
 #[derive(Debug, Drop)]
@@ -30,10 +30,25 @@ pub fn read_all<S: Source>(alloc: Global, source: &mut S, limit: usize) -> Resul
     ensures input { IfOk result (IsInput limit (S.left source.old) (S.left source.new)) }
     ensures cause { HasCause (S.faults source.old) (S.faults source.new) result }
 {
-    let mut buffer = [0u8; READ_BYTES];
+    let mut buffer = vec![in alloc; 0u8; READ_BYTES]?;
+    read_to_end(alloc, source, &mut buffer, limit)
+}
+
+// Reads by way of a buffer.
+fn read_to_end<S: Source>(
+    alloc: Global,
+    source: &mut S,
+    buffer: &mut [u8],
+    limit: usize,
+) -> Result<Input, CallError>
+    requires room { 0 < length buffer.old }
+    requires limit { limit < 2 ^ 62 }
+    ensures input { IfOk result (IsInput limit (S.left source.old) (S.left source.new)) }
+    ensures cause { HasCause (S.faults source.old) (S.faults source.new) result }
+{
     let mut text = Vec::new(alloc);
     while text.len() <= limit {
-        let count = source.read(&mut buffer)?;
+        let count = source.read(buffer)?;
         if count == 0 {
             return Ok(Input::Whole(List::of(text)));
         }
@@ -42,7 +57,7 @@ pub fn read_all<S: Source>(alloc: Global, source: &mut S, limit: usize) -> Resul
     Ok(Input::TooLong)
 }
 
-/// Reads a whole file of a known size.
+/// Reads a whole file of a known size, however little each read gives.
 pub fn read_file<F: Shelf>(
     alloc: Global,
     shelf: &mut F,
@@ -62,7 +77,7 @@ pub fn read_file<F: Shelf>(
     Ok(List::of(bytes))
 }
 
-// Fills the bytes with those of a file.
+// Fills a buffer of a file's size with the file.
 fn fill_from<F: Shelf>(shelf: &mut F, path: &str, bytes: &mut [u8]) -> Result<(), CallError>
     requires path { IsTrue (is_path path.now) }
     requires size { IfSome (files_of (F.state shelf.old)) (λ files. option_map length (get files path.now) ≡ Some (length bytes.old)) }
@@ -79,7 +94,7 @@ fn fill_from<F: Shelf>(shelf: &mut F, path: &str, bytes: &mut [u8]) -> Result<()
     Ok(())
 }
 
-// Reads once, into the place of the file's own bytes.
+// Reads once, from an offset of the file to the same of the buffer.
 fn read_into<F: Shelf>(
     shelf: &mut F,
     path: &str,

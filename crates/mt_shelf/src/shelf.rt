@@ -10,21 +10,25 @@ ghost use Rattle.mt_shelf.specs.State.{State, Closes, Drops, AllOrNone, after_be
 use crate::{CallError, Entry};
 use mt_types::List;
 
+/// Files by their paths, and one draft of files that are to be published below a target.
+///
+/// Each call leaves what its clauses don't name. A path has names with `/` between them.
 pub trait Shelf {
-    /// The files where they are told, the draft, and how many bytes were read.
+    /// The files and the draft where they are known, whether a draft is open, and how many bytes
+    /// reads gave.
     ghost state: { Self → State };
 
-    /// How often it failed.
+    /// How often it failed. The count stands still at its last value.
     ghost faults: { Self → ℕ };
 
-    /// The size of a file, or `None` where there is none.
+    /// The size of a file in bytes, or `None` where no file has the path.
     fn size(&mut self, path: &str) -> Result<Option<u64>, CallError>
         requires { IsTrue (is_path path.now) }
         ensures known { IfOk result (λ size. IfSome (files_of (state self.old)) (λ files. size ≡ option_map length (get files path.now))) }
         ensures state { state self.new ≡ state self.old }
         ensures cause { HasCause (faults self.old) (faults self.new) result };
 
-    /// The files below a part by name, in the order of bytes, or `None` where there is none.
+    /// The files below a part, in the byte order of their names, or `None` where there is none.
     fn list(&mut self, part: &str) -> Result<Option<List<Entry>>, CallError>
         requires { IsTrue (is_path part.now) }
         ensures known { IfOk result (λ listing. IfSome (files_of (state self.old)) (λ files. listing ≡ listing_of (entries_below part.now files))) }
@@ -39,7 +43,8 @@ pub trait Shelf {
         ensures state { state self.new ≡ state self.old }
         ensures cause { HasCause (faults self.old) (faults self.new) result };
 
-    /// Gives bytes of a file from a place on, at least one.
+    /// Gives bytes of a file from an offset on, at least one. Where the files aren't known, an offset
+    /// that isn't there is a fault.
     fn read(&mut self, path: &str, at: u64, into: &mut [u8]) -> Result<usize, CallError>
         requires path { IsTrue (is_path path.now) }
         requires room { 0 < length into.old }
@@ -51,14 +56,14 @@ pub trait Shelf {
         ensures err { OnErr result (state self.new ≡ state self.old) }
         ensures cause { HasCause (faults self.old) (faults self.new) result };
 
-    /// Opens an empty draft for a part, and drops an older one.
+    /// Opens an empty draft for a part, and drops an older one. After an error none is open.
     fn begin(&mut self, part: &str) -> Result<(), CallError>
         requires { IsTrue (is_path part.now) }
         ensures ok { OnOk result (state self.new ≡ after_begin part.now (state self.old)) }
         ensures err { OnErr result (Drops (state self.old) (state self.new)) }
         ensures cause { HasCause (faults self.old) (faults self.new) result };
 
-    /// Adds a file to the draft.
+    /// Adds a file to the draft. After an error none is open.
     fn put(&mut self, name: &str, bytes: &[u8]) -> Result<(), CallError>
         requires name { IsTrue (is_relative name.now) }
         requires begun { (state self.old).begun ≡ true }
@@ -66,7 +71,8 @@ pub trait Shelf {
         ensures err { OnErr result (Drops (state self.old) (state self.new)) }
         ensures cause { HasCause (faults self.old) (faults self.new) result };
 
-    /// The files gain the draft's in one step.
+    /// The files gain the draft's below its target in one step, in the place of those of the same
+    /// paths. After `Failed` they have gained all or none, after `NoMemory` none.
     fn publish(&mut self) -> Result<(), CallError>
         requires { (state self.old).begun ≡ true }
         ensures ok { OnOk result (Closes (state self.old) (state self.new) (option_map published_files (state self.old).content)) }
@@ -74,6 +80,6 @@ pub trait Shelf {
         ensures memory { IsErrOf result CallError.NoMemory → Drops (state self.old) (state self.new) }
         ensures cause { HasCause (faults self.old) (faults self.new) result };
 
-    /// Told files have paths alone.
+    /// The known files stand at paths.
     ghost paths: { (shelf : Self) → IfSome (files_of (state shelf)) HasPaths };
 }

@@ -1,4 +1,4 @@
-// Sinks in memory.
+//! Sinks in memory.
 ghost use Rattle.std.specs.Prelude.{◌≡◌, ◌<◌, ◌≤◌, ◌++◌, [], Some, length, take, IfOk, OnErr, OnOk, IsErrOf};
 ghost use Rattle.std.specs.Io.KnownBytes.{append_known};
 
@@ -16,9 +16,11 @@ pub struct SureSink {
 }
 
 impl SureSink {
+    /// A write takes at most `most` bytes.
     pub fn new(alloc: Global, most: usize) -> SureSink
         requires { 0 < most }
-        ensures { ⟦<SureSink as Sink>⟧.written result ≡ Some [] }
+        ensures written { ⟦<SureSink as Sink>⟧.written result ≡ Some [] }
+        ensures faults { ⟦<SureSink as Sink>⟧.faults result ≡ 0 }
     {
         SureSink {
             bytes: Vec::new(alloc),
@@ -26,6 +28,7 @@ impl SureSink {
         }
     }
 
+    /// The bytes that were written.
     pub fn shown(&self) -> &[u8]
         ensures { Some result.now ≡ ⟦<SureSink as Sink>⟧.written self.now }
     {
@@ -45,7 +48,7 @@ impl Sink for SureSink {
     }
 }
 
-/// Bytes in memory, with calls that fail.
+/// Bytes in memory, where the calls fail that are to.
 #[derive(Drop)]
 pub struct MemSink {
     sink: SureSink,
@@ -65,6 +68,7 @@ impl MemSink {
         }
     }
 
+    /// The bytes that were written.
     pub fn shown(&self) -> &[u8]
         ensures { Some result.now ≡ ⟦<MemSink as Sink>⟧.written self.now }
     {

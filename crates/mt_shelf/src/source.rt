@@ -1,4 +1,4 @@
-// Sources in memory.
+//! Sources in memory.
 ghost use Rattle.std.specs.Prelude.{◌≡◌, ◌<◌, ◌≤◌, ◌++◌, Some, length, take, drop, ℕ, ◌^◌};
 ghost use Rattle.std.specs.Io.KnownBytes.{prepend_known, IsAtEnd};
 
@@ -18,13 +18,16 @@ pub struct SureSource {
 }
 
 impl SureSource {
+    /// A read gives at most `most` bytes.
     pub fn new(bytes: List<u8>, most: usize) -> SureSource
         requires { 0 < most }
-        ensures { ⟦<SureSource as Source>⟧.left result ≡ Some bytes }
+        ensures left { ⟦<SureSource as Source>⟧.left result ≡ Some bytes }
+        ensures faults { ⟦<SureSource as Source>⟧.faults result ≡ 0 }
     {
         SureSource { bytes, at: 0, most }
     }
 
+    /// The bytes that are not yet read.
     pub fn rest(&self) -> &[u8]
         ensures { Some result.now ≡ ⟦<SureSource as Source>⟧.left self.now }
     {
@@ -60,7 +63,7 @@ impl Source for SureSource {
     }
 }
 
-/// Bytes in memory, with calls that fail.
+/// Bytes in memory, where the calls fail that are to.
 #[derive(Drop)]
 pub struct MemSource {
     source: SureSource,
@@ -80,6 +83,7 @@ impl MemSource {
         }
     }
 
+    /// The bytes that are not yet read.
     pub fn rest(&self) -> &[u8]
         ensures { Some result.now ≡ ⟦<MemSource as Source>⟧.left self.now }
     {

@@ -1,95 +1,74 @@
-// Sources and sinks over std's readers and writers. They tell no content.
-ghost use Rattle.std.specs.Prelude.{None, ◌<◌, ◌≤◌, IfSome, length};
+//! Sources and sinks over std's readers and writers. Their content isn't known to a proof.
+ghost use Rattle.std.specs.Prelude.{◌≡◌, None};
 
+use crate::fault_count::FaultCount;
+use crate::retry::{read_some, write_some};
 use crate::{CallError, Failed, Sink, Source};
-use std::io::{ErrorKind, Read, Write};
+use std::io::{Read, Write};
 
-const MAX_TRIES: u32 = 1000;
-
-// Reads once, over interrupted calls.
-pub(crate) fn try_read<R: Read>(reader: &mut R, into: &mut [u8]) -> Option<usize>
-    ensures { IfSome result (λ n. n ≤ length into.new) }
-{
-    for _ in 0..MAX_TRIES {
-        match reader.read(into) {
-            Ok(count) => return Some(count),
-            Err(error) if error.kind() == ErrorKind::Interrupted => {}
-            Err(_) => return None,
-        }
-    }
-    None
-}
-
-// Writes once, over interrupted calls, at least one byte.
-fn try_write<W: Write>(writer: &mut W, bytes: &[u8]) -> Option<usize>
-    ensures some { IfSome result (λ n. 0 < n) }
-    ensures bound { IfSome result (λ n. n ≤ length bytes.now) }
-{
-    for _ in 0..MAX_TRIES {
-        match writer.write(bytes) {
-            Ok(0) => return None,
-            Ok(count) => return Some(count),
-            Err(error) if error.kind() == ErrorKind::Interrupted => {}
-            Err(_) => return None,
-        }
-    }
-    None
-}
-
-/// A source over a reader.
+/// A source over a reader, as standard input.
 #[derive(Drop)]
 pub struct StdSource<R> {
     reader: R,
-    faults: u64,
+    count: FaultCount,
 }
 
 impl<R: Read> StdSource<R> {
-    pub fn new(reader: R) -> StdSource<R> {
-        StdSource { reader, faults: 0 }
+    /// Nothing was read yet.
+    pub fn new(reader: R) -> StdSource<R>
+        ensures { ⟦<StdSource<R> as Source>⟧.faults result ≡ 0 }
+    {
+        StdSource {
+            reader,
+            count: FaultCount::new(),
+        }
     }
 }
 
 impl<R: Read> Source for StdSource<R> {
     ghost left = { λ _. None };
 
-    ghost faults = { λ s. s.faults };
+    ghost faults = { λ s. s.count.faults };
 
     fn read(&mut self, into: &mut [u8]) -> Result<usize, Failed> {
-        match try_read(&mut self.reader, into) {
-            Some(count) => Ok(count),
-            None => {
-                self.faults = self.faults.saturating_add(1);
+        match read_some(&mut self.reader, into) {
+            Ok(count) => Ok(count),
+            Err(_) => {
+                self.count.rise();
                 Err(Failed)
             }
         }
     }
 }
 
-/// A sink over a writer.
+/// A sink over a writer, as standard output.
 #[derive(Drop)]
 pub struct StdSink<W> {
     writer: W,
-    faults: u64,
+    count: FaultCount,
 }
 
 impl<W: Write> StdSink<W> {
-    pub fn new(writer: W) -> StdSink<W> {
-        StdSink { writer, faults: 0 }
+    /// Nothing was written yet.
+    pub fn new(writer: W) -> StdSink<W>
+        ensures { ⟦<StdSink<W> as Sink>⟧.faults result ≡ 0 }
+    {
+        StdSink {
+            writer,
+            count: FaultCount::new(),
+        }
     }
 }
 
 impl<W: Write> Sink for StdSink<W> {
     ghost written = { λ _. None };
 
-    ghost faults = { λ s. s.faults };
+    ghost faults = { λ s. s.count.faults };
 
     fn write(&mut self, bytes: &[u8]) -> Result<usize, CallError> {
-        match try_write(&mut self.writer, bytes) {
-            Some(count) => Ok(count),
-            None => {
-                self.faults = self.faults.saturating_add(1);
-                Err(CallError::Failed)
-            }
+        match write_some(&mut self.writer, bytes) {
+            Ok(count) => Ok(count),
+            Err(error) => Err(self.count.cause_of(&error)),
         }
     }
 }

@@ -1,9 +1,9 @@
-// A shelf in memory that never fails.
+//! A shelf in memory that never fails.
 ghost use Rattle.std.specs.Prelude.{◌≡◌, ◌<◌, ◌≤◌, [], Some, None, true, false, IsTrue, OnOk, OnErr, IfOk, IfSome, length, vec_len};
 ghost use Rattle.std.specs.List.{list_all};
 ghost use Rattle.mt_shelf.specs.Paths.{is_path, joined_path};
 ghost use Rattle.mt_shelf.specs.Files.{is_file_path};
-ghost use Rattle.mt_shelf.specs.Held.{files_in, all_paths, draft_in, is_put};
+ghost use Rattle.mt_shelf.specs.Held.{files_in, all_paths, AllDiffer, draft_in, is_put};
 ghost use Rattle.mt_shelf.specs.State.{State, Drops, files_of};
 
 use crate::bytes::{copy_bytes, copy_some, rest_from};
@@ -26,17 +26,21 @@ pub struct SureShelf {
     most: usize,
     ghost some: { 0 < most },
     ghost paths: { all_paths files.items ≡ true },
+    ghost names: { AllDiffer files.items },
     ghost puts: { list_all (is_put target.items) draft.items ≡ true },
     ghost target_path: { begun ≡ true → is_file_path target.items ≡ true },
 }
 
 impl SureShelf {
+    /// Holds the files, whose names are different paths; a read gives at most `most` bytes.
     pub fn new(alloc: Global, files: List<FileBytes>, most: usize) -> SureShelf
         requires most { 0 < most }
         requires paths { all_paths files ≡ true }
+        requires names { AllDiffer files }
         ensures files { files_of (⟦<SureShelf as Shelf>⟧.state result) ≡ Some (files_in files) }
         ensures begun { (⟦<SureShelf as Shelf>⟧.state result).begun ≡ false }
         ensures taken { (⟦<SureShelf as Shelf>⟧.state result).taken ≡ 0 }
+        ensures faults { ⟦<SureShelf as Shelf>⟧.faults result ≡ 0 }
     {
         SureShelf {
             alloc,
@@ -49,20 +53,22 @@ impl SureShelf {
         }
     }
 
-    /// Each file once.
+    /// Shows each file once, in no stated order.
     pub fn held(&self) -> &[FileBytes]
-        ensures { files_of (⟦<SureShelf as Shelf>⟧.state self.now) ≡ Some (files_in result.now) }
+        ensures files { files_of (⟦<SureShelf as Shelf>⟧.state self.now) ≡ Some (files_in result.now) }
+        ensures once { AllDiffer result.now }
     {
         self.files.as_slice()
     }
 
+    /// The bytes that reads gave, together.
     pub fn bytes_taken(&self) -> u64
         ensures { result ≡ (⟦<SureShelf as Shelf>⟧.state self.now).taken }
     {
         self.taken
     }
 
-    // Drops the draft.
+    // Closes the draft, if one is open, and forgets its files.
     pub(crate) fn close(&mut self)
         ensures drops { Drops (⟦<SureShelf as Shelf>⟧.state self.old) (⟦<SureShelf as Shelf>⟧.state self.new) }
         ensures files { self.new.files ≡ self.old.files }

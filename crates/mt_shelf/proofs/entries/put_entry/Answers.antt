@@ -4,7 +4,7 @@ use Rattle.std.specs.Ordering.{nat_cmp}
 use Rattle.std.specs.declared.cmp.Ordering.TheVariants.{Less, Equal, Greater}
 use Rattle.mt_shelf.specs.Held.{with_entry}
 use Rattle.mt_shelf.specs.declared.file.Entry.{Entry}
-use Rattle.mt_shelf.proofs.Listing.{put_here, put_over, put_later, put_last, same_item, new_entry}
+use Rattle.mt_shelf.proofs.Listings.{put_here, put_over, put_later, put_last, same_item, new_entry}
 use Rattle.mt_shelf.proofs.entries.put_entry.Goals as goal
 
 pub returns-in-Less : goal.returns-in-Less

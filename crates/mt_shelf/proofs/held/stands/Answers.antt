@@ -1,7 +1,7 @@
 use Rattle.std.proofs.Common.{◌∙◌, sym}
 use Rattle.mt_shelf.specs.Paths.{is_at_or_below}
 use Rattle.mt_shelf.specs.KeptPaths.{keys_any}
-use Rattle.mt_shelf.proofs.Listing.{any-names}
+use Rattle.mt_shelf.proofs.Listings.{any-names}
 use Rattle.mt_shelf.proofs.held.stands.Goals as goal
 
 pub returns : goal.returns

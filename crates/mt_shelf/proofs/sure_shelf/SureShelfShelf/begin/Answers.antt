@@ -9,6 +9,7 @@ pub invariant_of-self : goal.invariant_of-self
 invariant_of-self c = record {
   some = search rules;
   paths = search rules;
+  names = search rules;
   puts = rw c.close.ensures.emptied refl;
   target_path = λ _. rw (c.in_ok-self.ensures, c.as_bytes.ensures.value) (is_file_path-from c.args.part.now c.utf8.part c.requires);
 }

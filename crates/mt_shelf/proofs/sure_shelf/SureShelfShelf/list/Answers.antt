@@ -3,7 +3,7 @@ use Rattle.mt_shelf.specs.Files.{IsListing, entries_below}
 use Rattle.mt_shelf.specs.Held.{files_in}
 use Rattle.mt_shelf.specs.KeptPaths.{known_paths}
 use Rattle.mt_shelf.specs.declared.file.Entry.{Entry}
-use Rattle.mt_shelf.proofs.Listing.{is_listing}
+use Rattle.mt_shelf.proofs.Listings.{is_listing}
 use Rattle.mt_shelf.proofs.sure_shelf.SureShelfShelf.list.Goals as goal
 
 pub returns-else-is_empty-clause-form : goal.returns-else-is_empty-clause-form

@@ -10,6 +10,7 @@ invariant_of-self c =
     record {
       some = search rules;
       paths = search rules;
+      names = search rules;
       puts = puts_either (is_ok c.push.result) c.args.self.now.target.items c.args.self.now.draft.items c.push.new.self.items c.in-Ok.file c.push.ensures.items c.args.self.now.puts
           (is_put-joined_path c.args.self.now.target.items c.args.name.now c.in-Ok.file named (c.args.self.now.target_path c.requires.begun) c.utf8.name c.requires.name);
       target_path = c.args.self.now.target_path;

@@ -6,19 +6,19 @@ use Rattle.std.proofs.lemmas.List.{take_all}
 use Rattle.std.proofs.Math.Dec.{T}
 use Rattle.std.specs.Cmp.{tied_itself, nat_cmp_total}
 use Rattle.std.specs.Option.{option_map}
-use Rattle.std.specs.FinMap.Entries.{below_all, is_sorted-put}
+use Rattle.std.specs.FinMap.Entries.{below_all}
 use Rattle.std.proofs.lemmas.Option.{slice_get_read}
 use Rattle.std.proofs.lemmas.Cmp.{nat_list_cmp_total}
 use Rattle.std.proofs.lemmas.Map.Lookups.{exact_bytes}
 use Rattle.std.specs.FinMap.{put, is_sorted, entries, entries-insert, entries_sorted}
+use Rattle.std.specs.BTreeMap.Comparable.{le_lt_trans}
 use Rattle.mt_shelf.specs.Paths.{joined_path, name_below, is_path, is_relative}
 use Rattle.std.specs.Str.{is_utf8, IsUtf8}
-use Rattle.std.proofs.lemmas.Str.{is_utf8-from_IsUtf8}
-use Rattle.mt_shelf.specs.Files.{Files, entry_of, entries_below, is_file_path, HasPaths, IsListing}
+use Rattle.mt_shelf.specs.Files.{Files, entry_of, entries_below, is_file_path, HasPaths, IsListing, is_before}
 use Rattle.mt_shelf.proofs.Puts.{joined_below, first_true, second_true, both_true, good_name_below}
 use Rattle.mt_shelf.specs.KeptPaths.{entries-empty}
 use Rattle.std.specs.List.{list_any, list_all, insert, filter_map, cons_option}
-use Rattle.std.specs.Ordering.{nat_cmp, ordering_then, is_lt}
+use Rattle.std.specs.Ordering.{nat_cmp, ordering_then, is_lt, is_le}
 use Rattle.std.specs.Cmp.Lexicographic.{slice_cmp}
 use Rattle.std.specs.declared.cmp.Ordering.{Ordering}
 use Rattle.std.specs.declared.cmp.Ordering.TheVariants.{Less, Equal, Greater}
@@ -228,29 +228,33 @@ is_listing part files utf8 form paths = record {
   rising = true_from_T _ (rising-shown part (entries files) (entries_sorted files));
 }
 
-keyed-put : (name : List ℕ) (size : ℕ) (es : List Entry) → map keyed (with_entry name size es) ≡ put (slice_cmp nat_cmp) name size (map keyed es)
-keyed-put name size [] = refl
-keyed-put name size (e ∷ es) = elim (slice_cmp nat_cmp name e.name) as (λ o. map keyed (by_order o (new_entry name size ∷ e ∷ es) (new_entry e.name size ∷ es) (e ∷ with_entry name size es)) ≡ by_order o ((name, size) ∷ keyed e ∷ map keyed es) ((e.name, size) ∷ map keyed es) (keyed e ∷ put (slice_cmp nat_cmp) name size (map keyed es))) [
-  | Less ↦ refl
-  | Equal ↦ refl
-  | Greater ↦ ap (λ (l : List (List ℕ × ℕ)). keyed e ∷ l) (keyed-put name size es)
-]
-
 T_from_true : (b : Bool) → b ≡ true → T b
-T_from_true b e = subst T (sym e) tt
+T_from_true b is = subst T (sym is) tt
 
-good-put : (name : List ℕ) (size : ℕ) (es : List Entry) → (is_utf8 name && is_relative name) ≡ true → list_all good_name es ≡ true → list_all good_name (with_entry name size es) ≡ true
-good-put name size [] good all = both_true (is_utf8 name && is_relative name) true good refl
-good-put name size (e ∷ es) good all = by_cmp (slice_cmp nat_cmp name e.name) (good-put name size es good (second_true (good_name e) (list_all good_name es) all))
-  where
-    by_cmp : (o : Ordering) → list_all good_name (with_entry name size es) ≡ true → list_all good_name (by_order o (new_entry name size ∷ e ∷ es) (new_entry e.name size ∷ es) (e ∷ with_entry name size es)) ≡ true
-    by_cmp Less later = both_true (is_utf8 name && is_relative name) (good_name e && list_all good_name es) good all
-    by_cmp Equal later = all
-    by_cmp Greater later = both_true (good_name e) (list_all good_name (with_entry name size es)) (first_true (good_name e) (list_all good_name es) all) later
+-- what lies above a name lies above each lesser one
+widened : (k q : List ℕ) → slice_cmp nat_cmp k q ≡ Less → (es : List (List ℕ × ℕ)) → T (below_all (slice_cmp nat_cmp) q es) → T (below_all (slice_cmp nat_cmp) k es)
+widened k q less [] all = tt
+widened k q less (e ∷ es) all =
+    let later : slice_cmp nat_cmp q e.0 ≡ Less = is_less (slice_cmp nat_cmp q e.0) (first (is_lt (slice_cmp nat_cmp q e.0)) (below_all (slice_cmp nat_cmp) q es) all) in
+    both (is_lt (slice_cmp nat_cmp k e.0)) (below_all (slice_cmp nat_cmp) k es)
+    (less_is (slice_cmp nat_cmp k e.0) (le_lt_trans nat_list_cmp_total k q e.0 (ap is_le less) later))
+    (widened k q less es (second (is_lt (slice_cmp nat_cmp q e.0)) (below_all (slice_cmp nat_cmp) q es) all))
 
--- a good name keeps the form of a listing
-pub listing-put : (name : List ℕ) (size : ℕ) (es : List Entry) → IsUtf8 name → is_relative name ≡ true → IsListing es → IsListing (with_entry name size es)
-listing-put name size es utf8 form listing = record {
-  names = good-put name size es (both_true (is_utf8 name) (is_relative name) (is_utf8-from_IsUtf8 name utf8) form) listing.names;
-  rising = true_from_T _ (subst (λ (l : List (List ℕ × ℕ)). T (is_sorted (slice_cmp nat_cmp) l)) (sym (keyed-put name size es)) (is_sorted-put (slice_cmp nat_cmp) nat_list_cmp_total name size (map keyed es) (T_from_true _ listing.rising)));
-}
+-- a lesser name in front of names that rise
+rising_cons : (e : Entry) (es : List Entry) → is_before e es ≡ true → is_sorted (slice_cmp nat_cmp) (map keyed es) ≡ true → is_sorted (slice_cmp nat_cmp) (map keyed (e ∷ es)) ≡ true
+rising_cons e [] less rising = refl
+rising_cons e (f ∷ es) less rising =
+    let lt : T (is_lt (slice_cmp nat_cmp e.name f.name)) = T_from_true (is_lt (slice_cmp nat_cmp e.name f.name)) less in
+    let sorted : T (below_all (slice_cmp nat_cmp) f.name (map keyed es) && is_sorted (slice_cmp nat_cmp) (map keyed es)) = T_from_true _ rising in
+    let all : T (below_all (slice_cmp nat_cmp) f.name (map keyed es)) = first (below_all (slice_cmp nat_cmp) f.name (map keyed es)) (is_sorted (slice_cmp nat_cmp) (map keyed es)) sorted in
+    true_from_T _ (both (below_all (slice_cmp nat_cmp) e.name (map keyed (f ∷ es))) (is_sorted (slice_cmp nat_cmp) (map keyed (f ∷ es)))
+    (both (is_lt (slice_cmp nat_cmp e.name f.name)) (below_all (slice_cmp nat_cmp) e.name (map keyed es)) lt (widened e.name f.name (is_less (slice_cmp nat_cmp e.name f.name) lt) (map keyed es) all))
+    sorted)
+
+-- one entry more, by its index
+pub rising_from : (entries : List Entry) (i j : ℕ) (e : Entry) → i ≡ suc j → j < length entries → e ≡ get_or entries j e → is_before e (drop i entries) ≡ true
+    → is_sorted (slice_cmp nat_cmp) (map keyed (drop i entries)) ≡ true → is_sorted (slice_cmp nat_cmp) (map keyed (drop j entries)) ≡ true
+rising_from entries i j e next inside is less rising =
+    let P : List Entry → Type 0 = λ es. is_sorted (slice_cmp nat_cmp) (map keyed es) ≡ true in
+    let rest : e ∷ drop i entries ≡ drop j entries = ap (λ (n : ℕ). e ∷ drop n entries) next ∙ ap (λ (x : Entry). x ∷ drop (suc j) entries) is ∙ sym (drop-cons entries j e inside) in
+    subst P rest (rising_cons e (drop i entries) less rising)
