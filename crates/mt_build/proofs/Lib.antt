@@ -1,3 +1,5 @@
+pub mod GranuleLemmas
 pub mod ItemLemmas
 pub mod OrderLemmas
+pub mod SizeLemmas
 pub mod StableLemmas

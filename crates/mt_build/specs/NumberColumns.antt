@@ -1,7 +1,9 @@
 -- Columns of unsigned integers, of any width: the columns that the writer serves.
 use Rattle.std.specs.Prelude.{◌≡◌, ℕ, List, All, IsTrue}
+use Rattle.std.specs.List.{sum_by}
 use Rattle.std.specs.Int.{to_le_bytes}
-use Rattle.mt_types.specs.declared.ty.Ty.{Ty}
+use Rattle.mt_types.specs.declared.ty.Ty.{Ty, out-Ty}
+use Rattle.mt_types.specs.declared.ty.Ty.TheOpen.{Ty-F}
 use Rattle.mt_types.specs.declared.ty.Ty.TheVariants.{UInt}
 use Rattle.mt_types.specs.declared.ty.Width.{Width}
 use Rattle.mt_types.specs.declared.ty.Width.TheVariants.{W8, W16, W32, W64}
@@ -16,6 +18,18 @@ item_size W8 = 1
 item_size W16 = 2
 item_size W32 = 4
 item_size W64 = 8
+
+abbrev pub type_size_at : {X : Type 0} → Ty-F X → ℕ
+type_size_at (Ty-F.UInt width) = item_size width
+type_size_at _ = 0
+
+-- the bytes of an item of a type, 0 where the type is another
+abbrev pub type_size : Ty → ℕ
+type_size ty = type_size_at (out-Ty ty)
+
+-- the bytes of a row's items
+abbrev pub row_size : List Column → ℕ
+row_size columns = sum_by (λ column. type_size column.ty) columns
 
 -- a number in little-endian bytes
 abbrev pub number_bytes : Width → ℕ → List ℕ

@@ -7,13 +7,13 @@ ghost use Rattle.mt_types.specs.Fits.{fits_of};
 ghost use Rattle.mt_types.specs.Items.{item_bytes};
 ghost use Rattle.mt_defs.specs.Rows.{cell, column_values};
 ghost use Rattle.mt_build.specs.NumberColumns.{HasNumbers, number_bytes};
-ghost use Rattle.mt_build.specs.NumberColumns as columns;
+ghost use Rattle.mt_build.specs.NumberColumns as defined;
 
 use mt_types::{NoMemory, Row, Value, Width};
 
 /// The bytes of an item.
 pub fn item_size(width: Width) -> usize
-    ensures { result ≡ columns.item_size width }
+    ensures { result ≡ defined.item_size width }
 {
     match width {
         Width::W8 => 1,

@@ -6,6 +6,7 @@
 
 
 
+mod granules;
 mod items;
 mod names;
 mod sorting;
