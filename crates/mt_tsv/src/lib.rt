@@ -12,6 +12,7 @@ mod digits;
 mod escape;
 mod fault;
 mod field;
+mod law;
 mod level;
 mod limits;
 mod line;
@@ -27,6 +28,7 @@ mod text;
 mod writing;
 
 pub use fault::{RowError, RowWhy};
+pub use law::written_rows_are_read;
 pub use limits::{MAX_CELLS, MAX_ROWS};
 pub use rows::read_rows;
 pub use writing::write_row;

@@ -1,0 +1,5 @@
+use Rattle.mt_tsv.proofs.WrittenRows.{rows_text_again}
+use Rattle.mt_tsv.proofs.law.written_rows_are_read.Goals as goal
+
+pub returns : goal.returns
+returns c = λ columns rows some types all within cells. rows_text_again columns rows some types all within cells
