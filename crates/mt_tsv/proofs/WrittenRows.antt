@@ -1,11 +1,10 @@
 -- Written rows are read again.
 use Rattle.std.proofs.Common.{◌≡◌, ℕ, suc, ◌+◌, ◌-◌, ◌<◌, ◌≤◌, Bool, true, false, cond, eqb, leb, ltb, ◌&&◌, ◌||◌, List, [], ◌∷◌, ◌++◌, length, Ok, refl, sym, ap, ◌∙◌, append_assoc, arith, inl, inr}
 use Rattle.std.specs.Prelude.{nat_le}
-use Rattle.std.specs.List.{join_with_byte, list_all, sum_by, AllByRecursion}
+use Rattle.std.specs.List.{join_with_byte, list_all, AllByRecursion}
 use Rattle.std.proofs.lemmas.Bool.{cases_Bool, ne_eqb, le-leb, lt-ltb}
 use Rattle.std.proofs.lemmas.List.Elements.{All-from_recursion}
 use Rattle.std.proofs.lemmas.List.Splits.{slice_split_at, slice_split_none}
-use Rattle.std.proofs.lemmas.List.Sums.{sum_by-cons}
 use Rattle.mt_types.specs.declared.ty.Ty.{Ty, out-Ty, map-Ty}
 use Rattle.mt_types.specs.declared.ty.Ty.TheOpen.{Ty-F}
 use Rattle.mt_types.specs.declared.ty.Ty.TheFolds.{fold_out-Ty}
@@ -21,9 +20,11 @@ use Rattle.mt_tsv.specs.Scalars.{scalar_of}
 use Rattle.mt_tsv.specs.Fields.{field_at, field_of}
 use Rattle.mt_tsv.specs.Cells.{cells_of}
 use Rattle.mt_tsv.specs.Printing.{scalar_text_at, scalar_text, field_text_at, field_text, field_texts, row_text, rows_text}
-use Rattle.mt_tsv.specs.Writable.{is_column_kind, is_column_type, RowFits}
+use Rattle.mt_tsv.specs.Writable.{is_column_kind, is_column_type}
+use Rattle.mt_table.specs.Rows.{RowFits, cell_count}
 use Rattle.mt_tsv.specs.Reading.{values_of, fields, row_of, lines, rows_of, rows_reading}
 use Rattle.mt_tsv.proofs.Lines.{row_is, rows_step}
+use Rattle.mt_tsv.proofs.RowLimits.{cells_more}
 use Rattle.mt_tsv.proofs.WrittenTexts.{IsClean}
 use Rattle.mt_tsv.proofs.WrittenValues.{IsScalar, is_scalar_kind, uint_again, int_again, fixed_again, string_again, date_scalar, array_column, no_state, ok_value, null_value, list_value, array_value, written}
 
@@ -178,7 +179,13 @@ line_again (column ∷ columns) (value ∷ row) some c h =
 
 -- ---- rows
 
-rows_again : (columns : List Column) (before room : ℕ) (rows : List (List Value)) → 0 < length columns → Columns columns → AllByRecursion (RowFits columns) rows → before + length rows ≤ MAX_ROWS → sum_by cells_of rows ≤ room
+row_length : (columns : List Column) (row : List Value) → RowFits columns row → length row ≡ length columns
+row_length [] [] h = refl
+row_length [] (value ∷ row) h = absurd h
+row_length (column ∷ columns) [] h = absurd h
+row_length (column ∷ columns) (value ∷ row) h = ap suc (row_length columns row h.1)
+
+rows_again : (columns : List Column) (before room : ℕ) (rows : List (List Value)) → 0 < length columns → Columns columns → AllByRecursion (RowFits columns) rows → before + length rows ≤ MAX_ROWS → cell_count columns rows ≤ room
     → rows_of columns before room (lines (rows_text columns rows)) ≡ Ok rows
 unfolding rows_of row_text
 rows_again columns before room [] some c all within cells = refl
@@ -187,12 +194,12 @@ rows_again columns before room (row ∷ rows) some c all within cells =
     let l = line_again columns row some c all.0 in
     let whole : lines (rows_text columns (row ∷ rows)) ≡ line ∷ lines (rows_text columns rows) =
     ap lines (append_assoc line (10 ∷ []) (rows_text columns rows)) ∙ slice_split_at (λ b. eqb b 10) line 10 (rows_text columns rows) (All-from_recursion (λ b. eqb b 10 ≡ false) line l.1) refl in
-    let sum = sum_by-cons cells_of row rows in
+    let sum = cells_more columns row rows (row_length columns row all.0) in
     let fits : leb (cells_of row) room ≡ true = le-leb (cells_of row) room (omega (arith, sum)) in
     let more = rows_again columns (before + 1) (room - cells_of row) rows some c all.1 (omega arith) (omega (arith, sum)) in
     rows_step columns before room (lines (rows_text columns (row ∷ rows))) line (rows_text columns rows) (λ b. eqb b 10) whole ∙ rw (l.0, lt-ltb before MAX_ROWS (omega arith), fits, more) refl
 
-pub rows_text_again : (columns : List Column) (rows : List (List Value)) → 0 < length columns → AllByRecursion (λ column. is_column_type column.ty ≡ true) columns → AllByRecursion (RowFits columns) rows → length rows ≤ MAX_ROWS → sum_by cells_of rows ≤ MAX_CELLS
+pub rows_text_again : (columns : List Column) (rows : List (List Value)) → 0 < length columns → AllByRecursion (λ column. is_column_type column.ty ≡ true) columns → AllByRecursion (RowFits columns) rows → length rows ≤ MAX_ROWS → cell_count columns rows ≤ MAX_CELLS
     → rows_reading columns (rows_text columns rows) ≡ Ok rows
 unfolding rows_reading
 rows_text_again columns rows some c all within cells = rows_again columns 0 MAX_CELLS rows some c all (omega arith) cells

@@ -17,7 +17,7 @@ use Rattle.mt_types.specs.Fits.{Level, bits, is_unsigned, is_signed, num_at, tex
 use Rattle.mt_types.specs.Profile.{Kind, Whole, Day, Bytes, Stored, Unknown, optional_kind, array_kind, state_kind, kind_of, kind_step}
 use Rattle.mt_tsv.specs.declared.fault.RowWhy.{RowWhy}
 use Rattle.mt_tsv.specs.declared.ascii.TheConstants.{OPEN, CLOSE, COMMA, QUOTE}
-use Rattle.mt_tsv.specs.declared.limits.TheConstants.{MAX_TEXT, MAX_ITEMS}
+use Rattle.mt_types.specs.declared.limits.TheConstants.{MAX_TEXT, MAX_ELEMENTS}
 use Rattle.mt_tsv.specs.declared.nesting.Nesting.TheVariants.{Outside, InQuotes}
 use Rattle.mt_tsv.specs.Nesting.{after, is_comma}
 use Rattle.mt_tsv.specs.Scalars.{scalar_at, number_value}
@@ -241,7 +241,7 @@ pub record IsArray (element : Element) (text : List ℕ) (value : Value) : Type 
   pub ends : HasEnds text
   pub clean : IsClean text
 
-pub array_again : (element : Element) (text : Value → List ℕ) (items : List Value) (value : Value) → Items items ≡ value → length items ≤ MAX_ITEMS → AreWritten element text items
+pub array_again : (element : Element) (text : Value → List ℕ) (items : List Value) (value : Value) → Items items ≡ value → length items ≤ MAX_ELEMENTS → AreWritten element text items
     → IsArray element (OPEN ∷ (join_with_byte COMMA (map text items) ++ CLOSE ∷ [])) value
 array_again element text items value is fits h =
     let texts = map text items in
