@@ -1,7 +1,7 @@
 //! What is written is read again.
 
 ghost use Rattle.std.specs.Prelude.{◌≡◌, ◌<◌, ◌≤◌, List, length, true, Ok};
-ghost use Rattle.std.specs.List.{AllByRecursion};
+ghost use Rattle.std.specs.List.{All};
 ghost use Rattle.mt_types.specs.declared.value.Value.{Value};
 ghost use Rattle.mt_table.specs.declared.column.Column.{Column};
 ghost use Rattle.mt_tsv.specs.declared.limits.TheConstants.{MAX_ROWS, MAX_CELLS};
@@ -14,8 +14,8 @@ ghost use Rattle.mt_tsv.specs.Writable.{is_column_type};
 /// are read as these rows.
 pub fn written_rows_are_read()
     ensures { (columns : List Column) (rows : List (List Value))
-        → 0 < length columns → AllByRecursion (λ column. is_column_type column.ty ≡ true) columns
-        → AllByRecursion (RowFits columns) rows
+        → 0 < length columns → All (λ column. is_column_type column.ty ≡ true) columns
+        → All (RowFits columns) rows
         → length rows ≤ MAX_ROWS → cell_count columns rows ≤ MAX_CELLS
         → rows_reading columns (rows_text columns rows) ≡ Ok rows }
 {}

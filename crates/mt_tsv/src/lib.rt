@@ -19,8 +19,10 @@ mod line;
 mod nesting;
 mod number;
 mod print;
+mod quote;
 mod rows;
 mod scalar;
+mod space;
 mod split;
 #[cfg(test)]
 mod tests;
