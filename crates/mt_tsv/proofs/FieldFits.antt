@@ -1,27 +1,24 @@
 -- What is read of a field is a value of the column's type.
-use Rattle.std.proofs.Common.{◌≡◌, ℕ, ◌+◌, ◌-◌, ◌<◌, ◌≤◌, ℤ, pos, ◌^◌, List, [], ◌∷◌, ◌++◌, length, map, Result, Ok, Err, Option, Some, None, Bool, true, false, refl, sym, ap, ◌∙◌, subst, arith, ltb, leb, eqb, inl, inr}
-use Rattle.std.specs.Prelude.{replicate, ◌&&◌, ◌||◌, option_and_then, negsuc, if◌then◌else◌}
+use Rattle.std.proofs.Common.{◌≡◌, ℕ, ◌-◌, ℤ, pos, ◌^◌, List, [], ◌∷◌, ◌++◌, length, Result, Ok, Err, Option, Some, None, Bool, true, false, refl, sym, ap, ◌∙◌, subst, arith, ltb, leb}
+use Rattle.std.specs.Prelude.{replicate, ◌||◌, option_and_then, negsuc, if◌then◌else◌}
 use Rattle.std.specs.List.{list_all}
-use Rattle.std.proofs.lemmas.Bool.{cases_Bool, and_from, leb-true, eq-eqb}
+use Rattle.std.proofs.lemmas.Bool.{and_from, leb-true, eq-eqb}
 use Rattle.std.proofs.lemmas.List.{length-append, length-replicate}
 use Rattle.jiff_core.specs.Calendar.{days_from_civil}
-use Rattle.mt_types.specs.declared.ty.Width.{Width}
 use Rattle.mt_types.specs.declared.ty.Ty.{Ty, map-Ty, out-Ty, roll-Ty}
 use Rattle.mt_types.specs.declared.ty.Ty.TheOpen.{Ty-F}
 use Rattle.mt_types.specs.declared.ty.Ty.TheFolds.{fold_out-Ty, fold-roll-Ty, ind-Ty}
-use Rattle.mt_types.specs.declared.ty.Ty.TheViews.{roll-out-Ty, out-roll-Ty}
-use Rattle.mt_types.specs.declared.value.Value.{Value, out-Value}
-use Rattle.mt_types.specs.declared.value.Value.TheOpen.{Value-F}
+use Rattle.mt_types.specs.declared.value.Value.{Value}
 use Rattle.mt_types.specs.declared.value.Value.TheVariants.{Num, Text, List as Items, Null as NullValue, outs-Num, outs-Text, outs-Null, outs-List}
 use Rattle.mt_types.specs.Fits.{fits_of, fits_step, bits, is_unsigned, is_signed}
 use Rattle.mt_tsv.specs.declared.fault.RowWhy.{RowWhy}
-use Rattle.mt_tsv.specs.declared.fault.RowWhy.TheVariants.{Number, Range, Date, Null, TooLong, List as BadList}
+use Rattle.mt_tsv.specs.declared.fault.RowWhy.TheVariants.{Range, Null, TooLong, List as BadList}
 use Rattle.mt_types.specs.declared.limits.TheConstants.{MAX_TEXT, MAX_ELEMENTS}
-use Rattle.mt_tsv.specs.Steps.{◌>>=◌, unless_bad, onto}
+use Rattle.mt_tsv.specs.Steps.{◌>>=◌}
 use Rattle.mt_tsv.specs.Texts.{text_of, bounded_text, padded_text}
 use Rattle.mt_tsv.specs.Scalars.{integer_of, number_of, number_value, day_of, scalar_at, scalar_of}
 use Rattle.mt_tsv.specs.Dates.{date_of, day_number, day_in_type, is_date, two_digits_at}
-use Rattle.mt_tsv.specs.Arrays.{Element, element_of, element_step, array_of, items_of, level_of, is_null_word, scalar_element, needs_quotes, middle}
+use Rattle.mt_tsv.specs.Arrays.{Element, element_of, element_step, array_of, items_of, level_of, is_null_word, middle}
 use Rattle.mt_tsv.specs.Fields.{field_of, field_at, is_null, unless_null}
 use Rattle.mt_tsv.proofs.RowLimits.{then_ok, passed, onto_ok}
 

@@ -12,3 +12,9 @@ pub mod Walk
 pub mod RowLimits
 pub mod FieldFits
 pub mod RowsFit
+pub mod Walks
+pub mod WrittenTexts
+pub mod WrittenElements
+pub mod WrittenDates
+pub mod WrittenValues
+pub mod WrittenRows

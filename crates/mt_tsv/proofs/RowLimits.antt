@@ -1,8 +1,8 @@
 -- The rows that are read are few enough, and so are their cells.
-use Rattle.std.proofs.Common.{◌≡◌, ◌≢◌, ℕ, zero, suc, ◌+◌, ◌-◌, ◌*◌, ◌<◌, ◌≤◌, List, [], ◌∷◌, length, Result, Ok, Err, Option, Some, None, Bool, true, false, cond, All, eqb, subst, refl, sym, ap, ◌∙◌, arith, ltb, leb, inl, inr}
+use Rattle.std.proofs.Common.{◌≡◌, ◌≢◌, ℕ, suc, ◌+◌, ◌-◌, ◌*◌, ◌<◌, ◌≤◌, List, [], ◌∷◌, length, Result, Ok, Err, Option, Some, None, Bool, true, false, All, eqb, subst, refl, sym, ap, ◌∙◌, arith, ltb, leb, inl, inr}
 use Rattle.std.specs.List.{sum_by}
 use Rattle.std.proofs.lemmas.Bool.{cases_Bool, leb-true, ltb-true, eqb-true}
-use Rattle.std.specs.List.{slice_split, join_with_byte}
+use Rattle.std.specs.List.{join_with_byte}
 use Rattle.std.proofs.lemmas.List.Elements.{All-nil, All-cons}
 use Rattle.std.proofs.lemmas.List.Splits.{join_with_byte-slice_split}
 use Rattle.std.proofs.lemmas.List.Sums.{sum_by-cons}
@@ -123,7 +123,7 @@ row_length columns line values e =
 times_more : (a b : ℕ) → suc a * b ≡ b + a * b
 times_more a b = omega arith
 
-cells_more : (columns : List Column) (values : List Value) (others : List (List Value)) → length values ≡ length columns → cell_count columns (values ∷ others) ≡ cells_of values + cell_count columns others
+pub cells_more : (columns : List Column) (values : List Value) (others : List (List Value)) → length values ≡ length columns → cell_count columns (values ∷ others) ≡ cells_of values + cell_count columns others
 cells_more columns values others is =
     omega (arith, sum_by-cons (λ row. sum_by element_count row) values others, times_more (length others) (length columns), is)
 

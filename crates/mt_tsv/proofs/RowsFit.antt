@@ -1,5 +1,5 @@
 -- Each row that is read has one value of its type per column.
-use Rattle.std.proofs.Common.{◌≡◌, ℕ, suc, List, [], ◌∷◌, length, Result, Ok, refl, sym, subst, arith, All, eqb}
+use Rattle.std.proofs.Common.{◌≡◌, ℕ, List, [], ◌∷◌, length, Ok, sym, subst, arith, All, eqb}
 use Rattle.std.proofs.lemmas.Bool.{eqb-true}
 use Rattle.mt_types.specs.declared.value.Value.{Value}
 use Rattle.mt_table.specs.declared.column.Column.{Column}

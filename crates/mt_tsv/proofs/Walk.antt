@@ -55,12 +55,12 @@ month_walk (suc months) year month days one sum lt =
     ]
 
 -- a day of the calendar by its parts, and its number
-record IsDay (day y m d : ℕ) : Type 0 where
-  year : y < 2150
-  civil : IsCivilDate (pos y) m d
-  number : days_from_civil (pos y) m d ≡ pos day
+pub record IsDay (day y m d : ℕ) : Type 0 where
+  pub year : y < 2150
+  pub civil : IsCivilDate (pos y) m d
+  pub number : days_from_civil (pos y) m d ≡ pos day
 
-walked : (day : ℕ) → day < 65536 → (let r = civil_of day in IsDay day r.0 r.1.0 r.1.1)
+pub walked : (day : ℕ) → day < 65536 → (let r = civil_of day in IsDay day r.0 r.1.0 r.1.1)
 unfolding civil_of days_from_civil
 walked day lt =
     let r = year_walk 180 1970 day (omega arith) in

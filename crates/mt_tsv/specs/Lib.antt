@@ -7,4 +7,5 @@ pub mod Nesting
 pub mod Arrays
 pub mod Printing
 pub mod Fields
+pub mod Writable
 pub mod Reading

@@ -5,7 +5,8 @@ ghost use Rattle.mt_tsv.specs.Steps.{Gives};
 ghost use Rattle.mt_tsv.specs.Arrays.{array_of, element_of};
 
 use crate::fault::{FieldError, RowWhy};
-use crate::level::{cut_element, is_null_word, middle, read_level};
+use crate::level::{cut_element, middle, read_level};
+use crate::quote::is_null_word;
 use crate::scalar::read_scalar;
 use mt_types::{List, MAX_ELEMENTS, Ty, Value};
 use std::alloc::Global;

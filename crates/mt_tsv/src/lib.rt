@@ -12,13 +12,16 @@ mod digits;
 mod escape;
 mod fault;
 mod field;
+mod law;
 mod level;
 mod line;
 mod nesting;
 mod number;
 mod print;
+mod quote;
 mod rows;
 mod scalar;
+mod space;
 mod split;
 #[cfg(test)]
 mod tests;
@@ -26,6 +29,7 @@ mod text;
 mod writing;
 
 pub use fault::{RowError, RowWhy};
+pub use law::written_rows_are_read;
 pub use mt_table::{MAX_CELLS, MAX_ROWS};
 pub use rows::read_rows;
 pub use writing::write_row;

@@ -38,7 +38,8 @@ fn append_scalar(out: &mut List<u8>, ty: &Ty, value: &Value) -> Result<(), NoMem
 }
 
 fn append_quoted(out: &mut List<u8>, ty: &Ty, value: &Value) -> Result<(), NoMemory>
-    ensures { OnOk result (out.new ≡ out.old ++ (QUOTE ∷ (scalar_text ty.now value.now ++ QUOTE ∷ []))) }
+    ensures { OnOk result
+        (out.new ≡ out.old ++ (QUOTE ∷ (scalar_text ty.now value.now ++ QUOTE ∷ []))) }
 {
     out.append(&[QUOTE])?;
     append_scalar(out, ty, value)?;
@@ -68,7 +69,8 @@ fn append_element(out: &mut List<u8>, ty: &Ty, value: &Value) -> Result<(), NoMe
 /// Appends elements between brackets.
 #[cycle(print)]
 fn append_array(out: &mut List<u8>, inner: &Ty, items: &[Value]) -> Result<(), NoMemory>
-    ensures { OnOk result (out.new ≡ out.old ++ (OPEN ∷ (join_with_byte COMMA (map (element_text inner.now) items.now) ++ CLOSE ∷ []))) }
+    ensures { let texts = map (element_text inner.now) items.now in OnOk result
+        (out.new ≡ out.old ++ (OPEN ∷ (join_with_byte COMMA texts ++ CLOSE ∷ []))) }
 {
     out.append(&[OPEN])?;
     for (i, item) in items.iter().enumerate() {

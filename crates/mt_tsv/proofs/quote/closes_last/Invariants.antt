@@ -1,7 +1,7 @@
 use Rattle.std.proofs.Common.{◌≡◌, ◌≤◌, drop}
 use Rattle.mt_tsv.specs.declared.nesting.Nesting.TheVariants.{InQuotes}
 use Rattle.mt_tsv.specs.Nesting.{closes_last, depth_of}
-use Rattle.mt_tsv.proofs.level.closes_last.Given as goal
+use Rattle.mt_tsv.proofs.quote.closes_last.Given as goal
 
 abbrev pub invariant-loop-i : goal.invariant-loop-i
 invariant-loop-i l = record {
