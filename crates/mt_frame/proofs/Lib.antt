@@ -1,0 +1,4 @@
+pub mod StepLemmas
+pub mod FrameLemmas
+pub mod HeaderLemmas
+pub mod LoopLemmas

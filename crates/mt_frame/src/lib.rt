@@ -1,0 +1,14 @@
+//! Frames: the uncompressed blocks that data files are made of.
+//!
+//! Any bytes are read: `frames_of` gives the frames of a file, or the first offset where none stands.
+#![tactic(auto)]
+
+mod fault;
+mod frames;
+mod header;
+mod reading;
+
+pub use fault::{FrameError, FrameWhy};
+pub use frames::Frames;
+pub use mt_defs::Frame;
+pub use reading::frames_of;
