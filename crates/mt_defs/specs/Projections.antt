@@ -9,7 +9,6 @@ use Rattle.mt_types.specs.declared.value.AggState.{AggState}
 use Rattle.mt_types.specs.declared.value.Value.{Value, out-Value}
 use Rattle.mt_types.specs.declared.value.Value.TheOpen.{Value-F}
 use Rattle.mt_types.specs.Order.{values_cmp}
-use Rattle.mt_types.specs.Names.{agg_name}
 use Rattle.mt_table.specs.declared.column.Column.{Column}
 use Rattle.mt_table.specs.declared.definition.Table.{Table}
 use Rattle.mt_table.specs.declared.definition.PartDef.{PartDef}
@@ -36,11 +35,17 @@ abbrev pub index_in : List ℕ → ℕ → ℕ
 index_in [] i = 0
 index_in (j ∷ js) i = if j == i then 0 else index_in js i + 1
 
+-- the name of an aggregate function
+abbrev pub aggregate_word : Agg → List ℕ
+aggregate_word Sum = codes "sum"
+aggregate_word Min = codes "min"
+aggregate_word Max = codes "max"
+
 -- the column of an aggregate's states
 abbrev pub state_column : Table → Aggregate → Column
 state_column table Count = record { name = codes "count()"; ty = CountState }
 state_column table (Of agg i) =
-    record { name = agg_name agg ++ codes "(" ++ (column_at table.columns i).name ++ codes ")"; ty = StateOf agg (column_at table.columns i).ty }
+    record { name = aggregate_word agg ++ codes "(" ++ (column_at table.columns i).name ++ codes ")"; ty = StateOf agg (column_at table.columns i).ty }
 
 -- what a projection stores: its columns in the table's order, or its keys and then a state per aggregate
 abbrev pub inner_of : Table → Projection → PartDef

@@ -7,7 +7,7 @@ pub const CHECKSUM_BYTES: u64 = 16;
 pub const METHOD_NONE: u8 = 2;
 
 /// What a frame's first size counts besides its payload: the method byte and the two sizes.
-pub const SIZES_EXTRA: u64 = 9;
+pub const SIZES_EXTRA: u32 = 9;
 
 /// The bytes of a frame before its payload: checksum, method and two sizes.
 pub const HEADER_BYTES: u64 = 25;

@@ -1,4 +1,5 @@
-pub mod StepLemmas
 pub mod FrameLemmas
+pub mod StepLemmas
+pub mod BlockLemmas
 pub mod HeaderLemmas
 pub mod LoopLemmas

@@ -10,7 +10,7 @@ use Rattle.mt_defs.specs.declared.frame.TheConstants.{MAX_PAYLOAD}
 use Rattle.mt_frame.specs.FrameReading.{frame_reading, frames_from, frames_reading, layout_from, layout}
 use Rattle.mt_defs.specs.declared.frame.Frame.{Frame}
 use Rattle.mt_frame.proofs.StepLemmas.{ok_one}
-use Rattle.mt_frame.proofs.FrameLemmas.{front_shrinks, enough, frames_next, frames_none, frames_sound, BytesAt}
+use Rattle.mt_frame.proofs.BlockLemmas.{front_shrinks, enough, frames_next, frames_none, frames_sound, BytesAt}
 use Rattle.mt_frame.specs.EndToEnd.{lie_end_to_end}
 
 abbrev pub Read : Type 0

@@ -27,7 +27,7 @@ pub(crate) fn payload_len(bytes: &[u8]) -> Result<u64, FrameWhy>
     }
     let frame_size = u64::from(u32_at(bytes, FRAME_SIZE_OFFSET));
     let payload_size = u64::from(u32_at(bytes, PAYLOAD_SIZE_OFFSET));
-    if frame_size != payload_size + SIZES_EXTRA {
+    if frame_size != payload_size + u64::from(SIZES_EXTRA) {
         return Err(FrameWhy::Sizes);
     }
     if payload_size == 0 {
