@@ -22,7 +22,7 @@ BytesAt bytes = (i : ℕ) → slice_index bytes i < 256
 
 pub all_bytes : (bytes : List ℕ) → BytesAt bytes → AreBytes bytes
 all_bytes [] are = All-nil (λ byte. byte < 256)
-all_bytes (b ∷ bytes) are = All-cons (λ byte. byte < 256) b bytes (are 0) (all_bytes bytes (λ i. are (i + 1)))
+all_bytes (b ∷ bytes) are = All-cons (λ byte. byte < 256) b bytes (are 0) (all_bytes bytes (λ i. are (suc i)))
 
 -- what an accepted front fixes
 pub record Fronts (bytes : List ℕ) (c : Block) (rest : List ℕ) : Type 0 where

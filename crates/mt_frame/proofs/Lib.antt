@@ -3,3 +3,4 @@ pub mod StepLemmas
 pub mod BlockLemmas
 pub mod HeaderLemmas
 pub mod LoopLemmas
+pub mod BytesLemmas

@@ -1,7 +1,7 @@
 -- What a chain of steps says where it is Ok.
 use Rattle.std.proofs.Common.{◌≡◌, Bool, true, false, List, ◌∷◌, refl, ap, ◌&&◌}
 use Rattle.std.specs.Prelude.{Result, Ok, Err}
-use Rattle.mt_frame.specs.Steps.{◌>>=◌, require, at, blame, onto}
+use Rattle.mt_frame.specs.Steps.{◌>>=◌, require, at, onto}
 
 -- the first step is Ok, and so is what follows it
 pub ok_then : {A B E Z : Type 0} (r : Result A E) (f : A → Result B E) (y : B) → (r >>= f) ≡ Ok y → ((x : A) → r ≡ Ok x → f x ≡ Ok y → Z) → Z
@@ -11,10 +11,6 @@ ok_then (Err w) f y e next = cc
 pub required : {E B Z : Type 0} (b : Bool) (w : E) (f : Unit {0} → Result B E) (y : B) → (require b w >>= f) ≡ Ok y → (b ≡ true → f tt ≡ Ok y → Z) → Z
 required true w f y e next = next refl e
 required false w f y e next = cc
-
-pub blame_ok : {A E G : Type 0} (f : E → G) (r : Result A E) (y : A) → blame f r ≡ Ok y → r ≡ Ok y
-blame_ok {A} {E} f (Ok x) y e = ap (λ (z : A). let r : Result A E = Ok z in r) cc
-blame_ok f (Err w) y e = cc
 
 pub both_true : (a b : Bool) → (a && b) ≡ true → (a ≡ true) × (b ≡ true)
 both_true true b e = (refl, e)
