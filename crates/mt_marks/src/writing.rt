@@ -40,12 +40,14 @@ fn append_entry(entry: &[Mark], rows: u64, out: &mut List<u8>) -> Result<(), NoM
     for mark in entry {
         append_mark(mark, out)?;
     }
-    out.append(&rows.to_le_bytes())
+    out.append(&rows.to_le_bytes())?;
+    Ok(())
 }
 
 fn append_mark(mark: &Mark, out: &mut List<u8>) -> Result<(), NoMemory>
     ensures { OnOk result (out.new ≡ out.old ++ mark_bytes mark.now) }
 {
     out.append(&mark.offset.to_le_bytes())?;
-    out.append(&mark.inner.to_le_bytes())
+    out.append(&mark.inner.to_le_bytes())?;
+    Ok(())
 }
