@@ -1,2 +1,4 @@
 pub mod WritingLemmas
 pub mod RunLemmas
+pub mod PositionLemmas
+pub mod DenotedLemmas
