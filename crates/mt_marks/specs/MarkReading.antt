@@ -1,5 +1,5 @@
 -- The marks of a marks file, or the first broken rule and its granule: docs/FORMAT.md, "Marks".
-use Rattle.std.specs.Prelude.{ℕ, zero, suc, ◌+◌, ◌-◌, ◌*◌, ◌/◌, ◌%◌, ◌^◌, nat_lt, nat_le, ◌==◌, ◌&&◌, ◌||◌, not, Bool, true, false, if◌then◌else◌, List, [], ◌∷◌, length, map, take, drop, sum, Option, Some, None, Result, Ok, Err}
+use Rattle.std.specs.Prelude.{ℕ, zero, suc, ◌+◌, ◌*◌, ◌/◌, ◌%◌, ◌^◌, nat_lt, nat_le, ◌==◌, ◌&&◌, ◌||◌, not, Bool, true, false, if◌then◌else◌, List, [], ◌∷◌, length, map, take, drop, sum, Option, Some, None, Result, Ok, Err}
 use Rattle.std.specs.List.{flat_map}
 use Rattle.std.specs.Int.{w64, from_le_bytes}
 use Rattle.mt_shelf.specs.declared.fault.Why.{Why}
@@ -9,6 +9,7 @@ use Rattle.mt_frame.specs.declared.frames.Frames.{Frames}
 use Rattle.mt_frame.specs.Steps.{◌>>=◌, require, at}
 use Rattle.mt_marks.specs.declared.marks.Marks.{Marks}
 use Rattle.mt_marks.specs.declared.rules.Former.{Former}
+use Rattle.mt_marks.specs.Entries.{Entry}
 use Rattle.mt_marks.specs.Positions.{position_of}
 
 -- ---- the numbers as they stand
@@ -16,11 +17,6 @@ use Rattle.mt_marks.specs.Positions.{position_of}
 -- the little-endian number at an offset
 abbrev pub u64_at : ℕ → List ℕ → ℕ
 u64_at offset bytes = from_le_bytes w64 (take 8 (drop offset bytes))
-
--- an entry: the marks of a granule, and its rows
-pub record Entry : Type 0 where
-  pub marks : List Mark
-  pub rows : ℕ
 
 abbrev pub entry_len : ℕ → ℕ
 entry_len per_granule = 16 * per_granule + 8

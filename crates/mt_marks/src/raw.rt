@@ -1,6 +1,6 @@
 //! The numbers of a marks file as they stand, without frames and without the rules.
 
-ghost use Rattle.std.specs.Prelude.{◌≡◌, ◌≤◌, ◌*◌, ◌+◌, ◌++◌, ◌∷◌, [], length, take, drop, IfOk, IfSome, option_map};
+ghost use Rattle.std.specs.Prelude.{◌≡◌, ◌≤◌, ◌*◌, ◌+◌, ◌++◌, length, take, drop, IfOk, IfSome, OnOk, option_map};
 ghost use Rattle.std.specs.Int.{w64, from_le_bytes};
 ghost use Rattle.mt_marks.specs.Entries.{AreMarks};
 ghost use Rattle.mt_marks.specs.MarkReading.{u64_at, entry_len, marks_from, entries_reading, marks_of};
@@ -28,9 +28,8 @@ pub fn raw_marks(alloc: Global, bytes: &[u8], per_granule: u64) -> Result<Option
     let mut rows = List::with_capacity(alloc, entries)?;
     let mut rest = bytes;
     for _ in 0..entries {
-        let (entry, later) = rest.split_at(entry_len);
-        rows.push(append_marks(entry, per, &mut places)?)?;
-        rest = later;
+        rows.push(append_marks(rest, per, &mut places)?)?;
+        rest = bytes_after(rest, entry_len);
     }
     Ok(Some(Marks {
         per_granule,
@@ -39,21 +38,28 @@ pub fn raw_marks(alloc: Global, bytes: &[u8], per_granule: u64) -> Result<Option
     }))
 }
 
-/// Appends the marks of an entry and returns its rows.
-fn append_marks(entry: &[u8], per_granule: usize, places: &mut List<Mark>) -> Result<u64, NoMemory>
-    requires { length entry.now ≡ entry_len per_granule }
-    ensures { IfOk result (λ rows. (places.new ≡ places.old ++ marks_from per_granule entry.now) × (rows ≡ u64_at (16 * per_granule) entry.now)) }
+/// Appends the marks of the entry at the start of some bytes, and returns its rows.
+fn append_marks(bytes: &[u8], per_granule: usize, places: &mut List<Mark>) -> Result<u64, NoMemory>
+    requires { entry_len per_granule ≤ length bytes.now }
+    ensures places { OnOk result (places.new ≡ places.old ++ marks_from per_granule bytes.now) }
+    ensures rows { IfOk result (λ rows. rows ≡ u64_at (16 * per_granule) bytes.now) }
 {
-    let mut rest = entry;
+    let mut rest = bytes;
     for _ in 0..per_granule {
-        let (mark, later) = rest.split_at(16);
         places.push(Mark {
-            offset: number_at(mark, 0),
-            inner: number_at(mark, 8),
+            offset: number_at(rest, 0),
+            inner: number_at(rest, 8),
         })?;
-        rest = later;
+        rest = bytes_after(rest, 16);
     }
-    Ok(number_at(rest, 0))
+    Ok(number_at(bytes, 16 * per_granule))
+}
+
+fn bytes_after(bytes: &[u8], count: usize) -> &[u8]
+    requires { count ≤ length bytes.now }
+    ensures { result.now ≡ drop count bytes.now }
+{
+    &bytes[count..]
 }
 
 /// The little-endian number of eight bytes at an offset.

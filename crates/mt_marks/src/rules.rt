@@ -51,5 +51,6 @@ pub(crate) fn check_mark(frames: &Frames, last: bool, former: Option<Former>, ma
 fn payload_len(frames: &Frames) -> u64
     ensures { result ≡ payload_len frames.now }
 {
-    frames.end - HEADER_BYTES * frames.list.len() as u64
+    let end = frames.end;
+    end - HEADER_BYTES * frames.list.len() as u64
 }
