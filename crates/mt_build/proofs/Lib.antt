@@ -1,1 +1,3 @@
-
+pub mod ItemLemmas
+pub mod OrderLemmas
+pub mod StableLemmas

@@ -1,13 +1,15 @@
-// A library with one function.
+//! The writer: rows in key order, and the one folder that stands for them.
+//!
+//! `sort_rows` gives the one stable order of rows, and `build` exactly the files of the writer's folder.
 #![tactic(auto)]
 
-ghost use Rattle.std.specs.Prelude.{◌≡◌};
-ghost use Rattle.mt_build.specs.Echo.{echo_of};
 
-// The `ensures` clause is the contract: what `echo` returns is `echo_of` of its argument, a definition
-// in `specs/Echo.antt`, which a caller's clause can cite too.
-pub fn echo(x: usize) -> usize
-    ensures { result ≡ echo_of x }
-{
-    x
-}
+
+
+mod items;
+mod names;
+mod sorting;
+
+
+
+pub use sorting::sort_rows;

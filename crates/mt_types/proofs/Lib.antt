@@ -1,1 +1,3 @@
 pub mod OrderLemmas
+pub mod Leb128Lemmas
+pub mod DefaultLemmas

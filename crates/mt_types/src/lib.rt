@@ -4,15 +4,21 @@
 #![tactic(auto)]
 
 mod fit;
+mod law;
 mod limits;
 mod list;
 mod memory;
 mod order;
+mod row;
 mod ty;
 mod value;
 mod varint;
 
 pub use fit::fits;
+pub use law::{
+    defaults_fit, numbers_have_one_encoding, rows_are_totally_ordered, tied_rows_are_the_same,
+    tied_values_are_the_same, values_are_totally_ordered, written_numbers_are_read,
+};
 pub use limits::{MAX_ARRAY_DEPTH, MAX_ELEMENTS, MAX_FIXED_STRING, MAX_TEXT};
 pub use list::List;
 pub use memory::NoMemory;
@@ -20,4 +26,4 @@ pub use order::{compare, compare_items};
 pub use sqlite_items::Boxed;
 pub use ty::{Agg, Ty, Width};
 pub use value::{AggState, Row, Value, copy_items};
-pub use varint::VarInt;
+pub use varint::{VarInt, varint_get, varint_put};
