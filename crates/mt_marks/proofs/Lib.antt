@@ -1,1 +1,8 @@
-
+pub mod WritingLemmas
+pub mod RunLemmas
+pub mod PositionLemmas
+pub mod DenotedLemmas
+pub mod RawLemmas
+pub mod PayloadLemmas
+pub mod EntryLemmas
+pub mod ReadingLemmas

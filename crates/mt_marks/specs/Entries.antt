@@ -4,6 +4,11 @@ use Rattle.mt_defs.specs.declared.mark.Mark.{Mark}
 use Rattle.mt_marks.specs.declared.marks.TheConstants.{MAX_PER_GRANULE}
 use Rattle.mt_marks.specs.declared.marks.Marks.{Marks}
 
+-- an entry: the marks of a granule, and its rows
+pub record Entry : Type 0 where
+  pub marks : List Mark
+  pub rows : ℕ
+
 -- runs of so many marks, for so many entries
 abbrev pub mark_runs : ℕ → ℕ → List Mark → List (List Mark)
 mark_runs per_granule zero places = []
@@ -18,3 +23,11 @@ pub record AreMarks (marks : Marks) : Type 0 where
   pub some : 1 ≤ marks.per_granule
   pub few : marks.per_granule ≤ MAX_PER_GRANULE
   pub complete : length marks.places ≡ length marks.rows * marks.per_granule
+
+-- the entries of marks and of rows in lists
+abbrev pub entries_in : ℕ → List Mark → List ℕ → List Entry
+entries_in per_granule places [] = []
+entries_in per_granule places (rows ∷ more) = record { marks = take per_granule places; rows = rows } ∷ entries_in per_granule (drop per_granule places) more
+
+abbrev pub entries_of : Marks → List Entry
+entries_of marks = entries_in marks.per_granule marks.places marks.rows

@@ -1,1 +1,4 @@
 pub mod Entries
+pub mod Positions
+pub mod MarkReading
+pub mod Results

@@ -3,9 +3,19 @@
 //! `write_marks` gives exactly the bytes of a marks file.
 #![tactic(auto)]
 
+mod entries;
+mod fault;
 mod marks;
+mod position;
+mod raw;
+mod reading;
+mod rules;
 mod writing;
 
+pub use fault::MarksError;
 pub use marks::{MAX_PER_GRANULE, Marks};
 pub use mt_defs::Mark;
+pub use position::resolve;
+pub use raw::raw_marks;
+pub use reading::{read_mrk2, read_mrk3};
 pub use writing::write_marks;
