@@ -23,7 +23,7 @@ use Rattle.mt_defs.specs.Rows.{Row, RowFits, cell, column_values}
 use Rattle.mt_defs.specs.FileNames.{stream_suffixes, suffix_step}
 use Rattle.mt_defs.specs.WrittenStreams.{Encoder, encoder_step, written_streams}
 use Rattle.mt_defs.specs.WrittenGranules.{column_size, payload_size}
-use Rattle.mt_build.specs.NumberColumns.{item_size, type_size, type_size_at, row_size, IsNumber, HasNumbers, AreNumbers}
+use Rattle.mt_build.specs.NumberColumns.{item_size, type_size, type_size_at, row_size, IsNumber, HasNumbers, AreNumbers, IsNumberColumn}
 use Rattle.mt_build.proofs.ItemLemmas.{number_fits, fitting_is_number, number_item}
 
 -- ---- one column
@@ -101,13 +101,8 @@ Pointwise-get_or R (x ∷ xs) [] i d e p h = absurd p
 Pointwise-get_or R (x ∷ xs) (y ∷ ys) zero d e p h = p.0
 Pointwise-get_or R (x ∷ xs) (y ∷ ys) (suc i) d e p h = Pointwise-get_or R xs ys i d e p.1 (omega arith)
 
--- a column of numbers, by its index
-pub record IsColumn (columns : List Column) (rows : List Row) (i : ℕ) (d : Column) : Type 0 where
-  pub width : Width
-  pub is : (get_or columns i d).ty ≡ UInt width
-  pub numbers : HasNumbers width i rows
-
-pub column_of : (columns : List Column) (rows : List Row) (i : ℕ) (d : Column) → AreNumbers columns rows → i < length columns → IsColumn columns rows i d
+-- each column is one of numbers
+pub column_of : (columns : List Column) (rows : List Row) (i : ℕ) (d : Column) → AreNumbers columns rows → i < length columns → IsNumberColumn (get_or columns i d) i rows
 column_of columns rows i d are h =
     let number = All-get_or (λ column. IsNumber column.ty) columns i d h are.numbers in
     record {
