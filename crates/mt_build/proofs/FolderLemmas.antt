@@ -1,9 +1,10 @@
 -- The folder of rows of numbers, file by file.
-use Rattle.std.proofs.Common.{◌≡◌, ℕ, ◌+◌, ◌<◌, ◌≤◌, Bool, true, false, List, [], ◌∷◌, ◌++◌, length, take, drop, get_or, min, ap, sym, ◌∙◌, subst, arith, append_assoc, inl, inr}
+use Rattle.std.proofs.Common.{◌≡◌, ℕ, ◌+◌, ◌<◌, ◌≤◌, Bool, true, false, List, [], ◌∷◌, ◌++◌, length, take, drop, get_or, min, ap, sym, ◌∙◌, subst, arith, append_assoc, zero-add, inl, inr}
 use Rattle.std.specs.Prelude.{sum, IsTrue, nat_lt, ◌||◌, if◌then◌else◌}
-use Rattle.std.specs.List.{flat_map}
+use Rattle.std.specs.List.{flat_map, enumerate_from}
 use Rattle.std.proofs.lemmas.Bool.{cases_Bool, ltb-true}
-use Rattle.std.proofs.lemmas.List.{append-nil, length-append, take_min}
+use Rattle.std.proofs.lemmas.List.{append-nil, length-append, take_min, take_more, take_all, flat_map_more}
+use Rattle.std.proofs.lemmas.List.FromFn.{length-enumerate_from, get_or-enumerate_from}
 use Rattle.std.proofs.lemmas.List.Concat.{flat_map-append}
 use Rattle.std.proofs.lemmas.List.Elements.{All-head, All-drop}
 use Rattle.std.proofs.lemmas.List.Sums.{sum_by-cons}
@@ -20,8 +21,8 @@ use Rattle.mt_defs.specs.Rows.{Row, RowFits, cell}
 use Rattle.mt_defs.specs.Sorting.{sorted_by}
 use Rattle.mt_defs.specs.Granules.{granule_rows}
 use Rattle.mt_defs.specs.Projections.{base_of}
-use Rattle.mt_defs.specs.WrittenGranules.{granules_from, last_granule, written_granules, is_small, payload_size}
-use Rattle.mt_defs.specs.WrittenColumns.{wide_files}
+use Rattle.mt_defs.specs.WrittenGranules.{granules_from, is_full, written_granules, is_small, payload_size}
+use Rattle.mt_defs.specs.WrittenColumns.{file, wide_files}
 use Rattle.mt_defs.specs.Writer.{written_folder, files_with, file_cmp}
 use Rattle.mt_build.specs.NumberColumns.{AreNumbers}
 use Rattle.mt_build.specs.TextFiles.{text_files}
@@ -69,7 +70,7 @@ granules_sum_from full begun (row ∷ rows) =
     ]
 
 pub granules_sum : (table : Table) (rows : List Row) (granules : List ℕ) → granules ≡ written_granules table.settings table.columns rows → sum granules ≡ length rows
-granules_sum table rows granules is = ap sum is ∙ granules_sum_from _ [] rows ∙ omega arith
+granules_sum table rows granules is = ap sum is ∙ granules_sum_from (is_full table.settings table.columns) [] rows ∙ omega arith
 
 -- ---- the folder
 
@@ -80,6 +81,9 @@ none_less n =
       | inr not_less ↦ not_less
     ]
 
+no_more : (files : List FileBytes) → files ++ [] ++ [] ++ [] ≡ files
+no_more files = simp append-nil
+
 numbers_folder : (name first second : List ℕ) (place count : ℕ) (rows : List Row)
     → let table = numbers_table name first second place count in
       let granules = written_granules table.settings table.columns rows in
@@ -89,7 +93,7 @@ numbers_folder name first second place count rows =
     let granules = written_granules table.settings table.columns rows in
     let wide : is_small table.settings table.columns rows ≡ false = ap (λ b. b || nat_lt (length rows) 0) (none_less (payload_size table.columns rows)) ∙ none_less (length rows) in
     ap (λ b. sorted_by file_cmp (files_with (base_of table) rows granules b ++ [] ++ [] ++ [])) wide
-    ∙ ap (sorted_by file_cmp) (append-nil _ ∙ append-nil _ ∙ append-nil _)
+    ∙ ap (sorted_by file_cmp) (no_more (files_with (base_of table) rows granules false))
 
 -- the writer's folder of a table of two number columns
 pub folder_is : (table : Table) (rows : List Row) → IsNumbersTable table
@@ -99,11 +103,13 @@ folder_is table rows form =
     (sym form.is) (numbers_folder table.name form.first form.second form.place form.rows rows)
 
 -- what `build` puts in order is what the definition puts in order
-pub folder_files : (table : Table) (rows : List Row) (granules : List ℕ) (none texts files : List FileBytes) → IsNumbersTable table → granules ≡ written_granules table.settings table.columns rows
-    → none ≡ [] → texts ≡ none ++ text_files table rows granules → files ≡ texts ++ wide_files table.columns rows granules → sorted_by file_cmp files ≡ written_folder table rows
-folder_files table rows granules none texts files form is empty one two =
-    ap (sorted_by file_cmp) (two ∙ ap (λ l. l ++ wide_files table.columns rows granules) (one ∙ ap (λ l. l ++ text_files table rows granules) empty)
-      ∙ ap (λ g. text_files table rows g ++ wide_files table.columns rows g) is)
+pub folder_files : (table : Table) (rows : List Row) (columns : List Column) (some same : List ℕ) (none texts files : List FileBytes) → IsNumbersTable table → columns ≡ table.columns
+    → some ≡ written_granules table.settings table.columns rows → same ≡ written_granules table.settings table.columns rows
+    → none ≡ [] → texts ≡ none ++ text_files table rows some → files ≡ texts ++ wide_files columns rows same → sorted_by file_cmp files ≡ written_folder table rows
+folder_files table rows columns some same none texts files form cols first second empty one two =
+    let granules = written_granules table.settings table.columns rows in
+    ap (sorted_by file_cmp) (two ∙ ap (λ c. texts ++ wide_files c rows same) cols ∙ ap (λ g. texts ++ wide_files table.columns rows g) second
+      ∙ ap (λ l. l ++ wide_files table.columns rows granules) (one ∙ ap (λ l. l ++ text_files table rows some) empty ∙ ap (text_files table rows) first))
     ∙ sym (folder_is table rows form)
 
 -- three appends are one
@@ -111,3 +117,23 @@ pub three_files : (before one two three : List FileBytes) (f g h f' g' h' : File
 three_files before one two three f g h f' g' h' a b c p q r =
     r ∙ ap (λ l. l ++ h' ∷ []) (q ∙ ap (λ l. l ++ g' ∷ []) p ∙ append_assoc before (f' ∷ []) (g' ∷ [])) ∙ append_assoc before (f' ∷ g' ∷ []) (h' ∷ [])
     ∙ ap (λ x. before ++ (x ∷ g' ∷ h' ∷ [])) a ∙ ap (λ x. before ++ (f ∷ x ∷ h' ∷ [])) b ∙ ap (λ x. before ++ (f ∷ g ∷ x ∷ [])) c
+
+pub same_file : (name name' bytes bytes' : List ℕ) → name' ≡ name → bytes' ≡ bytes → file name' bytes' ≡ file name bytes
+same_file name name' bytes bytes' n b = ap (λ x. file x bytes') n ∙ ap (file name) b
+
+-- ---- the columns' files, column by column
+
+pub columns_step : (f : ℕ × Column → List FileBytes) (before now new : List FileBytes) (columns : List Column) (i : ℕ) (column : Column) → i < length columns → column ≡ get_or columns i column
+    → now ≡ before ++ flat_map f (take i (enumerate_from 0 columns)) → new ≡ now ++ f (i, column) → new ≡ before ++ flat_map f (take (i + 1) (enumerate_from 0 columns))
+columns_step f before now new columns i column h is ahead push =
+    let numbered = enumerate_from 0 columns in
+    let few : length numbered ≡ length columns = length-enumerate_from 0 columns in
+    let here : get_or numbered i (0, column) ≡ (i, column) = get_or-enumerate_from 0 columns i (0, column) h ∙ ap (λ n. (n, get_or columns i column)) (zero-add i) ∙ ap (λ c. (i, c)) (sym is) in
+    push ∙ ap (λ l. l ++ f (i, column)) ahead ∙ flat_map_more f before (take i numbered) (i, column)
+    ∙ ap (λ l. before ++ flat_map f l) (sym (take_more numbered i (0, column) (omega arith) ∙ ap (λ x. take i numbered ++ x ∷ []) here))
+
+pub columns_end : (f : ℕ × Column → List FileBytes) (before now : List FileBytes) (columns : List Column) (i : ℕ) → length columns ≤ i
+    → now ≡ before ++ flat_map f (take i (enumerate_from 0 columns)) → now ≡ before ++ flat_map f (enumerate_from 0 columns)
+columns_end f before now columns i h ahead =
+    let few : length (enumerate_from 0 columns) ≡ length columns = length-enumerate_from 0 columns in
+    ahead ∙ ap (λ l. before ++ flat_map f l) (take_all i (enumerate_from 0 columns) (omega arith))

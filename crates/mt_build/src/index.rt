@@ -35,7 +35,7 @@ pub fn primary_index(
     let mut rest = rows;
     for count in granules {
         let (granule, after) = rest.split_at(*count as usize);
-        let (first, _) = granule.split_at(1.min(granule.len()));
+        let (first, _) = granule.split_at(granule.len().min(1));
         append_keys(columns, keys, first, &mut bytes)?;
         rest = after;
     }
