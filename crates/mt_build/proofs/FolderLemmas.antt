@@ -86,8 +86,8 @@ no_more files = simp append-nil
 
 numbers_folder : (name first second : List ℕ) (place count : ℕ) (rows : List Row)
     → let table = numbers_table name first second place count in
-      let granules = written_granules table.settings table.columns rows in
-      written_folder table rows ≡ sorted_by file_cmp (text_files table rows granules ++ wide_files table.columns rows granules)
+    let granules = written_granules table.settings table.columns rows in
+    written_folder table rows ≡ sorted_by file_cmp (text_files table rows granules ++ wide_files table.columns rows granules)
 numbers_folder name first second place count rows =
     let table = numbers_table name first second place count in
     let granules = written_granules table.settings table.columns rows in
@@ -109,7 +109,7 @@ pub folder_files : (table : Table) (rows : List Row) (columns : List Column) (so
 folder_files table rows columns some same none texts files form cols first second empty one two =
     let granules = written_granules table.settings table.columns rows in
     ap (sorted_by file_cmp) (two ∙ ap (λ c. texts ++ wide_files c rows same) cols ∙ ap (λ g. texts ++ wide_files table.columns rows g) second
-      ∙ ap (λ l. l ++ wide_files table.columns rows granules) (one ∙ ap (λ l. l ++ text_files table rows some) empty ∙ ap (text_files table rows) first))
+    ∙ ap (λ l. l ++ wide_files table.columns rows granules) (one ∙ ap (λ l. l ++ text_files table rows some) empty ∙ ap (text_files table rows) first))
     ∙ sym (folder_is table rows form)
 
 -- three appends are one

@@ -1,6 +1,6 @@
 -- The files of a column of numbers.
-use Rattle.std.proofs.Common.{◌≡◌, ℕ, zero, suc, ◌+◌, ◌-◌, ◌*◌, ◌<◌, List, [], ◌∷◌, ◌++◌, length, map, take, drop, get_or, refl, ap, sym, ◌∙◌, subst, arith, append_assoc, add-zero}
-use Rattle.std.specs.Prelude.{codes, sum, replicate}
+use Rattle.std.proofs.Common.{◌≡◌, ℕ, suc, ◌+◌, ◌-◌, List, [], ◌∷◌, ◌++◌, length, map, take, drop, get_or, refl, ap, sym, ◌∙◌, arith, append_assoc, add-zero}
+use Rattle.std.specs.Prelude.{codes, sum}
 use Rattle.std.specs.List.{flat_map, concat, enumerate_from}
 use Rattle.std.proofs.lemmas.List.{append-nil, length-append, length-map, length-drop}
 use Rattle.std.proofs.lemmas.List.Sums.{sum_by-cons}
@@ -13,11 +13,11 @@ use Rattle.mt_table.specs.declared.column.Column.{Column}
 use Rattle.mt_defs.specs.declared.mark.Mark.{Mark}
 use Rattle.mt_defs.specs.Rows.{Row, column_values}
 use Rattle.mt_defs.specs.Granules.{granule_rows}
-use Rattle.mt_defs.specs.FileNames.{file_name, stream_names, stream_suffixes, data_name, marks_name}
+use Rattle.mt_defs.specs.FileNames.{file_name, stream_suffixes}
 use Rattle.mt_defs.specs.Marks.{marks_bytes, granule_starts}
 use Rattle.mt_defs.specs.Wide.{stream_payloads}
 use Rattle.mt_defs.specs.WrittenStreams.{written_streams}
-use Rattle.mt_defs.specs.WrittenFrames.{written_frames, written_marks, written_marks_bytes, mark_at}
+use Rattle.mt_defs.specs.WrittenFrames.{written_frames, written_marks, mark_at}
 use Rattle.mt_defs.specs.WrittenColumns.{file, stream_files, granule_streams, wide_column}
 use Rattle.mt_marks.specs.Entries.{mark_runs}
 use Rattle.mt_build.specs.NumberColumns.{IsStream, granule_frames, frame_offsets}
@@ -94,7 +94,7 @@ frames_are : (w : Width) (k : ℕ) (ty : Ty) → ty ≡ UInt w → (granules : L
 frames_are w k ty is [] = refl
 frames_are w k ty is (granule ∷ granules) =
     let streams : written_streams ty (column_values k granule) ≡ flat_map (item_bytes (UInt w)) (column_values k granule) ∷ [] =
-        ap (λ t. written_streams t (column_values k granule)) is ∙ written_streams_UInt w (column_values k granule) in
+    ap (λ t. written_streams t (column_values k granule)) is ∙ written_streams_UInt w (column_values k granule) in
     ap (λ s. written_frames (get_or s 0 []) ∷ map written_frames (stream_payloads 0 (map (λ granule. written_streams ty (column_values k granule)) granules))) streams
     ∙ ap (λ l. written_frames (flat_map (item_bytes (UInt w)) (column_values k granule)) ∷ l) (frames_are w k ty is granules)
 
@@ -156,5 +156,5 @@ column_files w k column rows granules bytes marks data_file marks_file places be
     ∙ ap (λ name. before ++ (file (file_name column.name ++ codes ".bin") bytes ∷ file name marks ∷ [])) marks_file_is
     ∙ ap (λ b. before ++ (file (file_name column.name ++ codes ".bin") b ∷ file (file_name column.name ++ codes ".mrk2") marks ∷ [])) stream.framed
     ∙ ap (λ m. before ++ (file (file_name column.name ++ codes ".bin") (concat (granule_frames w k (granule_rows granules rows))) ∷ file (file_name column.name ++ codes ".mrk2") m ∷ []))
-      (marks_is ∙ ap (λ p. marks_bytes (map single p) (granules ++ 0 ∷ [])) stream.marked)
+    (marks_is ∙ ap (λ p. marks_bytes (map single p) (granules ++ 0 ∷ [])) stream.marked)
     ∙ ap (λ l. before ++ l) (sym (wide_column_is w k column rows granules is))

@@ -86,7 +86,14 @@ fn stream_of(
     for count in granules {
         let (granule, after) = rest.split_at(*count as usize);
         places.push(mark_at(bytes.len()))?;
-        append_granule(alloc, width, column_index, granule, &mut payload, &mut bytes)?;
+        append_granule(
+            alloc,
+            width,
+            column_index,
+            granule,
+            &mut payload,
+            &mut bytes,
+        )?;
         rest = after;
     }
     places.push(mark_at(bytes.len()))?;
@@ -136,11 +143,7 @@ fn stream_size(width: Width, granules: &[u64]) -> usize {
 }
 
 /// The marks file of granules whose frames begin at these marks.
-fn marks_file(
-    alloc: Global,
-    places: List<Mark>,
-    granules: &[u64],
-) -> Result<List<u8>, NoMemory>
+fn marks_file(alloc: Global, places: List<Mark>, granules: &[u64]) -> Result<List<u8>, NoMemory>
     requires { length places ≡ length granules.now + 1 }
     ensures { IfOk result (λ bytes. bytes ≡
         marks_bytes (map (λ mark. mark ∷ []) places) (granules.now ++ 0 ∷ [])) }

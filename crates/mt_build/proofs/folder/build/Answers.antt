@@ -20,4 +20,4 @@ returns g c =
     let written = c.in_ok-granules.ensures ∙ ap (λ columns. written_granules c.args.table.now.settings columns c.args.rows.now) c.as_slice-columns.ensures in
     let P : List FileBytes → Type 0 = λ files. IfOk c.sort_files.result (λ sorted. sorted ≡ files) in
     subst P (folder_files c.args.table.now c.args.rows.now c.as_slice-columns.result.now c.as_slice.result.now c.as_slice-2.result.now _ _ _ c.requires.form c.as_slice-columns.ensures
-      (c.as_slice.ensures.value ∙ written) (c.as_slice-2.ensures.value ∙ written) c.in_ok-files.ensures.items c.in_ok-append_texts.ensures c.in_ok-append_columns.ensures) c.sort_files.ensures
+    (c.as_slice.ensures.value ∙ written) (c.as_slice-2.ensures.value ∙ written) c.in_ok-files.ensures.items c.in_ok-append_texts.ensures c.in_ok-append_columns.ensures) c.sort_files.ensures

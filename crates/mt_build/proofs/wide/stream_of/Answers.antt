@@ -15,7 +15,7 @@ loop-count-preserved c =
     let i = c.loop-count.count-index in
     let here = drop_more c.args.granules.now i 0 c.loop-count-test.true in
     let next = frames_next c.args.width c.args.column_index (drop i c.args.granules.now) (drop (i + 1) c.args.granules.now) (get_or c.args.granules.now i 0) c.loop-count.rest.now
-        c.split_at.result.0.now c.split_at.result.1.now here c.split_at.ensures.front c.split_at.ensures.back in
+    c.split_at.result.0.now c.split_at.result.1.now here c.split_at.ensures.front c.split_at.ensures.back in
     record {
       framed = framed_step _ _ _ _ _ _ next c.in_ok-append_granule.ensures c.loop-count.invariant.framed;
       marked = marked_step _ _ _ _ _ _ _ _ _ next c.in_ok-append_granule.ensures (c.mark_at.ensures ∙ ap mark_at c.len.ensures) c.in_ok-push.ensures.items c.loop-count.invariant.marked;
