@@ -1,5 +1,5 @@
 -- Granules of rows of numbers, one row at a time.
-use Rattle.std.proofs.Common.{◌≡◌, ℕ, ◌+◌, ◌-◌, ◌*◌, ◌<◌, ◌≤◌, ◌^◌, min, Bool, true, false, List, [], ◌∷◌, ◌++◌, length, take, drop, get_or, refl, ap, sym, ◌∙◌, subst, arith, inl, inr, append_assoc, zero-mul}
+use Rattle.std.proofs.Common.{◌≡◌, ℕ, ◌+◌, ◌-◌, ◌*◌, ◌<◌, ◌≤◌, ◌^◌, min, Bool, true, false, List, [], ◌∷◌, ◌++◌, length, take, drop, get_or, ap, sym, ◌∙◌, arith, inl, inr, append_assoc, zero-mul}
 use Rattle.std.specs.Prelude.{nat_le, ◌||◌, if◌then◌else◌}
 use Rattle.std.proofs.lemmas.Bool.{cases_lt, le-leb, leb-false}
 use Rattle.std.proofs.lemmas.List.Elements.{All-take, All-drop}
@@ -82,8 +82,8 @@ tested settings columns rows start i bytes size more is =
     let upto : i < length rows = is.upto in
     let count : length (begun_rows start (i + 1) rows) ≡ i + 1 - start = length-begun_rows start (i + 1) rows (omega arith) (omega arith) in
     let payload : payload_size columns (begun_rows start (i + 1) rows) ≡ (i + 1 - start) * size =
-        payload_size_is columns (begun_rows start (i + 1) rows) (numbers_within columns rows (i + 1 - start) start is.numbers)
-        ∙ ap (λ n. n * row_size columns) count ∙ ap (λ s. (i + 1 - start) * s) (sym is.row_bytes) in
+    payload_size_is columns (begun_rows start (i + 1) rows) (numbers_within columns rows (i + 1 - start) start is.numbers)
+    ∙ ap (λ n. n * row_size columns) count ∙ ap (λ s. (i + 1 - start) * s) (sym is.row_bytes) in
     let whole : (i + 1 - start) * size ≡ bytes + size = ap (λ n. n * size) (omega arith) ∙ sym (one_more (i - start) size) ∙ ap (λ b. b + size) (sym is.bytes_so_far) in
     ap (λ n. nat_le settings.granule_rows n || nat_le settings.granule_bytes (payload_size columns (begun_rows start (i + 1) rows))) count
     ∙ ap (λ b. nat_le settings.granule_rows (i + 1 - start) || b) (ap (nat_le settings.granule_bytes) (payload ∙ whole) ∙ sym (saturated settings.granule_bytes (bytes + size) more is.in_range is.bytes_now))
@@ -97,12 +97,11 @@ goes_on settings columns rows start i bytes size more granules all is off ahead 
     let from : start ≤ i = is.from in
     let now : more ≡ min (bytes + size) (2 ^ 64 - 1) = is.bytes_now in
     let range : settings.granule_bytes < 2 ^ 64 = is.in_range in
-    let below : more < settings.granule_bytes = leb-false settings.granule_bytes more (or_second _ _ off) in
-    let exact : more ≡ bytes + size = omega arith in
-    (
+    let below : more < settings.granule_bytes = leb-false settings.granule_bytes more (or_second (nat_le settings.granule_rows (i + 1 - start)) (nat_le settings.granule_bytes more) off) in
+    let exact : more ≡ bytes + size = omega arith in (
       exact ∙ ap (λ b. b + size) is.bytes_so_far ∙ one_more (i - start) size ∙ ap (λ n. n * size) (omega arith),
       ap (λ l. granules ++ l) (sym (granules_next (is_full settings columns) start i rows is.from is.upto
-        ∙ chosen _ false _ _ (tested settings columns rows start i bytes size more is ∙ off))) ∙ ahead,
+          ∙ chosen _ false _ _ (tested settings columns rows start i bytes size more is ∙ off))) ∙ ahead,
     )
 
 -- the granule ends
@@ -113,7 +112,7 @@ pub ends_here : (settings : Settings) (columns : List Column) (rows : List Row) 
 ends_here settings columns rows start i bytes size more granules all is on ahead =
     append_assoc granules ((i + 1 - start) ∷ []) (granules_from (is_full settings columns) [] (drop (i + 1) rows))
     ∙ ap (λ l. granules ++ l) (sym (granules_next (is_full settings columns) start i rows is.from is.upto
-      ∙ chosen _ true _ _ (tested settings columns rows start i bytes size more is ∙ on))) ∙ ahead
+    ∙ chosen _ true _ _ (tested settings columns rows start i bytes size more is ∙ on))) ∙ ahead
 
 pub nothing_begun : (i start size bytes : ℕ) → start ≡ i + 1 → bytes ≡ 0 → bytes ≡ (i + 1 - start) * size
 nothing_begun i start size bytes e none =

@@ -1,5 +1,5 @@
 -- Items of unsigned integers: which values fit, and their bytes.
-use Rattle.std.proofs.Common.{◌≡◌, ℕ, ℤ, pos, negsuc, ◌<◌, ◌≤◌, ◌^◌, Bool, true, false, List, [], ◌∷◌, refl, ap, sym, ◌∙◌, arith, lit≤}
+use Rattle.std.proofs.Common.{◌≡◌, ℕ, ℤ, pos, negsuc, ◌<◌, ◌≤◌, ◌^◌, Bool, true, List, refl, ap, sym, ◌∙◌, arith, lit≤}
 use borrow.Author.Tests.{ltb-true}
 use mir.Val.{of_z, to_z}
 use Rattle.std.specs.Int.{w128, to_le_bytes}
@@ -14,7 +14,7 @@ use Rattle.mt_types.specs.declared.value.Value.TheOpen.{Value-F}
 use Rattle.mt_types.specs.declared.value.Value.TheVariants.{Num, outs-Num}
 use Rattle.mt_types.specs.declared.value.Value.TheViews.{roll-out-Value}
 use Rattle.mt_types.specs.Fits.{fits_of, fits_step, num_at, is_unsigned, bits}
-use Rattle.mt_types.specs.Items.{item_bytes, item_step, whole, whole_at, width}
+use Rattle.mt_types.specs.Items.{item_bytes, item_step, whole_at, width}
 
 pub fits_UInt : (w : Width) (v : Value) → fits_of (UInt w) v ≡ num_at (is_unsigned (bits w)) (out-Value v)
 fits_UInt w v =

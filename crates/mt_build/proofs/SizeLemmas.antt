@@ -1,12 +1,12 @@
 -- The payload bytes of rows of numbers: so many for each row.
-use Rattle.std.proofs.Common.{◌≡◌, ℕ, zero, suc, ◌+◌, ◌*◌, ◌<◌, Bool, true, List, [], ◌∷◌, ◌++◌, length, map, get_or, refl, ap, sym, ◌∙◌, subst, arith}
-use Rattle.std.specs.Prelude.{All, IsTrue, sum}
-use Rattle.std.specs.List.{flat_map, enumerate_from, sum_by}
+use Rattle.std.proofs.Common.{◌≡◌, ℕ, zero, suc, ◌+◌, ◌*◌, ◌<◌, List, [], ◌∷◌, length, map, get_or, refl, ap, sym, ◌∙◌, subst, arith}
+use Rattle.std.specs.Prelude.{IsTrue, sum}
+use Rattle.std.specs.List.{flat_map, enumerate_from}
 use Rattle.std.specs.Int.{to_le_bytes}
 use Rattle.std.proofs.lemmas.List.{length-append}
 use Rattle.std.proofs.lemmas.List.Sums.{sum_by-cons}
 use Rattle.std.proofs.lemmas.List.Elements.{All-head, All-tail, All-get_or, All-weaker}
-use Rattle.mt_types.specs.declared.ty.Ty.{Ty, out-Ty, map-Ty, roll-Ty}
+use Rattle.mt_types.specs.declared.ty.Ty.{Ty, map-Ty, roll-Ty}
 use Rattle.mt_types.specs.declared.ty.Ty.TheOpen.{Ty-F}
 use Rattle.mt_types.specs.declared.ty.Ty.TheVariants.{UInt, outs-UInt}
 use Rattle.mt_types.specs.declared.ty.Ty.TheViews.{roll-out-Ty}
@@ -23,7 +23,7 @@ use Rattle.mt_defs.specs.Rows.{Row, RowFits, cell, column_values}
 use Rattle.mt_defs.specs.FileNames.{stream_suffixes, suffix_step}
 use Rattle.mt_defs.specs.WrittenStreams.{Encoder, encoder_step, written_streams}
 use Rattle.mt_defs.specs.WrittenGranules.{column_size, payload_size}
-use Rattle.mt_build.specs.NumberColumns.{item_size, type_size, type_size_at, row_size, IsNumber, HasNumbers, AreNumbers}
+use Rattle.mt_build.specs.NumberColumns.{item_size, type_size, type_size_at, row_size, IsNumber, HasNumbers, AreNumbers, IsNumberColumn}
 use Rattle.mt_build.proofs.ItemLemmas.{number_fits, fitting_is_number, number_item}
 
 -- ---- one column
@@ -101,13 +101,8 @@ Pointwise-get_or R (x ∷ xs) [] i d e p h = absurd p
 Pointwise-get_or R (x ∷ xs) (y ∷ ys) zero d e p h = p.0
 Pointwise-get_or R (x ∷ xs) (y ∷ ys) (suc i) d e p h = Pointwise-get_or R xs ys i d e p.1 (omega arith)
 
--- a column of numbers, by its index
-pub record IsColumn (columns : List Column) (rows : List Row) (i : ℕ) (d : Column) : Type 0 where
-  pub width : Width
-  pub is : (get_or columns i d).ty ≡ UInt width
-  pub numbers : HasNumbers width i rows
-
-pub column_of : (columns : List Column) (rows : List Row) (i : ℕ) (d : Column) → AreNumbers columns rows → i < length columns → IsColumn columns rows i d
+-- each column is one of numbers
+pub column_of : (columns : List Column) (rows : List Row) (i : ℕ) (d : Column) → AreNumbers columns rows → i < length columns → IsNumberColumn (get_or columns i d) i rows
 column_of columns rows i d are h =
     let number = All-get_or (λ column. IsNumber column.ty) columns i d h are.numbers in
     record {
@@ -121,15 +116,16 @@ column_of columns rows i d are h =
 served_from : (columns rest : List Column) (rows : List Row) (k : ℕ) → ((i : ℕ) (d : Column) → i < length rest → (w : Width) × ((get_or rest i d).ty ≡ UInt w) × HasNumbers w (k + i) rows) → Served k rest rows
 served_from columns [] rows k each = tt
 served_from columns (column ∷ rest) rows k each =
-    let here = each 0 column (omega arith) in
-    ((here.0, here.1, subst (λ j. HasNumbers here.0 j rows) (omega arith) here.2),
-     served_from columns rest rows (k + 1) (λ i d h.
-         let there = each (suc i) d (omega arith) in
-         (there.0, there.1, subst (λ j. HasNumbers there.0 j rows) (omega arith) there.2)))
+    let here = each 0 column (omega arith) in (
+      (here.0, here.1, subst (λ j. HasNumbers here.0 j rows) (omega arith) here.2),
+      served_from columns rest rows (k + 1) (λ i d h.
+          let there = each (suc i) d (omega arith) in
+          (there.0, there.1, subst (λ j. HasNumbers there.0 j rows) (omega arith) there.2)),
+    )
 
 -- the payload bytes of rows of numbers
 pub payload_size_is : (columns : List Column) (rows : List Row) → AreNumbers columns rows → payload_size columns rows ≡ length rows * row_size columns
 payload_size_is columns rows are =
     payload_from 0 columns rows (served_from columns columns rows 0 (λ i d h.
-        let column = column_of columns rows i d are h in
-        (column.width, column.is, subst (λ j. HasNumbers column.width j rows) (omega arith) column.numbers)))
+    let column = column_of columns rows i d are h in
+    (column.width, column.is, subst (λ j. HasNumbers column.width j rows) (omega arith) column.numbers)))

@@ -1,1 +1,2 @@
 pub mod NumberColumns
+pub mod TextFiles

@@ -47,7 +47,11 @@ fn is_full(settings: &Settings, rows: u64, bytes: u64) -> bool
     ensures in_range { settings.now.granule_bytes < 2 ^ 64 }
     ensures full { result ≡ (nat_le settings.now.granule_rows rows || nat_le settings.now.granule_bytes bytes) }
 {
-    let Settings { granule_rows, granule_bytes, .. } = *settings;
+    let Settings {
+        granule_rows,
+        granule_bytes,
+        ..
+    } = *settings;
     granule_rows <= rows || granule_bytes <= bytes
 }
 

@@ -6,10 +6,21 @@ ghost use Rattle.mt_types.specs.declared.ty.Ty.TheVariants.{UInt};
 ghost use Rattle.mt_types.specs.Fits.{fits_of};
 ghost use Rattle.mt_types.specs.Items.{item_bytes};
 ghost use Rattle.mt_defs.specs.Rows.{cell, column_values};
-ghost use Rattle.mt_build.specs.NumberColumns.{HasNumbers, number_bytes};
+ghost use Rattle.mt_build.specs.NumberColumns.{HasNumbers, IsNumber, number_bytes};
 ghost use Rattle.mt_build.specs.NumberColumns as defined;
 
-use mt_types::{NoMemory, Row, Value, Width};
+use mt_types::{NoMemory, Row, Ty, Value, Width};
+
+/// The width of an unsigned integer type.
+pub fn width_of(ty: &Ty) -> Width
+    requires { IsNumber ty.now }
+    ensures { ty.now ≡ UInt result }
+{
+    match ty {
+        Ty::UInt(width) => *width,
+        _ => unreachable!(),
+    }
+}
 
 /// The bytes of an item.
 pub fn item_size(width: Width) -> usize

@@ -3,14 +3,13 @@
 //! `sort_rows` gives the one stable order of rows, and `build` exactly the files of the writer's folder.
 #![tactic(auto)]
 
-
-
-
+mod folder;
 mod granules;
+mod index;
 mod items;
 mod names;
 mod sorting;
+mod wide;
 
-
-
+pub use folder::build;
 pub use sorting::sort_rows;

@@ -20,11 +20,11 @@ loop-i-preserved c =
     let full : List Row → Bool = is_full c.args.settings.now c.args.columns.now in
     elim c.if-is_full.branch [
       | then-is_full+in_ok-push w ↦ record {
-          begun = omega arith;
-          size = nothing_begun c.loop-i.i c.if-is_full.start _ _ w.start-is w.bytes-is;
-          ahead = begins_next full c.args.rows.now c.loop-i.i c.if-is_full.start _ _ _ w.start-is (ap (λ v. v.items) w.granules-is ∙ w.in_ok-push.ensures.items)
-              (ends_here _ _ _ _ _ _ _ _ _ _ counted (sym c.is_full.ensures.full ∙ w.if-is_full.true) c.loop-i.invariant.ahead);
-        }
+        begun = omega arith;
+        size = nothing_begun c.loop-i.i c.if-is_full.start _ _ w.start-is w.bytes-is;
+        ahead = begins_next full c.args.rows.now c.loop-i.i c.if-is_full.start _ _ _ w.start-is (ap (λ v. v.items) w.granules-is ∙ w.in_ok-push.ensures.items)
+            (ends_here _ _ _ _ _ _ _ _ _ _ counted (sym c.is_full.ensures.full ∙ w.if-is_full.true) c.loop-i.invariant.ahead);
+      }
       | else-is_full w ↦
           let on = goes_on _ _ _ _ _ _ _ _ _ _ counted (sym c.is_full.ensures.full ∙ w.if-is_full.false) c.loop-i.invariant.ahead in
           record {

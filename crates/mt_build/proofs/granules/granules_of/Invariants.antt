@@ -1,6 +1,5 @@
 use Rattle.std.proofs.Common.{◌≡◌, ◌≤◌, ◌*◌, ◌-◌, ◌++◌, take, drop}
 use Rattle.mt_defs.specs.WrittenGranules.{granules_from, is_full, written_granules}
-use Rattle.mt_build.specs.NumberColumns.{row_size}
 use Rattle.mt_build.proofs.granules.granules_of.Given as goal
 
 abbrev pub invariant-loop-i : goal.invariant-loop-i

@@ -1,7 +1,6 @@
-use Rattle.std.proofs.Common.{rules, ◌≡◌, ℕ, ℤ, pos, List, ◌++◌, ap, sym, subst, ◌∙◌}
+use Rattle.std.proofs.Common.{rules, ◌≡◌, ℕ, List, ◌++◌, ap, sym, subst, ◌∙◌}
 use Rattle.std.specs.Prelude.{OnOk}
 use Rattle.mt_types.specs.declared.value.Value.TheVariants.{Num}
-use Rattle.mt_build.specs.NumberColumns.{number_bytes}
 use Rattle.mt_build.proofs.ItemLemmas.{number_fits, fitting_is_number, cast_natural, number_item}
 use Rattle.mt_build.proofs.items.append_item.Goals as goal
 

@@ -1,4 +1,4 @@
-use Rattle.std.proofs.Common.{rules, Bool, ap, ◌∙◌}
+use Rattle.std.proofs.Common.{rules, ap, ◌∙◌}
 use Rattle.std.specs.Cmp.{IsTotalOrder, IsStrictWeakOrder}
 use Rattle.std.specs.List.Sorted.{IsSorted, IsStable}
 use Rattle.std.specs.Ordering.{is_lt}
