@@ -12,7 +12,7 @@ use mt_types::{NoMemory, Row, Ty};
 use std::alloc::Global;
 
 /// How many rows each granule has: rows join a granule until it has `granule_rows` rows or
-/// `granule_bytes` bytes (docs/FORMAT.md, "What the writer makes"; ClickHouse:
+/// `granule_bytes` bytes (docs/FORMAT.md, "The writer's folder"; ClickHouse:
 /// `MergeTreeIndexGranularity`).
 pub fn granules_of(
     alloc: Global,

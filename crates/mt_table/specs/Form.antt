@@ -1,4 +1,4 @@
--- The two-column form of a table text, and the tables that it defines: docs/FORMAT.md, "Table text".
+-- The two-column form of a table text, and the tables that it defines: docs/LANGUAGE.md, "Table text".
 use Rattle.std.specs.Prelude.{◌≡◌, ◌≢◌, ◌⊎◌, ◌≤◌, ◌<◌, ℕ, List, [], ◌∷◌, ◌++◌, length, Option, Some, None, IfSome, unwrap_or, codes, decimal, Bool, false, not, nat_le, ◌||◌, ◌&&◌, ◌==◌, if◌then◌else◌, IsTrue}
 use Rattle.std.specs.List.{list_all}
 use Rattle.std.specs.Str.{bytes_eq}

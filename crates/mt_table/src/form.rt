@@ -1,4 +1,4 @@
-//! The two-column form of a table text (docs/FORMAT.md, "Table text").
+//! The two-column form of a table text (docs/LANGUAGE.md, "Table text").
 
 ghost use Rattle.std.specs.Prelude.{◌≡◌, option_map};
 ghost use Rattle.mt_table.specs.Reading.{setting_and_rest, is_end, has_key, names_reading, form_reading};
