@@ -4,7 +4,7 @@ use mt_types::List;
 use std::error::Error;
 use std::fmt;
 
-/// Why a part stands for no rows (docs/FORMAT.md, "Parts").
+/// Why a part stands for no rows (docs/FORMAT.md, "The first fault").
 #[derive(Clone, Copy, Debug, PartialEq, Eq)]
 pub enum Why {
     /// A file isn't there.
