@@ -12,7 +12,7 @@ use mt_types::{NoMemory, Row, Ty};
 use std::alloc::Global;
 
 /// How many rows each granule has: rows join a granule until it has `granule_rows` rows or
-/// `granule_bytes` bytes (docs/FORMAT.md, "What the writer makes"; ClickHouse:
+/// `granule_bytes` bytes (docs/FORMAT.md, "The writer's folder"; ClickHouse:
 /// `MergeTreeIndexGranularity`).
 pub fn granules_of(
     alloc: Global,
@@ -45,7 +45,8 @@ pub fn granules_of(
 
 fn is_full(settings: &Settings, rows: u64, bytes: u64) -> bool
     ensures in_range { settings.now.granule_bytes < 2 ^ 64 }
-    ensures full { result ≡ (nat_le settings.now.granule_rows rows || nat_le settings.now.granule_bytes bytes) }
+    ensures full { result ≡
+        (nat_le settings.now.granule_rows rows || nat_le settings.now.granule_bytes bytes) }
 {
     let Settings {
         granule_rows,

@@ -1,4 +1,4 @@
--- The one folder that the writer makes of some rows: docs/FORMAT.md, "What the writer makes".
+-- The one folder that the writer makes of some rows: docs/FORMAT.md, "The writer's folder".
 use Rattle.std.specs.Prelude.{ℕ, Bool, if◌then◌else◌, List, ◌∷◌, ◌++◌, length, map, All}
 use Rattle.std.specs.List.{flat_map}
 use Rattle.std.specs.Fmt.{decimal}

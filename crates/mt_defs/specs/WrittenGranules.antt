@@ -1,4 +1,4 @@
--- The writer's granules and layout: docs/FORMAT.md, "What the writer makes". The rules are this project's.
+-- The writer's granules and layout: docs/FORMAT.md, "The writer's folder". The rules are this project's.
 use Rattle.std.specs.Prelude.{ℕ, nat_lt, nat_le, Bool, ◌||◌, if◌then◌else◌, List, [], ◌∷◌, ◌++◌, length, map, sum}
 use Rattle.std.specs.List.{enumerate_from}
 use Rattle.mt_table.specs.declared.column.Column.{Column}
