@@ -55,7 +55,7 @@ numbers_left columns count rest after back are =
 
 -- ---- granules hold all rows
 
-granules_sum_from : (full : List Row → Bool) (begun rows : List Row) → sum (granules_from full begun rows) ≡ length begun + length rows
+pub granules_sum_from : (full : List Row → Bool) (begun rows : List Row) → sum (granules_from full begun rows) ≡ length begun + length rows
 granules_sum_from full [] [] = omega arith
 granules_sum_from full (b ∷ begun) [] = omega arith
 granules_sum_from full begun (row ∷ rows) =

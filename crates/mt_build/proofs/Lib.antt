@@ -1,6 +1,7 @@
 pub mod FolderLemmas
 pub mod GranuleLemmas
 pub mod ItemLemmas
+pub mod LawLemmas
 pub mod OrderLemmas
 pub mod SizeLemmas
 pub mod StableLemmas

@@ -24,7 +24,7 @@ use std::thread::Threads;
 const TEXT_FILES: usize = 3;
 
 /// The files of the writer's folder of these rows, in the byte order of their names (docs/FORMAT.md,
-/// "What the writer makes"). The same for any number of workers, from 1 to 64, and any gate.
+/// "The writer's folder"). The same for any number of workers, from 1 to 64, and any gate.
 ///
 /// Served are tables of two UInt64 columns; one thread does the work.
 pub fn build<R: Threads + Sync, G: Gate + Sync>(

@@ -45,7 +45,8 @@ pub fn granules_of(
 
 fn is_full(settings: &Settings, rows: u64, bytes: u64) -> bool
     ensures in_range { settings.now.granule_bytes < 2 ^ 64 }
-    ensures full { result ≡ (nat_le settings.now.granule_rows rows || nat_le settings.now.granule_bytes bytes) }
+    ensures full { result ≡
+        (nat_le settings.now.granule_rows rows || nat_le settings.now.granule_bytes bytes) }
 {
     let Settings {
         granule_rows,

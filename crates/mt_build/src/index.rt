@@ -26,7 +26,8 @@ pub fn primary_index(
     requires keys { All (λ i. i < length table.now.columns) table.now.sort }
     requires primary { table.now.primary ≤ length table.now.sort }
     requires cut { sum granules.now ≡ length rows.now }
-    ensures { IfOk result (λ bytes. bytes ≡ primary_index_of (base_of table.now) rows.now granules.now) }
+    ensures { IfOk result (λ bytes.
+        bytes ≡ primary_index_of (base_of table.now) rows.now granules.now) }
 {
     let columns = table.columns.as_slice();
     let (keys, _) = table.sort.as_slice().split_at(table.primary as usize);

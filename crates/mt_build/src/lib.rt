@@ -7,9 +7,11 @@ mod folder;
 mod granules;
 mod index;
 mod items;
+mod law;
 mod names;
 mod sorting;
 mod wide;
 
 pub use folder::build;
+pub use law::{written_frames_have_their_payload, written_granules_hold_all_rows};
 pub use sorting::sort_rows;

@@ -1,0 +1,22 @@
+//! Laws of the writer's folder, each the contract of a function that does nothing.
+
+ghost use Rattle.std.specs.Prelude.{ℕ, List};
+ghost use Rattle.mt_table.specs.declared.column.Column.{Column};
+ghost use Rattle.mt_table.specs.declared.settings.Settings.{Settings};
+ghost use Rattle.mt_defs.specs.Frames.{IsFramed};
+ghost use Rattle.mt_defs.specs.Granules.{AreGranules};
+ghost use Rattle.mt_defs.specs.Lists.{AreBytes};
+ghost use Rattle.mt_defs.specs.Rows.{Row};
+ghost use Rattle.mt_defs.specs.WrittenFrames.{written_frames};
+ghost use Rattle.mt_defs.specs.WrittenGranules.{written_granules};
+
+/// The writer's granules have a row each, and all rows together.
+pub fn written_granules_hold_all_rows()
+    ensures { (settings : Settings) (columns : List Column) (rows : List Row)
+        → AreGranules (written_granules settings columns rows) rows }
+{}
+
+/// The writer's frames of a payload are frames of this payload.
+pub fn written_frames_have_their_payload()
+    ensures { (payload : List ℕ) → AreBytes payload → IsFramed payload (written_frames payload) }
+{}
