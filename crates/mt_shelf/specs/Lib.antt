@@ -1,0 +1,7 @@
+pub mod Paths
+pub mod Files
+pub mod Causes
+pub mod State
+pub mod Held
+pub mod Streams
+pub mod KeptPaths
