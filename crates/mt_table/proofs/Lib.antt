@@ -1,0 +1,5 @@
+pub mod RunLemmas
+pub mod DigitLemmas
+pub mod WordLemmas
+pub mod SettingLemmas
+pub mod FormLemmas

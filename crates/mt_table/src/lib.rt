@@ -1,16 +1,27 @@
 //! The table that a part belongs to: columns, keys, indexes, projections and settings.
+//!
+//! `Table::read` gives the table that a text defines, or the first rule that the text breaks.
 #![tactic(auto)]
 
 mod column;
 mod definition;
+mod form;
+mod limits;
+mod number;
+mod numbers;
 mod partition;
 mod projection;
 mod settings;
 mod skip;
 mod why;
+mod word;
 
 pub use column::Column;
 pub use definition::{PartDef, Table};
+pub use limits::{
+    DEFAULT_GRANULE_BYTES, DEFAULT_GRANULE_ROWS, DEFAULT_WIDE_ROWS, MAX_COLUMNS, MAX_GRANULE_ROWS,
+    MAX_KEY, MAX_NAME, MAX_PARTITION, MAX_PROJECTIONS, MAX_SKIPS,
+};
 pub use partition::PartExpr;
 pub use projection::{Aggregate, Projection};
 pub use settings::Settings;

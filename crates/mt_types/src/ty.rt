@@ -1,6 +1,15 @@
 //! The types of columns (docs/FORMAT.md, "Types and values").
 
+ghost use Rattle.std.specs.Prelude.{◌≡◌, ◌↔◌, IfOk, IsTrue};
+ghost use Rattle.mt_types.specs.Defaults.{default_of, empty_state};
+
+mod name;
+
+use crate::list::List;
+use crate::memory::NoMemory;
+use crate::value::{AggState, Value};
 use sqlite_items::Boxed;
+use std::alloc::Global;
 
 /// The size of an integer in bits.
 #[derive(Clone, Copy, Debug, PartialEq, Eq)]
@@ -26,6 +35,19 @@ pub enum Agg {
     Max,
 }
 
+impl Agg {
+    /// The state over no row.
+    pub fn empty_state(self) -> AggState
+        ensures { result ≡ empty_state self }
+    {
+        match self {
+            Agg::Sum => AggState::Sum(0),
+            Agg::Min => AggState::Least(None),
+            Agg::Max => AggState::Greatest(None),
+        }
+    }
+}
+
 /// The type of a column (ClickHouse: `IDataType`).
 #[derive(Debug, Drop)]
 pub enum Ty {
@@ -41,10 +63,47 @@ pub enum Ty {
     Date,
     /// `Nullable(T)`: the values of T, and NULL.
     Nullable(Boxed<Ty>),
-    /// `Array(T)`: lists of values of T.
+    /// `Array(T)`: lists of at most `MAX_ELEMENTS` values of T.
     Array(Boxed<Ty>),
     /// `AggregateFunction(sum, T)`, `(min, T)` or `(max, T)`: states of an aggregate over T.
     State(Agg, Boxed<Ty>),
     /// `AggregateFunction(count)`: states of a count of rows.
     CountState,
+}
+
+impl Ty {
+    /// Whether the two are one type.
+    pub fn is_same(&self, other: &Ty) -> bool
+        ensures { IsTrue result ↔ (self.now ≡ other.now) }
+    {
+        match (self, other) {
+            (Ty::UInt(v), Ty::UInt(w)) => v == w,
+            (Ty::Int(v), Ty::Int(w)) => v == w,
+            (Ty::FixedString(m), Ty::FixedString(n)) => m == n,
+            (Ty::Str, Ty::Str) => true,
+            (Ty::Date, Ty::Date) => true,
+            (Ty::Nullable(t), Ty::Nullable(u)) => t.get().is_same(u.get()),
+            (Ty::Array(t), Ty::Array(u)) => t.get().is_same(u.get()),
+            (Ty::State(a, t), Ty::State(b, u)) => a == b && t.get().is_same(u.get()),
+            (Ty::CountState, Ty::CountState) => true,
+            _ => false,
+        }
+    }
+
+    /// The value that stands where none is given, as under a NULL.
+    pub fn default_of(&self, alloc: Global) -> Result<Value, NoMemory>
+        ensures { IfOk result (λ value. value ≡ default_of self.now) }
+    {
+        match self {
+            Ty::UInt(_) | Ty::Int(_) | Ty::Date => Ok(Value::Num(0)),
+            Ty::FixedString(size) => {
+                Ok(Value::Text(List::of(vec![in alloc; 0; *size as usize]?)))
+            }
+            Ty::Str => Ok(Value::Text(List::new(alloc))),
+            Ty::Nullable(_) => Ok(Value::Null),
+            Ty::Array(_) => Ok(Value::List(List::new(alloc))),
+            Ty::State(agg, _) => Ok(Value::State(agg.empty_state())),
+            Ty::CountState => Ok(Value::State(AggState::Count(0))),
+        }
+    }
 }

@@ -1,8 +1,12 @@
 //! The values of columns (docs/FORMAT.md, "Types and values").
 
-use crate::list::List;
+ghost use Rattle.std.specs.Prelude.{◌≡◌, IfOk};
 
-/// What an aggregate has gathered so far (ClickHouse: `AggregateFunction`'s state).
+use crate::list::List;
+use crate::memory::NoMemory;
+use std::alloc::Global;
+
+/// What an aggregate has gathered so far (ClickHouse: the state of an `IAggregateFunction`).
 #[derive(Clone, Copy, Debug, PartialEq, Eq, PartialOrd, Ord)]
 pub enum AggState {
     /// The number of rows, modulo 2^64.
@@ -15,7 +19,7 @@ pub enum AggState {
     Greatest(Option<i128>),
 }
 
-/// One value of a column.
+/// One value of a column (ClickHouse: `Field`).
 #[derive(Debug, Drop)]
 pub enum Value {
     /// A whole number, or the days of a date since 1970-01-01.
@@ -32,3 +36,31 @@ pub enum Value {
 
 /// One value per column, in the columns' order.
 pub type Row = List<Value>;
+
+impl Value {
+    /// An equal value.
+    #[cycle(copy)]
+    pub fn copy(&self, alloc: Global) -> Result<Value, NoMemory>
+        ensures { IfOk result (λ copied. copied ≡ self.now) }
+    {
+        match self {
+            Value::Num(number) => Ok(Value::Num(*number)),
+            Value::Text(bytes) => Ok(Value::Text(List::of_bytes(alloc, bytes.as_slice())?)),
+            Value::Null => Ok(Value::Null),
+            Value::List(items) => Ok(Value::List(copy_items(alloc, items.as_slice())?)),
+            Value::State(state) => Ok(Value::State(*state)),
+        }
+    }
+}
+
+/// An equal list of values, as of a row or of an array's elements.
+#[cycle(copy)]
+pub fn copy_items(alloc: Global, items: &[Value]) -> Result<List<Value>, NoMemory>
+    ensures { IfOk result (λ copied. copied ≡ items.now) }
+{
+    let mut copied = List::with_capacity(alloc, items.len())?;
+    for item in items {
+        copied.push(item.copy(alloc)?)?;
+    }
+    Ok(copied)
+}

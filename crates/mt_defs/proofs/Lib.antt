@@ -1,0 +1,3 @@
+pub mod Encoders
+pub mod Numbers
+pub mod Examples

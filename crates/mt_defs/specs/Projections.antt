@@ -1,0 +1,116 @@
+-- Projections: what they store, and which stored rows stand for which rows, docs/FORMAT.md, "Projections" (ClickHouse: ProjectionDescription).
+use Rattle.std.specs.Prelude.{◌≡◌, ℕ, ◌+◌, Bool, true, false, ◌&&◌, ◌==◌, if◌then◌else◌, List, [], ◌∷◌, ◌++◌, length, map, filter, take, codes, Option, Some, None, IsPermutation}
+use Rattle.std.specs.List.{list_any, range_with_len}
+use Rattle.std.specs.Ordering.{is_eq}
+use Rattle.mt_types.specs.declared.ty.Agg.{Agg}
+use Rattle.mt_types.specs.declared.ty.Agg.TheVariants.{Sum, Min, Max}
+use Rattle.mt_types.specs.declared.ty.Ty.TheVariants.{CountState, State as StateOf}
+use Rattle.mt_types.specs.declared.value.AggState.{AggState}
+use Rattle.mt_types.specs.declared.value.Value.{Value, out-Value}
+use Rattle.mt_types.specs.declared.value.Value.TheOpen.{Value-F}
+use Rattle.mt_types.specs.Order.{values_cmp}
+use Rattle.mt_table.specs.declared.column.Column.{Column}
+use Rattle.mt_table.specs.declared.definition.Table.{Table}
+use Rattle.mt_table.specs.declared.definition.PartDef.{PartDef}
+use Rattle.mt_table.specs.declared.projection.Aggregate.{Aggregate}
+use Rattle.mt_table.specs.declared.projection.Aggregate.TheVariants.{Count, Of}
+use Rattle.mt_table.specs.declared.projection.Projection.{Projection}
+use Rattle.mt_table.specs.declared.projection.Projection.TheVariants.{Normal, Grouped}
+use Rattle.mt_defs.specs.Rows.{Row, cell, key_of}
+use Rattle.mt_defs.specs.Metadata.{column_at}
+use Rattle.mt_defs.specs.Folds.{fold_of, merge_of}
+
+-- ---- what is stored
+
+-- what the table's own part stores
+abbrev pub base_of : Table → PartDef
+base_of table = record { columns = table.columns; sort = table.sort; primary = table.primary }
+
+-- the columns that a normal projection stores, in the table's order
+abbrev pub stored_columns : Table → List ℕ → List ℕ
+stored_columns table columns = filter (λ i. list_any (λ j. j == i) columns) (range_with_len 0 (length table.columns))
+
+-- where a column stands among some columns
+abbrev pub index_in : List ℕ → ℕ → ℕ
+index_in [] i = 0
+index_in (j ∷ js) i = if j == i then 0 else index_in js i + 1
+
+-- the name of an aggregate function
+abbrev pub aggregate_word : Agg → List ℕ
+aggregate_word Sum = codes "sum"
+aggregate_word Min = codes "min"
+aggregate_word Max = codes "max"
+
+-- the column of an aggregate's states
+abbrev pub state_column : Table → Aggregate → Column
+state_column table Count = record { name = codes "count()"; ty = CountState }
+state_column table (Of agg i) =
+    record { name = aggregate_word agg ++ codes "(" ++ (column_at table.columns i).name ++ codes ")"; ty = StateOf agg (column_at table.columns i).ty }
+
+-- what a projection stores: its columns in the table's order, or its keys and then a state per aggregate
+abbrev pub inner_of : Table → Projection → PartDef
+inner_of table (Normal name columns sort) =
+    let stored = stored_columns table columns in
+    record { columns = map (column_at table.columns) stored; sort = map (index_in stored) sort; primary = length sort }
+inner_of table (Grouped name keys aggs) =
+    record { columns = map (column_at table.columns) keys ++ map (state_column table) aggs; sort = range_with_len 0 (length keys); primary = length keys }
+
+abbrev pub projection_name : Projection → List ℕ
+projection_name (Normal name columns sort) = name
+projection_name (Grouped name keys aggs) = name
+
+-- the folder of a projection, below the part
+abbrev pub projection_prefix : Projection → List ℕ
+projection_prefix projection = projection_name projection ++ codes ".proj/"
+
+-- ---- which stored rows stand for which rows
+
+abbrev pub is_same_key : List Value → List Value → Bool
+is_same_key a b = is_eq (values_cmp a b)
+
+-- the rows of a key
+abbrev pub with_key : List ℕ → List Value → List Row → List Row
+with_key keys key rows = filter (λ row. is_same_key key (key_of keys row)) rows
+
+abbrev pub is_same_agg : Agg → Agg → Bool
+is_same_agg Sum Sum = true
+is_same_agg Min Min = true
+is_same_agg Max Max = true
+is_same_agg _ _ = false
+
+abbrev pub is_same_aggregate : Aggregate → Aggregate → Bool
+is_same_aggregate Count Count = true
+is_same_aggregate (Of f i) (Of g j) = is_same_agg f g && (i == j)
+is_same_aggregate _ _ = false
+
+-- where an aggregate stands among the projection's
+abbrev pub aggregate_index : List Aggregate → Aggregate → ℕ
+aggregate_index [] aggregate = 0
+aggregate_index (a ∷ aggs) aggregate = if is_same_aggregate a aggregate then 0 else aggregate_index aggs aggregate + 1
+
+-- the key of a stored row
+abbrev pub stored_key : List ℕ → Row → List Value
+stored_key keys row = take (length keys) row
+
+abbrev pub state_at : Value-F Value → Option AggState
+state_at (Value-F.State state) = Some state
+state_at _ = None
+
+-- the state of an aggregate in a stored row
+abbrev pub stored_state : List ℕ → List Aggregate → Aggregate → Row → Option AggState
+stored_state keys aggs aggregate row = state_at (out-Value (cell row (length keys + aggregate_index aggs aggregate)))
+
+-- the stored rows of a key
+abbrev pub stored_with_key : List ℕ → List Value → List Row → List Row
+stored_with_key keys key stored = filter (λ row. is_same_key key (stored_key keys row)) stored
+
+-- the stored rows have the keys of the rows, and for each key the merge of its states is the fold over its rows
+pub record FoldsRows (keys : List ℕ) (aggs : List Aggregate) (rows stored : List Row) : Type 0 where
+  pub same_keys : (key : List Value) → list_any (λ row. is_same_key key (stored_key keys row)) stored ≡ list_any (λ row. is_same_key key (key_of keys row)) rows
+  pub folds : (key : List Value) (aggregate : Aggregate) → list_any (λ a. is_same_aggregate a aggregate) aggs ≡ true
+      → merge_of aggregate (map (stored_state keys aggs aggregate) (stored_with_key keys key stored)) ≡ Some (fold_of (with_key keys key rows) aggregate)
+
+-- the stored rows of a projection stand for these rows
+abbrev pub IsProjectionOf : Table → Projection → List Row → List Row → Type 0
+IsProjectionOf table (Normal name columns sort) rows stored = IsPermutation (map (key_of (stored_columns table columns)) rows) stored
+IsProjectionOf table (Grouped name keys aggs) rows stored = FoldsRows keys aggs rows stored

@@ -1,0 +1,23 @@
+//! Limits of table texts, and the settings that stand where a text gives none.
+
+/// The most bytes of a name.
+pub const MAX_NAME: usize = 64;
+/// The most columns of a table.
+pub const MAX_COLUMNS: usize = 256;
+/// The most skip indexes of a table.
+pub const MAX_SKIPS: usize = 16;
+/// The most projections of a table.
+pub const MAX_PROJECTIONS: usize = 8;
+/// The most columns of a key, and aggregates of a projection.
+pub const MAX_KEY: usize = 16;
+/// The most expressions of a partition key.
+pub const MAX_PARTITION: usize = 4;
+/// The most rows that `index_granularity` may ask for in the two-column form.
+pub const MAX_GRANULE_ROWS: u64 = 8192;
+
+/// `index_granularity` where none is given, in rows (ClickHouse: `MergeTreeSettings`).
+pub const DEFAULT_GRANULE_ROWS: u64 = 8192;
+/// `index_granularity_bytes` where none is given: 10 MiB.
+pub const DEFAULT_GRANULE_BYTES: u64 = 10_485_760;
+/// `min_rows_for_wide_part` where none is given.
+pub const DEFAULT_WIDE_ROWS: u64 = 0;

@@ -1,0 +1,97 @@
+//! Which values a type has.
+
+ghost use Rattle.std.specs.Prelude.{◌≡◌};
+ghost use Rattle.std.specs.List.{list_all};
+ghost use Rattle.mt_types.specs.Fits.{bits, fits_of, is_count, is_least_of, is_signed, is_state_of, is_unsigned};
+
+use crate::limits::{MAX_ELEMENTS, MAX_TEXT};
+use crate::ty::{Agg, Ty, Width};
+use crate::value::{AggState, Value};
+
+impl Width {
+    /// Whether the number is from 0 to 2^bits - 1.
+    pub fn holds_unsigned(self, number: i128) -> bool
+        ensures { result ≡ is_unsigned (bits self) number }
+    {
+        match self {
+            Width::W8 => 0 <= number && number < 0x100,
+            Width::W16 => 0 <= number && number < 0x1_0000,
+            Width::W32 => 0 <= number && number < 0x1_0000_0000,
+            Width::W64 => 0 <= number && number < 0x1_0000_0000_0000_0000,
+        }
+    }
+
+    /// Whether the number is from -2^(bits - 1) to 2^(bits - 1) - 1.
+    pub fn holds_signed(self, number: i128) -> bool
+        ensures { result ≡ is_signed (bits self) number }
+    {
+        match self {
+            Width::W8 => -0x80 <= number && number < 0x80,
+            Width::W16 => -0x8000 <= number && number < 0x8000,
+            Width::W32 => -0x8000_0000 <= number && number < 0x8000_0000,
+            Width::W64 => -0x8000_0000_0000_0000 <= number && number < 0x8000_0000_0000_0000,
+        }
+    }
+}
+
+/// Whether the value is one of the type's. It takes no memory.
+#[cycle(fits)]
+pub fn fits(ty: &Ty, value: &Value) -> bool
+    ensures { result ≡ fits_of ty.now value.now }
+{
+    match (ty, value) {
+        (Ty::UInt(width), Value::Num(number)) => width.holds_unsigned(*number),
+        (Ty::Int(width), Value::Num(number)) => width.holds_signed(*number),
+        (Ty::Date, Value::Num(day)) => Width::W16.holds_unsigned(*day),
+        (Ty::FixedString(size), Value::Text(bytes)) => bytes.len() == *size as usize,
+        (Ty::Str, Value::Text(bytes)) => bytes.len() <= MAX_TEXT,
+        (Ty::Nullable(_), Value::Null) => true,
+        (Ty::Nullable(inner), _) => fits(inner.get(), value),
+        (Ty::Array(inner), Value::List(items)) => {
+            items.len() <= MAX_ELEMENTS && all_fit(inner.get(), items.as_slice())
+        }
+        (Ty::State(agg, inner), Value::State(state)) => state_fits(*agg, inner.get(), *state),
+        (Ty::CountState, Value::State(state)) => is_count(*state),
+        _ => false,
+    }
+}
+
+#[cycle(fits)]
+fn all_fit(ty: &Ty, items: &[Value]) -> bool
+    ensures { result ≡ list_all (fits_of ty.now) items.now }
+{
+    for item in items {
+        if !fits(ty, item) {
+            return false;
+        }
+    }
+    true
+}
+
+#[cycle(fits)]
+fn state_fits(agg: Agg, argument: &Ty, state: AggState) -> bool
+    ensures { result ≡ is_state_of agg (fits_of argument.now) state }
+{
+    match (agg, state) {
+        (Agg::Sum, AggState::Sum(_)) => true,
+        (Agg::Min, AggState::Least(number)) => number_fits(argument, number),
+        (Agg::Max, AggState::Greatest(number)) => number_fits(argument, number),
+        _ => false,
+    }
+}
+
+#[cycle(fits)]
+fn number_fits(argument: &Ty, number: Option<i128>) -> bool
+    ensures { result ≡ is_least_of (fits_of argument.now) number }
+{
+    match number {
+        None => true,
+        Some(number) => fits(argument, &Value::Num(number)),
+    }
+}
+
+fn is_count(state: AggState) -> bool
+    ensures { result ≡ is_count state }
+{
+    matches!(state, AggState::Count(_))
+}

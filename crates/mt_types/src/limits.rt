@@ -1,0 +1,13 @@
+//! The limits on types and values (docs/FORMAT.md, "Limits").
+
+/// The most bytes of a `String`, 16 MiB: several of that length fit into one frame.
+pub const MAX_TEXT: usize = 16_777_216;
+
+/// The most bytes of a `FixedString`: 1,024 values of that length fit into one frame.
+pub const MAX_FIXED_STRING: u32 = 65_535;
+
+/// The most elements of an array: at 64 bytes a value they take 64 MiB of memory.
+pub const MAX_ELEMENTS: usize = 1_048_576;
+
+/// How many arrays may stand inside each other: no value is deeper, so recursion over it is shallow.
+pub const MAX_ARRAY_DEPTH: u32 = 3;

@@ -1,0 +1,56 @@
+//! The order on values, and on rows.
+
+ghost use Rattle.std.specs.Prelude.{◌≡◌};
+ghost use Rattle.mt_types.specs.Order.{state_cmp, value_cmp, values_cmp};
+
+use crate::value::{AggState, Value};
+use std::cmp::Ordering;
+
+/// Numbers, texts, lists, states, and NULL last. It takes no memory.
+#[cycle(compare)]
+pub fn compare(a: &Value, b: &Value) -> Ordering
+    ensures { result ≡ value_cmp a.now b.now }
+{
+    match (a, b) {
+        (Value::Num(m), Value::Num(n)) => m.cmp(n),
+        (Value::Text(x), Value::Text(y)) => x.as_slice().cmp(y.as_slice()),
+        (Value::List(x), Value::List(y)) => compare_items(x.as_slice(), y.as_slice()),
+        (Value::State(s), Value::State(t)) => compare_states(s, t),
+        (Value::Null, Value::Null) => Ordering::Equal,
+        (Value::Num(_), _) => Ordering::Less,
+        (_, Value::Num(_)) => Ordering::Greater,
+        (Value::Text(_), _) => Ordering::Less,
+        (_, Value::Text(_)) => Ordering::Greater,
+        (Value::List(_), _) => Ordering::Less,
+        (_, Value::List(_)) => Ordering::Greater,
+        (Value::State(_), _) => Ordering::Less,
+        (_, Value::State(_)) => Ordering::Greater,
+    }
+}
+
+/// Element by element, as rows and keys compare, a proper prefix first. It takes no memory.
+#[cycle(compare)]
+pub fn compare_items(a: &[Value], b: &[Value]) -> Ordering
+    ensures { result ≡ values_cmp a.now b.now }
+{
+    for (i, x) in a.iter().enumerate() {
+        if i >= b.len() {
+            return Ordering::Greater;
+        }
+        match compare(x, &b[i]) {
+            Ordering::Equal => {}
+            other => return other,
+        }
+    }
+    if a.len() < b.len() {
+        Ordering::Less
+    } else {
+        Ordering::Equal
+    }
+}
+
+fn compare_states(a: &AggState, b: &AggState) -> Ordering
+    ensures { result ≡ state_cmp a.now b.now }
+{
+    a.cmp(b)
+}
