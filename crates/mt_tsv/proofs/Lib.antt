@@ -1,0 +1,11 @@
+pub mod Prefixes
+pub mod Parts
+pub mod DigitRuns
+pub mod Days
+pub mod Escapes
+pub mod Lines
+pub mod Elements
+pub mod Items
+pub mod Joins
+pub mod Casts
+pub mod Walk

@@ -1,0 +1,10 @@
+use Rattle.std.proofs.Common.{arith}
+use Rattle.std.proofs.lemmas.List.Sums.{prefix_len-le-length}
+use Rattle.mt_tsv.specs.Arrays.{is_space}
+use Rattle.mt_tsv.proofs.level.without_first_spaces.Goals as goal
+
+pub slice_bounds-result-count : goal.slice_bounds-result-count
+slice_bounds-result-count c = omega (arith, c.first_spaces.ensures, prefix_len-le-length is_space c.args.text.now)
+
+pub slice_bounds-result-start : goal.slice_bounds-result-start
+slice_bounds-result-start c = omega (arith, c.first_spaces.ensures, prefix_len-le-length is_space c.args.text.now)

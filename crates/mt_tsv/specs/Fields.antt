@@ -1,0 +1,29 @@
+-- Fields of a line: docs/FORMAT.md, "Lines of tab separated values".
+use Rattle.std.specs.Prelude.{ℕ, List, [], ◌∷◌, Result, Ok, Err, Bool, false, ◌==◌, ◌&&◌, if◌then◌else◌}
+use Rattle.mt_types.specs.declared.ty.Ty.{Ty, out-Ty}
+use Rattle.mt_types.specs.declared.ty.Ty.TheOpen.{Ty-F}
+use Rattle.mt_types.specs.declared.value.Value.{Value}
+use Rattle.mt_types.specs.declared.value.Value.TheVariants.{Null as NullValue}
+use Rattle.mt_tsv.specs.declared.ascii.TheConstants.{BACKSLASH}
+use Rattle.mt_tsv.specs.declared.fault.RowWhy.{RowWhy}
+use Rattle.mt_tsv.specs.declared.fault.RowWhy.TheVariants.{Null}
+use Rattle.mt_tsv.specs.Scalars.{scalar_at, scalar_of}
+use Rattle.mt_tsv.specs.Arrays.{array_of, element_of}
+
+-- \N, which is NULL
+abbrev pub is_null : List ℕ → Bool
+is_null (b ∷ letter ∷ []) = (b == BACKSLASH) && (letter == 78)
+is_null _ = false
+
+-- a value of a type that isn't Nullable
+abbrev pub unless_null : List ℕ → Result Value RowWhy → Result Value RowWhy
+unless_null field reading = if is_null field then Err Null else reading
+
+abbrev pub field_at : Ty-F Ty → List ℕ → Result Value RowWhy
+field_at (Ty-F.Nullable inner) field = if is_null field then Ok NullValue else scalar_of inner field
+field_at (Ty-F.Array inner) field = array_of (element_of inner) field
+field_at ty field = unless_null field (scalar_at ty field)
+
+-- the value of a field of a column of this type
+unfoldable pub field_of : Ty → List ℕ → Result Value RowWhy
+field_of ty field = field_at (out-Ty ty) field

@@ -1,0 +1,10 @@
+pub mod Steps
+pub mod Dates
+pub mod Texts
+pub mod Scalars
+pub mod Cells
+pub mod Nesting
+pub mod Arrays
+pub mod Printing
+pub mod Fields
+pub mod Reading

@@ -1,0 +1,56 @@
+-- Integers, dates and texts alone: docs/FORMAT.md, "Lines of tab separated values".
+use Rattle.std.specs.Prelude.{ℕ, ◌^◌, List, [], ◌∷◌, length, Result, Ok, Err, Option, Some, None, nat_lt, ◌==◌, ◌&&◌, if◌then◌else◌, ℤ, pos, neg_ℤ, Bool}
+use Rattle.std.specs.Str.{all_ascii_digits}
+use Rattle.std.specs.Str.Parse.{digits_value}
+use Rattle.mt_types.specs.declared.ty.Ty.{Ty, out-Ty}
+use Rattle.mt_types.specs.declared.ty.Ty.TheOpen.{Ty-F}
+use Rattle.mt_types.specs.declared.value.Value.{Value}
+use Rattle.mt_types.specs.declared.value.Value.TheVariants.{Num, Text}
+use Rattle.mt_types.specs.Fits.{bits, is_unsigned, is_signed}
+use Rattle.mt_tsv.specs.declared.ascii.TheConstants.{MINUS}
+use Rattle.mt_tsv.specs.declared.limits.TheConstants.{MAX_TEXT}
+use Rattle.mt_tsv.specs.declared.fault.RowWhy.{RowWhy}
+use Rattle.mt_tsv.specs.declared.fault.RowWhy.TheVariants.{Number, Range, Date, List as BadList}
+use Rattle.mt_tsv.specs.Steps.{◌>>=◌, unless_bad}
+use Rattle.mt_tsv.specs.Dates.{date_of}
+use Rattle.mt_tsv.specs.Texts.{bounded_text, padded_text}
+
+-- the number of digits alone; no type has 2 ^ 64 or more
+unfoldable pub magnitude_of : List ℕ → Result ℕ RowWhy
+magnitude_of text =
+    unless_bad (nat_lt 0 (length text) && all_ascii_digits text) Number
+    (unless_bad (nat_lt (digits_value 10 text) (2 ^ 64)) Range (Ok (digits_value 10 text)))
+
+-- an integer: digits, or a minus and digits
+unfoldable pub integer_of : List ℕ → Result ℤ RowWhy
+integer_of [] = Err Number
+integer_of (c ∷ text) =
+    if c == MINUS then (magnitude_of text >>= λ n. Ok (neg_ℤ (pos n)))
+    else (magnitude_of (c ∷ text) >>= λ n. Ok (pos n))
+
+-- an integer of a type, which the test is
+unfoldable pub number_of : (ℤ → Bool) → List ℕ → Result ℤ RowWhy
+number_of is_in_type text = do
+  n ← integer_of text
+  unless_bad (is_in_type n) Range (Ok n)
+
+-- the same as a value
+abbrev pub number_value : Result ℤ RowWhy → Result Value RowWhy
+number_value reading = reading >>= λ n. Ok (Num n)
+
+-- a date, which must be one
+abbrev pub day_of : Option ℕ → Result Value RowWhy
+day_of (Some day) = Ok (Num (pos day))
+day_of None = Err Date
+
+-- the value of a type that is no Nullable, array or state
+abbrev pub scalar_at : {X : Type 0} → Ty-F X → List ℕ → Result Value RowWhy
+scalar_at (Ty-F.UInt width) text = number_value (number_of (is_unsigned (bits width)) text)
+scalar_at (Ty-F.Int width) text = number_value (number_of (is_signed (bits width)) text)
+scalar_at (Ty-F.FixedString size) text = padded_text size text >>= λ bytes. Ok (Text bytes)
+scalar_at Ty-F.Str text = bounded_text MAX_TEXT text >>= λ bytes. Ok (Text bytes)
+scalar_at Ty-F.Date text = day_of (date_of text)
+scalar_at _ text = Err BadList
+
+unfoldable pub scalar_of : Ty → List ℕ → Result Value RowWhy
+scalar_of ty text = scalar_at (out-Ty ty) text

@@ -1,0 +1,30 @@
+//! Lines of tab separated values as rows, and back.
+//!
+//! `read_rows` gives exactly the rows of a text, or the first line that is none with its first why.
+#![tactic(auto)]
+
+mod array;
+mod ascii;
+mod cells;
+mod date;
+mod day;
+mod digits;
+mod escape;
+mod fault;
+mod field;
+mod level;
+mod limits;
+mod line;
+mod nesting;
+mod number;
+mod print;
+mod rows;
+mod scalar;
+mod split;
+mod text;
+mod writing;
+
+pub use fault::{RowError, RowWhy};
+pub use limits::{MAX_CELLS, MAX_ROWS};
+pub use rows::read_rows;
+pub use writing::write_row;
