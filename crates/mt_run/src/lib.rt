@@ -1,0 +1,16 @@
+//! The top call.
+#![tactic(auto)]
+
+mod folder;
+mod input;
+mod limits;
+mod note;
+mod status;
+mod table;
+mod top;
+mod words;
+mod write;
+
+pub use limits::{MAX_FOLDER, MAX_INPUT, MAX_TABLE_TEXT, MAX_WORKERS};
+pub use status::{Status, What};
+pub use top::run;
