@@ -1,36 +1,15 @@
-//! Stub.
+//! The writer: rows in key order, and the one folder that stands for them.
+//!
+//! `sort_rows` gives the one stable order of rows, and `build` exactly the files of the writer's folder.
 #![tactic(auto)]
-ghost use Rattle.std.specs.Prelude.{◌≡◌, ◌<◌, ◌≤◌, length, IfOk, All};
-ghost use Rattle.mt_defs.specs.Sorting.{sorted_rows};
-ghost use Rattle.mt_defs.specs.Writer.{written_folder};
-ghost use Rattle.mt_shelf.specs.Held.{HasName};
 
-use mt_shelf::{FileBytes, Gate};
-use mt_table::Table;
-use mt_types::{List, NoMemory, Row};
-use std::alloc::Global;
-use std::thread::Threads;
 
-/// Stub.
-pub fn sort_rows(_alloc: Global, table: &Table, _rows: List<Row>) -> Result<List<Row>, NoMemory>
-    ensures { IfOk result (λ sorted. sorted ≡ sorted_rows table.now.sort _rows) }
-{
-    Err(NoMemory)
-}
 
-/// Stub.
-pub fn build<R: Threads + Sync, G: Gate + Sync>(
-    _rt: &R,
-    _alloc: Global,
-    table: &Table,
-    rows: &[Row],
-    workers: u64,
-    _gate: &G,
-) -> Result<List<FileBytes>, NoMemory>
-    requires few { 0 < workers }
-    requires many { workers ≤ 64 }
-    ensures folder { IfOk result (λ files. files ≡ written_folder table.now rows.now) }
-    ensures names { IfOk result (λ files. All HasName files) }
-{
-    Err(NoMemory)
-}
+
+mod items;
+mod names;
+mod sorting;
+
+
+
+pub use sorting::sort_rows;

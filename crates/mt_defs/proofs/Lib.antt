@@ -1,3 +1,4 @@
 pub mod Encoders
 pub mod Numbers
 pub mod Examples
+pub mod Sorted

@@ -1,12 +1,6 @@
 -- Words on lists that std lacks.
+pub use Rattle.mt_table.specs.Rows.{Pointwise}
 use Rattle.std.specs.Prelude.{ℕ, ◌+◌, ◌<◌, Bool, not, List, [], ◌∷◌, filter, All}
-
--- the relation holds of the elements at each index, and the lists are equally long
-abbrev pub Pointwise : {A B : Type 0} → (A → B → Type 0) → List A → List B → Type 0
-Pointwise R [] [] = Unit {0}
-Pointwise R [] (y ∷ ys) = ⊥
-Pointwise R (x ∷ xs) [] = ⊥
-Pointwise R (x ∷ xs) (y ∷ ys) = R x y × Pointwise R xs ys
 
 -- each element once, where it first appears
 abbrev pub distinct_by : {X : Type 0} → (X → X → Bool) → List X → List X

@@ -1,5 +1,5 @@
 -- Marks of a data file and the positions that they denote: docs/FORMAT.md, "Marks" (ClickHouse: MarkInCompressedFile).
-use Rattle.std.specs.Prelude.{◌≡◌, ℕ, ◌+◌, ◌≤◌, ◌<◌, ◌^◌, ◌⊎◌, List, [], ◌∷◌, ◌++◌, length, map, sum, replicate, All}
+use Rattle.std.specs.Prelude.{◌≡◌, ℕ, ◌+◌, ◌≤◌, ◌<◌, ◌^◌, ◌⊎◌, List, [], ◌∷◌, ◌++◌, length, map, take, drop, sum, replicate, All}
 use Rattle.std.specs.List.{flat_map, zip}
 use Rattle.std.specs.List.Sorted.{IsNonDecreasingBy}
 use Rattle.std.specs.Int.{w64, to_le_bytes}
@@ -45,6 +45,11 @@ entry_bytes marks rows = flat_map mark_bytes marks ++ u64_bytes rows
 -- a marks file: an entry per granule, and one for the end
 abbrev pub marks_bytes : List (List Mark) → List ℕ → List ℕ
 marks_bytes marks rows = flat_map (λ (entry_marks, entry_rows). entry_bytes entry_marks entry_rows) (zip marks rows)
+
+-- the marks of each entry, where all are listed in the file's order
+abbrev pub entry_marks : ℕ → List Mark → List ℕ → List (List Mark)
+entry_marks per_granule marks [] = []
+entry_marks per_granule marks (count ∷ rows) = take per_granule marks ∷ entry_marks per_granule (drop per_granule marks) rows
 
 -- where the payloads of each granule begin
 abbrev pub granule_starts : ℕ → List (List ℕ) → List (List ℕ)

@@ -1,13 +1,10 @@
-// A library with one function.
+//! The text files of a part: columns.txt and count.txt.
+//!
+//! `columns_text` and `count_text` give exactly the bytes of the two files.
 #![tactic(auto)]
 
-ghost use Rattle.std.specs.Prelude.{◌≡◌};
-ghost use Rattle.mt_meta.specs.Echo.{echo_of};
+mod columns;
+mod count;
 
-// The `ensures` clause is the contract: what `echo` returns is `echo_of` of its argument, a definition
-// in `specs/Echo.antt`, which a caller's clause can cite too.
-pub fn echo(x: usize) -> usize
-    ensures { result ≡ echo_of x }
-{
-    x
-}
+pub use columns::columns_text;
+pub use count::count_text;

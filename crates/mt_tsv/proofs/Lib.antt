@@ -9,3 +9,6 @@ pub mod Items
 pub mod Joins
 pub mod Casts
 pub mod Walk
+pub mod RowLimits
+pub mod FieldFits
+pub mod RowsFit

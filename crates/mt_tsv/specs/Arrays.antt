@@ -1,4 +1,4 @@
--- Arrays: docs/FORMAT.md, "Lines of tab separated values".
+-- Arrays: docs/LANGUAGE.md, "Lines".
 use Rattle.std.specs.Prelude.{ℕ, ◌-◌, List, [], ◌∷◌, length, map, take, drop, Result, Ok, Err, Option, Some, None, Bool, true, false, nat_le, ◌==◌, ◌&&◌, if◌then◌else◌, slice_index, slice_range}
 use Rattle.std.specs.List.{list_all, prefix_len, suffix_len}
 use Rattle.mt_types.specs.declared.ty.Ty.{Ty}

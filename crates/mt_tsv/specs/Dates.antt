@@ -1,4 +1,4 @@
--- Dates as text: docs/FORMAT.md, "Lines of tab separated values".
+-- Dates as text: docs/LANGUAGE.md, "Lines".
 use Rattle.std.specs.Prelude.{ℕ, zero, suc, ◌+◌, ◌-◌, ◌*◌, ◌/◌, ◌%◌, ◌^◌, List, [], ◌∷◌, ◌++◌, Option, Some, None, Bool, nat_le, nat_lt, ◌&&◌, ◌==◌, if◌then◌else◌, ℤ, pos, negsuc, option_and_then}
 use Rattle.std.specs.Char.{is_ascii_digit}
 use Rattle.jiff_core.specs.Calendar.{days_in_year, days_in_month, days_from_civil}

@@ -1,4 +1,4 @@
--- Fields of a line: docs/FORMAT.md, "Lines of tab separated values".
+-- Fields of a line: docs/LANGUAGE.md, "Lines".
 use Rattle.std.specs.Prelude.{ℕ, List, [], ◌∷◌, Result, Ok, Err, Bool, false, ◌==◌, ◌&&◌, if◌then◌else◌}
 use Rattle.mt_types.specs.declared.ty.Ty.{Ty, out-Ty}
 use Rattle.mt_types.specs.declared.ty.Ty.TheOpen.{Ty-F}

@@ -1,4 +1,4 @@
--- Brackets and quotes of arrays: docs/FORMAT.md, "Lines of tab separated values".
+-- Brackets and quotes of arrays: docs/LANGUAGE.md, "Lines".
 use Rattle.std.specs.Prelude.{◌≡◌, ℕ, ◌+◌, ◌-◌, List, [], ◌∷◌, length, take, drop, Option, Some, None, Bool, true, false, ◌==◌, if◌then◌else◌}
 use Rattle.std.specs.List.{onto_first}
 use Rattle.mt_tsv.specs.declared.ascii.TheConstants.{BACKSLASH, QUOTE, OPEN, CLOSE, COMMA}

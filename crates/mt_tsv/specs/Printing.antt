@@ -1,4 +1,4 @@
--- The text of rows: docs/FORMAT.md, "Lines of tab separated values".
+-- The text of rows: docs/LANGUAGE.md, "Lines".
 use Rattle.std.specs.Prelude.{ℕ, zero, suc, ◌^◌, ℤ, pos, negsuc, nat_lt, List, [], ◌∷◌, ◌++◌, map, Option, Some, None, Bool, true, false, ◌==◌, if◌then◌else◌, codes}
 use Rattle.std.specs.List.{flat_map, join_with_byte}
 use Rattle.std.specs.Fmt.{signed_decimal}

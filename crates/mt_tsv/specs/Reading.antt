@@ -1,4 +1,4 @@
--- Lines as rows: docs/FORMAT.md, "Lines of tab separated values".
+-- Lines as rows: docs/LANGUAGE.md, "Lines".
 use Rattle.std.specs.Prelude.{ℕ, ◌+◌, List, [], ◌∷◌, length, Result, Ok, Err, Option, Some, None, nat_lt, ◌==◌}
 use Rattle.std.specs.List.{slice_split}
 use Rattle.mt_types.specs.declared.value.Value.{Value}

@@ -1,4 +1,4 @@
--- Integers, dates and texts alone: docs/FORMAT.md, "Lines of tab separated values".
+-- Integers, dates and texts alone: docs/LANGUAGE.md, "Lines".
 use Rattle.std.specs.Prelude.{ℕ, ◌^◌, List, [], ◌∷◌, length, Result, Ok, Err, Option, Some, None, nat_lt, ◌==◌, ◌&&◌, if◌then◌else◌, ℤ, pos, neg_ℤ, Bool}
 use Rattle.std.specs.Str.{all_ascii_digits}
 use Rattle.std.specs.Str.Parse.{digits_value}

@@ -1,4 +1,4 @@
--- Texts: docs/FORMAT.md, "Lines of tab separated values".
+-- Texts: docs/LANGUAGE.md, "Lines".
 use Rattle.std.specs.Prelude.{ℕ, ◌-◌, List, [], ◌∷◌, ◌++◌, length, replicate, Result, Ok, Err, Option, Some, None, nat_le, ◌==◌, if◌then◌else◌}
 use Rattle.mt_tsv.specs.declared.ascii.TheConstants.{BACKSLASH}
 use Rattle.mt_tsv.specs.declared.fault.RowWhy.{RowWhy}

@@ -1,4 +1,4 @@
-//! The bytes that lines are made of (docs/FORMAT.md, "Lines of tab separated values").
+//! The bytes that lines are made of (docs/LANGUAGE.md, "Lines").
 
 /// Between the fields of a line.
 pub const TAB: u8 = b'\t';

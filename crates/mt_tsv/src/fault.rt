@@ -8,8 +8,7 @@ use mt_types::NoMemory;
 use std::error::Error;
 use std::fmt;
 
-/// What is wrong with a line, in the order in which it is judged (docs/FORMAT.md, "Lines of tab
-/// separated values").
+/// What is wrong with a line or with its first bad field (docs/LANGUAGE.md, "Lines").
 #[derive(Clone, Copy, Debug, PartialEq, Eq)]
 pub enum RowWhy {
     /// The text ends before the line does.

@@ -21,6 +21,8 @@ mod print;
 mod rows;
 mod scalar;
 mod split;
+#[cfg(test)]
+mod tests;
 mod text;
 mod writing;
 

@@ -1,6 +1,8 @@
 //! Lines as rows.
 
-ghost use Rattle.std.specs.Prelude.{◌≡◌};
+ghost use Rattle.std.specs.Prelude.{◌≡◌, ◌≢◌, ◌≤◌, [], length, All, IfOk};
+ghost use Rattle.mt_table.specs.Rows.{RowFits, cell_count};
+ghost use Rattle.mt_tsv.specs.declared.limits.TheConstants.{MAX_ROWS, MAX_CELLS};
 ghost use Rattle.mt_tsv.specs.Steps.{GivesRows};
 ghost use Rattle.mt_tsv.specs.Reading.{error_at, rows_reading};
 
@@ -23,13 +25,16 @@ fn at_line(line: u64, error: FieldError) -> RowError
     }
 }
 
-/// The rows of a text (docs/FORMAT.md, "Lines of tab separated values"; ClickHouse: `TabSeparated`,
-/// with fewer escapes).
+/// The rows of a text (docs/LANGUAGE.md, "Lines"; ClickHouse: `TabSeparated`, with fewer escapes).
 ///
 /// Whichever line is out of form or passes a limit first decides; of one line its form comes before
 /// `Rows`, and `Rows` before `Cells`.
 pub fn read_rows(alloc: Global, table: &Table, text: &[u8]) -> Result<List<Row>, RowError>
     ensures reads { GivesRows result (rows_reading table.now.columns text.now) }
+    ensures fit { IfOk result (λ rows. All (RowFits table.now.columns) rows) }
+    ensures few_rows { IfOk result (λ rows. length rows ≤ MAX_ROWS) }
+    ensures few_cells { IfOk result (λ rows. cell_count table.now.columns rows ≤ MAX_CELLS) }
+    ensures some { IfOk result (λ rows. text.now ≢ [] → rows ≢ []) }
 {
     let columns = table.columns.as_slice();
     let mut rows = List::new(alloc);

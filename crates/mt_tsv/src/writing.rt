@@ -8,7 +8,7 @@ use crate::print::{append_field, append_separator};
 use mt_table::Column;
 use mt_types::{List, NoMemory, Row};
 
-/// Appends the line of a row (docs/FORMAT.md, "Lines of tab separated values").
+/// Appends the line of a row (docs/LANGUAGE.md, "Lines").
 pub fn write_row(columns: &[Column], row: &Row, out: &mut List<u8>) -> Result<(), NoMemory>
     requires { length row.now ≡ length columns.now }
     ensures { OnOk result (out.new ≡ out.old ++ row_text columns.now row.now) }

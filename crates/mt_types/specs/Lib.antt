@@ -6,3 +6,8 @@ pub mod Names
 pub mod Leb128
 pub mod Items
 pub mod Defaults
+pub mod NameReading
+pub mod Parts
+pub mod Ties
+pub mod Ordered
+pub mod Hashed

@@ -10,7 +10,7 @@ pub struct NoMemory;
 
 impl fmt::Display for NoMemory {
     fn fmt<W: fmt::Write>(&self, f: &mut fmt::Formatter<W>) -> fmt::Result {
-        write!(f, "no memory")
+        write!(f, "out of memory")
     }
 }
 

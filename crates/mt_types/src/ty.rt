@@ -4,10 +4,12 @@ ghost use Rattle.std.specs.Prelude.{◌≡◌, ◌↔◌, IfOk, IsTrue};
 ghost use Rattle.mt_types.specs.Defaults.{default_of, empty_state};
 
 mod name;
+mod read_name;
 
 use crate::list::List;
 use crate::memory::NoMemory;
 use crate::value::{AggState, Value};
+pub use read_name::TyError;
 use sqlite_items::Boxed;
 use std::alloc::Global;
 
@@ -87,6 +89,25 @@ impl Ty {
             (Ty::State(a, t), Ty::State(b, u)) => a == b && t.get().is_same(u.get()),
             (Ty::CountState, Ty::CountState) => true,
             _ => false,
+        }
+    }
+
+    /// The same type.
+    pub fn copy(&self, alloc: Global) -> Result<Ty, NoMemory>
+        ensures { IfOk result (λ copied. copied ≡ self.now) }
+    {
+        match self {
+            Ty::UInt(width) => Ok(Ty::UInt(*width)),
+            Ty::Int(width) => Ok(Ty::Int(*width)),
+            Ty::FixedString(size) => Ok(Ty::FixedString(*size)),
+            Ty::Str => Ok(Ty::Str),
+            Ty::Date => Ok(Ty::Date),
+            Ty::Nullable(inner) => Ok(Ty::Nullable(Boxed::new(alloc, inner.get().copy(alloc)?)?)),
+            Ty::Array(inner) => Ok(Ty::Array(Boxed::new(alloc, inner.get().copy(alloc)?)?)),
+            Ty::State(agg, inner) => {
+                Ok(Ty::State(*agg, Boxed::new(alloc, inner.get().copy(alloc)?)?))
+            }
+            Ty::CountState => Ok(Ty::CountState),
         }
     }
 

@@ -25,7 +25,7 @@ impl Width {
 
 impl Agg {
     /// What the name of its state's type begins with.
-    fn state_opening(self) -> &'static [u8]
+    pub(super) fn state_opening(self) -> &'static [u8]
         ensures { result.now ≡ state_opening self }
     {
         match self {

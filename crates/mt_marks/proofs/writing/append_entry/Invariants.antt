@@ -4,4 +4,4 @@ use Rattle.mt_defs.specs.Marks.{mark_bytes}
 use Rattle.mt_marks.proofs.writing.append_entry.Given as goal
 
 abbrev pub invariant-loop-mark : goal.invariant-loop-mark
-invariant-loop-mark l = l.out ≡ l.initial.out ++ flat_map mark_bytes (take l.mark-index l.entry)
+invariant-loop-mark l = l.out.items ≡ l.initial.out.items ++ flat_map mark_bytes (take l.mark-index l.marks)

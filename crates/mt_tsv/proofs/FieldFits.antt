@@ -1,0 +1,223 @@
+-- What is read of a field is a value of the column's type.
+use Rattle.std.proofs.Common.{◌≡◌, ℕ, ◌+◌, ◌-◌, ◌<◌, ◌≤◌, ℤ, pos, ◌^◌, List, [], ◌∷◌, ◌++◌, length, map, Result, Ok, Err, Option, Some, None, Bool, true, false, refl, sym, ap, ◌∙◌, subst, arith, ltb, leb, eqb, inl, inr}
+use Rattle.std.specs.Prelude.{replicate, ◌&&◌, ◌||◌, option_and_then, negsuc, if◌then◌else◌}
+use Rattle.std.specs.List.{list_all}
+use Rattle.std.proofs.lemmas.Bool.{cases_Bool, and_from, leb-true, eq-eqb}
+use Rattle.std.proofs.lemmas.List.{length-append, length-replicate}
+use Rattle.jiff_core.specs.Calendar.{days_from_civil}
+use Rattle.mt_types.specs.declared.ty.Width.{Width}
+use Rattle.mt_types.specs.declared.ty.Ty.{Ty, map-Ty, out-Ty, roll-Ty}
+use Rattle.mt_types.specs.declared.ty.Ty.TheOpen.{Ty-F}
+use Rattle.mt_types.specs.declared.ty.Ty.TheFolds.{fold_out-Ty, fold-roll-Ty, ind-Ty}
+use Rattle.mt_types.specs.declared.ty.Ty.TheViews.{roll-out-Ty, out-roll-Ty}
+use Rattle.mt_types.specs.declared.value.Value.{Value, out-Value}
+use Rattle.mt_types.specs.declared.value.Value.TheOpen.{Value-F}
+use Rattle.mt_types.specs.declared.value.Value.TheVariants.{Num, Text, List as Items, Null as NullValue, outs-Num, outs-Text, outs-Null, outs-List}
+use Rattle.mt_types.specs.Fits.{fits_of, fits_step, bits, is_unsigned, is_signed}
+use Rattle.mt_tsv.specs.declared.fault.RowWhy.{RowWhy}
+use Rattle.mt_tsv.specs.declared.fault.RowWhy.TheVariants.{Number, Range, Date, Null, TooLong, List as BadList}
+use Rattle.mt_tsv.specs.declared.limits.TheConstants.{MAX_TEXT, MAX_ITEMS}
+use Rattle.mt_tsv.specs.Steps.{◌>>=◌, unless_bad, onto}
+use Rattle.mt_tsv.specs.Texts.{text_of, bounded_text, padded_text}
+use Rattle.mt_tsv.specs.Scalars.{integer_of, number_of, number_value, day_of, scalar_at, scalar_of}
+use Rattle.mt_tsv.specs.Dates.{date_of, day_number, day_in_type, is_date, two_digits_at}
+use Rattle.mt_tsv.specs.Arrays.{Element, element_of, element_step, array_of, items_of, level_of, is_null_word, scalar_element, needs_quotes, middle}
+use Rattle.mt_tsv.specs.Fields.{field_of, field_at, is_null, unless_null}
+use Rattle.mt_tsv.proofs.RowLimits.{then_ok, passed, onto_ok}
+
+-- a type's test at one level of the type
+abbrev Test : Type 0
+Test = Value → Bool
+
+pub fits_at : (t : Ty) (v : Value) → fits_of t v ≡ fits_step (map-Ty Ty Test fits_of (out-Ty t)) v
+fits_at t v = ap (λ (f : Test). f v) (fold_out-Ty Test fits_step t)
+
+-- ---- numbers
+
+number_passes : (test : ℤ → Bool) (text : List ℕ) (v : Value) → number_value (number_of test text) ≡ Ok v → (n : ℤ) × (v ≡ Num n) × (test n ≡ true)
+unfolding number_of
+number_passes test text v e =
+    let read = then_ok (number_of test text) _ v e in
+    let whole = then_ok (integer_of text) _ read.0 read.1 in
+    let inside = passed (test whole.0) Range _ read.0 whole.2 in
+    let same : Ok whole.0 ≡ Ok read.0 = inside.1 in
+    let is : whole.0 ≡ read.0 = cc in
+    let value : Ok (Num read.0) ≡ Ok v = read.2 in
+    (read.0, cc, subst (λ n. test n ≡ true) is inside.0)
+
+-- ---- texts
+
+bounded : (most : ℕ) (field bytes : List ℕ) → bounded_text most field ≡ Ok bytes → leb (length bytes) most ≡ true
+unfolding bounded_text
+bounded most field bytes e =
+    let read = then_ok (text_of field) _ bytes e in
+    let short = passed (leb (length read.0) most) TooLong _ bytes read.2 in
+    let same : Ok read.0 ≡ Ok bytes = short.1 in
+    let is : read.0 ≡ bytes = cc in
+    subst (λ bs. leb (length bs) most ≡ true) is short.0
+
+padded : (size : ℕ) (field bytes : List ℕ) → padded_text size field ≡ Ok bytes → length bytes ≡ size
+unfolding padded_text
+padded size field bytes e =
+    let read = then_ok (bounded_text size field) _ bytes e in
+    let short = leb-true (length read.0) size (bounded size field read.0 read.1) in
+    let same : Ok (read.0 ++ replicate (size - length read.0) 0) ≡ Ok bytes = read.2 in
+    let is : read.0 ++ replicate (size - length read.0) 0 ≡ bytes = cc in
+    omega (arith, ap length (sym is), length-append read.0 (replicate (size - length read.0) 0), length-replicate {A = ℕ} (size - length read.0) 0, short)
+
+text_value : (read : Result (List ℕ) RowWhy) (v : Value) → (read >>= λ bytes. Ok (Text bytes)) ≡ Ok v → (bytes : List ℕ) × (read ≡ Ok bytes) × (v ≡ Text bytes)
+text_value read v e =
+    let step = then_ok read _ v e in
+    let same : Ok (Text step.0) ≡ Ok v = step.2 in
+    (step.0, step.1, cc)
+
+-- ---- dates
+
+chosen : {A : Type 0} (test : Bool) (o : Option A) (a : A) → (if test then o else None) ≡ Some a → (test ≡ true) × (o ≡ Some a)
+chosen true o a e = (refl, e)
+chosen false o a e = cc
+
+next_is : {A B : Type 0} (o : Option A) (f : A → Option B) (b : B) → option_and_then f o ≡ Some b → (a : A) × (f a ≡ Some b)
+next_is None f b e = cc
+next_is (Some a) f b e = (a, e)
+
+in_type : (n : ℤ) (day : ℕ) → day_in_type n ≡ Some day → is_unsigned 16 (pos day) ≡ true
+in_type (pos n) day e =
+    let inside = chosen (ltb n (2 ^ 16)) (Some n) day e in
+    let is : n ≡ day = cc in
+    subst (λ n. ltb n (2 ^ 16) ≡ true) is inside.0
+in_type (negsuc n) day e = cc
+
+number_in_type : (year month day n : ℕ) → day_number year month day ≡ Some n → is_unsigned 16 (pos n) ≡ true
+unfolding day_number
+number_in_type year month day n e = in_type (days_from_civil (pos year) month day) n (chosen (is_date year month day) _ n e).1
+
+date_in_type : (text : List ℕ) (day : ℕ) → date_of text ≡ Some day → is_unsigned 16 (pos day) ≡ true
+unfolding date_of
+date_in_type (a ∷ b ∷ c ∷ d ∷ dash ∷ e ∷ f ∷ second_dash ∷ g ∷ h ∷ []) day is =
+    let century = next_is (two_digits_at a b) _ day (chosen _ _ day is).1 in
+    let year = next_is (two_digits_at c d) _ day century.1 in
+    let month = next_is (two_digits_at e f) _ day year.1 in
+    let last = next_is (two_digits_at g h) _ day month.1 in
+    number_in_type _ month.0 last.0 day last.1
+date_in_type _ day is = cc
+
+date_fits : (date : Option ℕ) (v : Value) → ((day : ℕ) → date ≡ Some day → is_unsigned 16 (pos day) ≡ true) → day_of date ≡ Ok v → fits_step (map-Ty Ty Test fits_of Ty-F.Date) v ≡ true
+date_fits (Some day) v inside e =
+    let is : Num (pos day) ≡ v = cc in
+    subst (λ v. fits_step (map-Ty Ty Test fits_of Ty-F.Date) v ≡ true) is (rw (outs-Num (pos day)) (inside day refl))
+date_fits None v inside e = cc
+
+-- ---- values of types that are no Nullable and no array; inside those that are, any types are given by tests
+
+scalar_fits : {X : Type 0} (inner : X → Test) (level : Ty-F X) (text : List ℕ) (v : Value) → scalar_at level text ≡ Ok v → fits_step (map-Ty X Test inner level) v ≡ true
+scalar_fits inner (Ty-F.UInt width) text v e =
+    let n = number_passes (is_unsigned (bits width)) text v e in
+    rw (n.1, outs-Num n.0) n.2
+scalar_fits inner (Ty-F.Int width) text v e =
+    let n = number_passes (is_signed (bits width)) text v e in
+    rw (n.1, outs-Num n.0) n.2
+scalar_fits inner (Ty-F.FixedString size) text v e =
+    let t = text_value (padded_text size text) v e in
+    rw (t.2, outs-Text t.0) (eq-eqb (length t.0) size (padded size text t.0 t.1))
+scalar_fits inner Ty-F.Str text v e =
+    let t = text_value (bounded_text MAX_TEXT text) v e in
+    rw (t.2, outs-Text t.0) (bounded MAX_TEXT text t.0 t.1)
+scalar_fits inner Ty-F.Date text v e = date_fits (date_of text) v (date_in_type text) e
+scalar_fits inner _ text v e = cc
+
+-- ---- NULL
+
+unless_null_word : {A : Type 0} (test : Bool) (why : RowWhy) (read : Result A RowWhy) (a : A) → (if test then Err why else read) ≡ Ok a → read ≡ Ok a
+unless_null_word true why read a e = cc
+unless_null_word false why read a e = e
+
+right_true : (a b : Bool) → b ≡ true → (a || b) ≡ true
+right_true true b e = refl
+right_true false b e = e
+
+-- NULL, or a value of the type inside
+null_or_fits : (fits : Test) (test : Bool) (read : Result Value RowWhy) (v : Value) → (read ≡ Ok v → fits v ≡ true) → (if test then Ok NullValue else read) ≡ Ok v → fits_step (Ty-F.Nullable fits) v ≡ true
+null_or_fits fits true read v inside e =
+    let is : NullValue ≡ v = cc in
+    subst (λ v. fits_step (Ty-F.Nullable fits) v ≡ true) is (rw outs-Null refl)
+null_or_fits fits false read v inside e = right_true _ (fits v) (inside e)
+
+-- ---- arrays
+
+items_fit : (fits : Test) (read : List ℕ → Result Value RowWhy) → ((text : List ℕ) (v : Value) → read text ≡ Ok v → fits v ≡ true)
+    → (texts : List (List ℕ)) (values : List Value) → items_of read texts ≡ Ok values → list_all fits values ≡ true
+unfolding items_of
+items_fit fits read each [] values e = let is : [] ≡ values = cc in subst (λ vs. list_all fits vs ≡ true) is refl
+items_fit fits read each (text ∷ texts) values e =
+    let first = then_ok (read text) _ values e in
+    let others = onto_ok first.0 (items_of read texts) values first.2 in
+    subst (λ vs. list_all fits vs ≡ true) (sym others.2) (and_from (fits first.0) (list_all fits others.0) (each text first.0 first.1) (items_fit fits read each texts others.0 others.1))
+
+array_fits : (fits : Test) (element : Element) → ((text : List ℕ) (v : Value) → element.read text ≡ Ok v → fits v ≡ true)
+    → (text : List ℕ) (v : Value) → array_of element text ≡ Ok v → fits_step (Ty-F.Array fits) v ≡ true
+unfolding array_of
+array_fits fits element each text v e =
+    let texts = then_ok (level_of element.in_quotes text) _ v e in
+    let values = then_ok (items_of element.read texts.0) _ v texts.2 in
+    let few = passed (leb (length values.0) MAX_ITEMS) TooLong _ v values.2 in
+    let same : Ok (Items values.0) ≡ Ok v = few.1 in
+    let is : Items values.0 ≡ v = cc in
+    subst (λ v. fits_step (Ty-F.Array fits) v ≡ true) is (rw (outs-List values.0) (and_from (leb (length values.0) MAX_ITEMS) (list_all fits values.0) few.0 (items_fit fits element.read each texts.0 values.0 values.1)))
+
+-- what is read of an element fits
+abbrev Reads : Ty → Type 0
+Reads t = (text : List ℕ) (v : Value) → (element_of t).read text ≡ Ok v → fits_of t v ≡ true
+
+-- a type of which this is known
+abbrev Known : Type 0
+Known = (t : Ty) × Reads t
+
+-- a level without what is known
+abbrev plain : Ty-F Known → Ty-F Ty
+plain level = map-Ty Known Ty (λ k. k.0) level
+
+no_test : Element → Test
+no_test element v = true
+
+level_reads : (level : Ty-F Known) (text : List ℕ) (v : Value) → (element_step (map-Ty Ty Element element_of (plain level))).read text ≡ Ok v → fits_step (map-Ty Ty Test fits_of (plain level)) v ≡ true
+level_reads (Ty-F.Nullable k) text v e = null_or_fits (fits_of k.0) (is_null_word text) ((element_of k.0).read text) v (k.1 text v) e
+level_reads (Ty-F.Array k) text v e = array_fits (fits_of k.0) (element_of k.0) k.1 text v (unless_null_word (is_null_word text) Null (array_of (element_of k.0) text) v e)
+level_reads (Ty-F.UInt width) text v e = scalar_fits no_test (Ty-F.UInt width) text v (unless_null_word (is_null_word text) Null _ v e)
+level_reads (Ty-F.Int width) text v e = scalar_fits no_test (Ty-F.Int width) text v (unless_null_word (is_null_word text) Null _ v e)
+level_reads (Ty-F.FixedString size) text v e = scalar_fits no_test (Ty-F.FixedString size) (middle text) v (unless_null_word (is_null_word text) Null _ v e)
+level_reads Ty-F.Str text v e = scalar_fits no_test Ty-F.Str (middle text) v (unless_null_word (is_null_word text) Null _ v e)
+level_reads Ty-F.Date text v e = scalar_fits no_test Ty-F.Date (middle text) v (unless_null_word (is_null_word text) Null _ v e)
+level_reads (Ty-F.State agg k) text v e = let none : Err BadList ≡ Ok v = unless_null_word (is_null_word text) Null _ v e in cc
+level_reads Ty-F.CountState text v e = let none : Err BadList ≡ Ok v = unless_null_word (is_null_word text) Null _ v e in cc
+
+-- elements of arrays, from the types inside up
+elements_fit : (t : Ty) → Reads t
+elements_fit = ind-Ty Reads (λ x y is text v e.
+    let read : (element_of (roll-Ty x)).read text ≡ (element_step (map-Ty Ty Element element_of (plain y))).read text =
+    ap (λ (element : Element). element.read text) (fold-roll-Ty Element element_step x) ∙ ap (λ l. (element_step (map-Ty Ty Element element_of l)).read text) (sym is) in
+    ap (λ (f : Test). f v) (fold-roll-Ty Test fits_step x) ∙ ap (λ l. fits_step (map-Ty Ty Test fits_of l) v) (sym is) ∙ level_reads y text v (sym read ∙ e))
+
+-- ---- fields
+
+unless_null_is : (field : List ℕ) (read : Result Value RowWhy) (v : Value) → unless_null field read ≡ Ok v → read ≡ Ok v
+unless_null_is field read v e = unless_null_word (is_null field) Null read v e
+
+scalar_of_fits : (t : Ty) (text : List ℕ) (v : Value) → scalar_of t text ≡ Ok v → fits_of t v ≡ true
+unfolding scalar_of
+scalar_of_fits t text v e = fits_at t v ∙ scalar_fits fits_of (out-Ty t) text v e
+
+level_fits : (level : Ty-F Ty) (field : List ℕ) (v : Value) → field_at level field ≡ Ok v → fits_step (map-Ty Ty Test fits_of level) v ≡ true
+level_fits (Ty-F.Nullable inner) field v e = null_or_fits (fits_of inner) (is_null field) (scalar_of inner field) v (scalar_of_fits inner field v) e
+level_fits (Ty-F.Array inner) field v e = array_fits (fits_of inner) (element_of inner) (elements_fit inner) field v e
+level_fits (Ty-F.UInt width) field v e = scalar_fits fits_of (Ty-F.UInt width) field v (unless_null_is field _ v e)
+level_fits (Ty-F.Int width) field v e = scalar_fits fits_of (Ty-F.Int width) field v (unless_null_is field _ v e)
+level_fits (Ty-F.FixedString size) field v e = scalar_fits fits_of (Ty-F.FixedString size) field v (unless_null_is field _ v e)
+level_fits Ty-F.Str field v e = scalar_fits fits_of Ty-F.Str field v (unless_null_is field _ v e)
+level_fits Ty-F.Date field v e = scalar_fits fits_of Ty-F.Date field v (unless_null_is field _ v e)
+level_fits (Ty-F.State agg inner) field v e = let none : Err BadList ≡ Ok v = unless_null_is field _ v e in cc
+level_fits Ty-F.CountState field v e = let none : Err BadList ≡ Ok v = unless_null_is field _ v e in cc
+
+pub field_fits : (t : Ty) (field : List ℕ) (v : Value) → field_of t field ≡ Ok v → fits_of t v ≡ true
+unfolding field_of
+field_fits t field v e = fits_at t v ∙ level_fits (out-Ty t) field v e

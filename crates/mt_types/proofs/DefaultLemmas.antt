@@ -1,0 +1,44 @@
+-- A type's default is one of its values.
+use Rattle.std.proofs.Common.{◌≡◌, pos, Bool, true, [], refl, ap, ◌∙◌}
+use Rattle.std.specs.Prelude.{replicate, length}
+use Rattle.std.proofs.lemmas.Bool.{eq-eqb}
+use Rattle.std.proofs.lemmas.List.{length-replicate}
+use Rattle.mt_types.specs.declared.ty.Width.{Width}
+use Rattle.mt_types.specs.declared.ty.Width.TheVariants.{W8, W16, W32, W64}
+use Rattle.mt_types.specs.declared.ty.Agg.TheVariants.{Sum, Min, Max}
+use Rattle.mt_types.specs.declared.ty.Ty.{Ty, map-Ty, out-Ty}
+use Rattle.mt_types.specs.declared.ty.Ty.TheOpen.{Ty-F}
+use Rattle.mt_types.specs.declared.ty.Ty.TheFolds.{fold_out-Ty}
+use Rattle.mt_types.specs.declared.value.Value.{Value}
+use Rattle.mt_types.specs.declared.value.Value.TheVariants.{outs-Num, outs-Text, outs-Null, outs-List, outs-State}
+use Rattle.mt_types.specs.Defaults.{default_of, default_at}
+use Rattle.mt_types.specs.Fits.{fits_of, fits_step, bits, is_unsigned, is_signed}
+
+zero_unsigned : (w : Width) → is_unsigned (bits w) (pos 0) ≡ true
+zero_unsigned W8 = refl
+zero_unsigned W16 = refl
+zero_unsigned W32 = refl
+zero_unsigned W64 = refl
+
+zero_signed : (w : Width) → is_signed (bits w) (pos 0) ≡ true
+zero_signed W8 = refl
+zero_signed W16 = refl
+zero_signed W32 = refl
+zero_signed W64 = refl
+
+-- at one level
+default_fits_step : (l : Ty-F Ty) → fits_step (map-Ty Ty (Value → Bool) (λ t. fits_of t) l) (default_at l) ≡ true
+default_fits_step (Ty-F.UInt w) = rw (outs-Num (pos 0)) (zero_unsigned w)
+default_fits_step (Ty-F.Int w) = rw (outs-Num (pos 0)) (zero_signed w)
+default_fits_step (Ty-F.FixedString n) = rw (outs-Text (replicate n 0)) (eq-eqb (length (replicate n 0)) n (length-replicate n 0))
+default_fits_step Ty-F.Str = rw (outs-Text []) refl
+default_fits_step Ty-F.Date = rw (outs-Num (pos 0)) refl
+default_fits_step (Ty-F.Nullable t) = rw outs-Null refl
+default_fits_step (Ty-F.Array t) = rw (outs-List []) refl
+default_fits_step (Ty-F.State Sum t) = simp outs-State refl
+default_fits_step (Ty-F.State Min t) = simp outs-State refl
+default_fits_step (Ty-F.State Max t) = simp outs-State refl
+default_fits_step Ty-F.CountState = simp outs-State refl
+
+pub default_fits : (t : Ty) → fits_of t (default_of t) ≡ true
+default_fits t = ap (λ f. f (default_of t)) (fold_out-Ty (Value → Bool) fits_step t) ∙ default_fits_step (out-Ty t)
