@@ -1,5 +1,5 @@
 -- The writer's files of a table of two numbers have names that a shelf takes.
-use Rattle.std.proofs.Common.{◌≡◌, ℕ, ◌+◌, ◌<◌, ◌≤◌, lit≤, Bool, true, false, not, ◌&&◌, ◌||◌, ◌==◌, nat_lt, List, [], ◌∷◌, ◌++◌, map, length, All, flat_map, codes, if◌then◌else◌, IsUtf8, refl, ap, sym, ◌∙◌, subst, arith}
+use Rattle.std.proofs.Common.{◌≡◌, ℕ, ◌+◌, ◌<◌, ◌≤◌, lit≤, Bool, true, false, not, ◌&&◌, ◌||◌, ◌==◌, nat_lt, List, [], ◌∷◌, ◌++◌, map, length, All, flat_map, codes, if◌then◌else◌, Result, Ok, Err, IfOk, IsUtf8, refl, ap, sym, ◌∙◌, subst, arith}
 use Rattle.std.proofs.lemmas.List.{append-nil, length-append}
 use Rattle.std.proofs.lemmas.List.Folds.{list_all-append}
 use Rattle.std.proofs.lemmas.List.Elements.{All-nil, All-cons}
@@ -191,3 +191,8 @@ folder_names table rows numbers =
     All-HasName (written_folder table rows)
       (ap (λ t. list_all named (written_folder t rows)) numbers.is
       ∙ numbers_named table.name numbers.first numbers.second numbers.place numbers.rows rows (name_bytes numbers.first numbers.first_name) (name_bytes numbers.second numbers.second_name))
+
+-- so have the files of a call that makes them
+pub built_names : {E : Type 0} (table : Table) (rows : List Row) (result : Result (List FileBytes) E) → IfOk result (λ files. files ≡ written_folder table rows) → IsNumbersTable table → IfOk result (All HasName)
+built_names table rows (Ok files) is numbers = let P : List FileBytes → Type 0 = λ fs. All HasName fs in subst P (sym is) (folder_names table rows numbers)
+built_names table rows (Err error) is numbers = tt

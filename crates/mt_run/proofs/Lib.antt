@@ -1,3 +1,4 @@
 pub mod Reported
 pub mod WriteLemmas
 pub mod FolderNames
+pub mod SortedRows

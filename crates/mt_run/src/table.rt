@@ -1,6 +1,7 @@
 //! The step that reads the table, which almost every command begins with.
 ghost use Rattle.std.specs.Prelude.{◌≡◌, IfOk, IfSome, IsTrue};
 ghost use Rattle.std.specs.FinMap.{get};
+ghost use Rattle.mt_table.specs.Form.{IsNumbersTable};
 ghost use Rattle.mt_shelf.specs.Paths.{is_path};
 ghost use Rattle.mt_shelf.specs.State.{files_of};
 ghost use Rattle.mt_run.specs.Status.{Gives};
@@ -43,6 +44,7 @@ fn read_text<F: Shelf>(alloc: Global, shelf: &mut F, path: &str) -> Result<List<
 #[tactic(auto, unfolding(crate::specs::Write::table_of))]
 fn table_of(alloc: Global, text: &[u8]) -> Result<Table, Status>
     ensures gives { Gives result (table_of text.now) }
+    ensures numbers { IfOk result IsNumbersTable }
     ensures cause { StepCausedBy result of_nothing of_nothing }
 {
     match Table::read(alloc, text) {
@@ -56,6 +58,7 @@ fn table_of(alloc: Global, text: &[u8]) -> Result<Table, Status>
 pub(crate) fn read_table<F: Shelf>(alloc: Global, shelf: &mut F, path: &str) -> Result<Table, Status>
     requires { IsTrue (is_path path.now) }
     ensures gives { IfSome (files_of (F.state shelf.old)) (λ files. Gives result (table_in path.now files)) }
+    ensures numbers { IfOk result IsNumbersTable }
     ensures files { files_of (F.state shelf.new) ≡ files_of (F.state shelf.old) }
     ensures cause { StepCausedBy result (of_shelf (F.faults shelf.old)) (of_shelf (F.faults shelf.new)) }
 {
