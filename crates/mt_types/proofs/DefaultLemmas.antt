@@ -14,12 +14,14 @@ use Rattle.mt_types.specs.declared.value.Value.TheVariants.{outs-Num, outs-Text,
 use Rattle.mt_types.specs.Defaults.{default_of, default_at}
 use Rattle.mt_types.specs.Fits.{fits_of, fits_step, bits, is_unsigned, is_signed}
 
+-- 0 is a number of each width
 zero_unsigned : (w : Width) → is_unsigned (bits w) (pos 0) ≡ true
 zero_unsigned W8 = refl
 zero_unsigned W16 = refl
 zero_unsigned W32 = refl
 zero_unsigned W64 = refl
 
+-- and of each with a sign
 zero_signed : (w : Width) → is_signed (bits w) (pos 0) ≡ true
 zero_signed W8 = refl
 zero_signed W16 = refl
@@ -40,5 +42,6 @@ default_fits_step (Ty-F.State Min t) = simp outs-State refl
 default_fits_step (Ty-F.State Max t) = simp outs-State refl
 default_fits_step Ty-F.CountState = simp outs-State refl
 
+-- the law
 pub default_fits : (t : Ty) → fits_of t (default_of t) ≡ true
 default_fits t = ap (λ f. f (default_of t)) (fold_out-Ty (Value → Bool) fits_step t) ∙ default_fits_step (out-Ty t)

@@ -10,6 +10,7 @@ use Rattle.mt_types.specs.declared.ty.Ty.{Ty, out-Ty}
 use Rattle.mt_types.specs.declared.ty.Ty.TheOpen.{Ty-F}
 use Rattle.mt_types.specs.declared.ty.Ty.TheVariants.{UInt, Int, FixedString, Str, Date, Nullable, Array, State, CountState, outs-UInt, outs-Int, outs-FixedString, outs-Str, outs-Date, outs-Nullable, outs-Array, outs-State, outs-CountState}
 use Rattle.mt_types.specs.Profile.{Kind, Whole, Day, Bytes, Optional, Nested, Stored, Unknown, kind_of, optional_kind, array_kind, state_kind}
+use Rattle.mt_types.proofs.OptionLemmas.{both_true}
 use Rattle.mt_types.proofs.Levels.{same_level, kind_at}
 
 -- what sum takes
@@ -50,16 +51,14 @@ pub data Known (t : Ty) : Type 0 where
   counted : t ≡ CountState → kind_of t ≡ Stored → Known t
   outside : kind_of t ≡ Unknown → Known t
 
-both_true : (a b : Bool) → (a && b) ≡ true → (a ≡ true) × (b ≡ true)
-both_true true b e = (refl, e)
-both_true false b e = cc
-
+-- a FixedString of a size within the limit
 fixed_known : (t : Ty) (n : ℕ) (test : Bool) → (nat_le 1 n && nat_le n MAX_FIXED_STRING) ≡ test → t ≡ FixedString n → kind_of t ≡ (if test then Bytes else Unknown) → Known t
 fixed_known t n true e is k =
     let both = both_true (nat_le 1 n) (nat_le n MAX_FIXED_STRING) e in
     fixed n is (leb-true 1 n both.0) (leb-true n MAX_FIXED_STRING both.1) k
 fixed_known t n false e is k = outside k
 
+-- Nullable, by its argument
 optional_known : (t inner : Ty) (k : Kind) → kind_of inner ≡ k → t ≡ Nullable inner → kind_of t ≡ optional_kind k → Known t
 optional_known t inner Whole e is k = optional inner is (subst IsScalar (sym e) tt) k
 optional_known t inner Day e is k = optional inner is (subst IsScalar (sym e) tt) k
@@ -72,15 +71,18 @@ IsArrayed (Nested depth) = ℕ
 IsArrayed Unknown = ℕ
 IsArrayed _ = ⊥
 
+-- and the states no other than theirs
 abbrev IsState : Kind → Type 0
 IsState Stored = ℕ
 IsState Unknown = ℕ
 IsState _ = ⊥
 
+-- an array of an array
 deeper_arrayed : (test : Bool) (depth : ℕ) → IsArrayed (if test then Nested depth else Unknown)
 deeper_arrayed true depth = 0
 deeper_arrayed false depth = 0
 
+-- what Array gives
 arrayed : (k : Kind) → IsArrayed (array_kind k)
 arrayed Whole = 0
 arrayed Day = 0
@@ -90,6 +92,7 @@ arrayed (Nested depth) = deeper_arrayed (nat_lt depth MAX_ARRAY_DEPTH) (depth + 
 arrayed Stored = 0
 arrayed Unknown = 0
 
+-- what a state gives
 is_state : (agg : Agg) (k : Kind) → IsState (state_kind agg k)
 is_state Sum Whole = 0
 is_state Min Whole = 0
@@ -101,16 +104,19 @@ is_state Sum _ = 0
 is_state Min _ = 0
 is_state Max _ = 0
 
+-- Array, by its kind
 nested_known : (t inner : Ty) (k : Kind) → IsArrayed k → array_kind (kind_of inner) ≡ k → t ≡ Array inner → kind_of t ≡ k → Known t
 nested_known t inner (Nested depth) own e is k = nested inner depth is e k
 nested_known t inner Unknown own e is k = outside k
 nested_known t inner _ own e is k = absurd own
 
+-- a state, by its kind
 stored_known : (t inner : Ty) (agg : Agg) (k : Kind) → IsState k → state_kind agg (kind_of inner) ≡ k → t ≡ State agg inner → kind_of t ≡ k → Known t
 stored_known t inner agg Stored own e is k = stored agg inner is e k
 stored_known t inner agg Unknown own e is k = outside k
 stored_known t inner agg _ own e is k = absurd own
 
+-- each variant
 known_at : (t : Ty) (level : Ty-F Ty) → out-Ty t ≡ level → Known t
 known_at t (Ty-F.UInt w) is = unsigned w (same_level t (UInt w) (is ∙ sym (outs-UInt w))) (kind_at t (Ty-F.UInt w) is)
 known_at t (Ty-F.Int w) is = signed w (same_level t (Int w) (is ∙ sym (outs-Int w))) (kind_at t (Ty-F.Int w) is)
@@ -122,11 +128,13 @@ known_at t (Ty-F.Array inner) is = nested_known t inner (array_kind (kind_of inn
 known_at t (Ty-F.State agg inner) is = stored_known t inner agg (state_kind agg (kind_of inner)) (is_state agg (kind_of inner)) refl (same_level t (State agg inner) (is ∙ sym (outs-State agg inner))) (kind_at t (Ty-F.State agg inner) is)
 known_at t Ty-F.CountState is = counted (same_level t CountState (is ∙ sym outs-CountState)) (kind_at t Ty-F.CountState is)
 
+-- each type
 pub known : (t : Ty) → Known t
 known t = known_at t (out-Ty t) refl
 
 -- ---- arrays and states by their arguments
 
+-- one array more, where there may be one
 deeper_is : (d depth : ℕ) (test : Bool) → nat_lt d MAX_ARRAY_DEPTH ≡ test → (if test then Nested (d + 1) else Unknown) ≡ Nested depth → (depth ≡ d + 1) × (depth ≤ MAX_ARRAY_DEPTH)
 deeper_is d depth true e is = let same : d + 1 ≡ depth = cc in let below : d < MAX_ARRAY_DEPTH = ltb-true d MAX_ARRAY_DEPTH e in (sym same, omega arith)
 deeper_is d depth false e is = cc
@@ -146,11 +154,13 @@ pub sum_argument : (k : Kind) → state_kind Sum k ≡ Stored → IsWhole k
 sum_argument Whole e = tt
 sum_argument _ e = cc
 
+-- of min
 pub least_argument : (k : Kind) → state_kind Min k ≡ Stored → IsNumber k
 least_argument Whole e = tt
 least_argument Day e = tt
 least_argument _ e = cc
 
+-- of max
 pub greatest_argument : (k : Kind) → state_kind Max k ≡ Stored → IsNumber k
 greatest_argument Whole e = tt
 greatest_argument Day e = tt

@@ -8,13 +8,16 @@ use Rattle.mt_types.specs.declared.varint.VarInt.{VarInt}
 use Rattle.mt_types.specs.declared.varint.VarInt.TheVariants.{Got, Short, Bad}
 use Rattle.mt_types.specs.Leb128.{leb128, leb128_within, Reads}
 
+-- a number is below another, or not
 lt_or_ge : (n m : ℕ) → (n < m) ⊎ (m ≤ n)
 lt_or_ge n m = grind arith
 
+-- the last byte
 within_small : (most n : ℕ) → n < 128 → leb128_within most n ≡ n ∷ []
 within_small zero n small = refl
 within_small (suc most) n small = rw (lt-ltb n 128 small) refl
 
+-- a byte that others follow
 within_more : (most n : ℕ) → 128 ≤ n → leb128_within (suc most) n ≡ (n % 128 + 128) ∷ leb128_within most (n / 128)
 within_more most n large = rw (le-ltb n 128 large) refl
 
@@ -28,14 +31,17 @@ enough (suc a) (suc b) n in_a in_b =
       | inr large ↦ within_more a n large ∙ ap (λ bytes. (n % 128 + 128) ∷ bytes) (enough a b (n / 128) (omega arith) (omega arith)) ∙ sym (within_more b n large)
     ]
 
+-- an encoding of one byte
 pub leb128_small : (n : ℕ) → n < 128 → leb128 n ≡ n ∷ []
 unfolding leb128
 leb128_small n small = within_small n n small
 
+-- the same, where the bound is the number
 more_at : (most n : ℕ) → most ≡ n → 128 ≤ n → leb128_within most n ≡ (n % 128 + 128) ∷ leb128_within (n / 128) (n / 128)
 more_at zero n is large = absurd (omega arith)
 more_at (suc most) n is large = within_more most n large ∙ ap (λ bytes. (n % 128 + 128) ∷ bytes) (enough most (n / 128) (n / 128) (omega arith) (omega arith))
 
+-- an encoding of more bytes
 pub leb128_more : (n : ℕ) → 128 ≤ n → leb128 n ≡ (n % 128 + 128) ∷ leb128 (n / 128)
 unfolding leb128
 leb128_more n large = more_at n n refl large
@@ -106,6 +112,7 @@ first_large n b x rest large e =
           (n / 128, omega arith, omega arith, tail)
     ]
 
+-- the weights of two bytes
 regroup : (value weight low high : ℕ) → value + weight * low + weight * 128 * high ≡ value + weight * (low + 128 * high)
 regroup value weight low high = omega arith
 
@@ -118,12 +125,15 @@ abbrev pub ComesFrom : (value weight i : ℕ) (bytes : List ℕ) → Type 0
 ComesFrom value weight i bytes =
     (n : ℕ) (x y : List ℕ) → leb128 n ++ x ≡ bytes ++ y → (high : ℕ) × (i ≢ 0 → 0 < high) × (n ≡ value + weight * high) × (leb128 high ++ x ≡ drop i bytes ++ y)
 
+-- before the first byte
 pub goes_on_start : (bytes : List ℕ) → GoesOn 0 1 0 bytes
 goes_on_start bytes high some = ap leb128 (omega arith)
 
+-- the same from the other side
 pub comes_from_start : (bytes : List ℕ) → ComesFrom 0 1 0 bytes
 comes_from_start bytes n x y e = (n, λ h. absurd (h refl), omega arith, e)
 
+-- after one byte more
 pub goes_on_more : (value weight i b : ℕ) (bytes : List ℕ) → i < length bytes → get_or bytes i 0 ≡ b → 128 ≤ b → b < 256 → GoesOn value weight i bytes → GoesOn (value + weight * (b - 128)) (weight * 128) (i + 1) bytes
 goes_on_more value weight i b bytes within is large byte on high some =
     let here : 0 < high = some (λ e. omega arith) in
@@ -133,6 +143,7 @@ goes_on_more value weight i b bytes within is large byte on high some =
     ∙ on ((b - 128) + 128 * high) (λ h. omega arith) ∙ ap (λ bs. take i bytes ++ bs) next
     ∙ sym (append_assoc (take i bytes) (b ∷ []) (leb128 high)) ∙ ap (λ bs. bs ++ leb128 high) (ap (λ n. take i bytes ++ n ∷ []) (sym is) ∙ sym (rw add-one (take-suc bytes i 0 within)))
 
+-- the same from the other side
 pub comes_from_more : (value weight i b : ℕ) (bytes : List ℕ) → i < length bytes → get_or bytes i 0 ≡ b → 128 ≤ b → ComesFrom value weight i bytes → ComesFrom (value + weight * (b - 128)) (weight * 128) (i + 1) bytes
 comes_from_more value weight i b bytes within is large from n x y e =
     let had = from n x y e in
@@ -185,6 +196,7 @@ is_got value weight i b bytes within is small some fits on = (
       ∙ ap (λ bs. take i bytes ++ bs) (sym (leb128_small b small)) ∙ sym (on b some),
 )
 
+-- a last byte keeps the value within 64 bits
 pub still_fits : (value weight b : ℕ) → b < 128 → value < weight → weight * 128 ≤ 2 ^ 64 → value + weight * b < 2 ^ 64
 still_fits value weight b small less room =
     let product : weight * b ≤ weight * 127 = mul-le-mul_left weight (omega arith) in
@@ -227,6 +239,7 @@ encoding_step m n x y rest e =
           (omega (arith, next.2, same.0), same.1)
     ]
 
+-- from the first byte on
 one_encoding : (most m n : ℕ) (x y : List ℕ) → m ≤ most → leb128 m ++ x ≡ leb128 n ++ y → (m ≡ n) × (x ≡ y)
 one_encoding zero m n x y le = encoding_step m n x y (λ high large e. absurd (omega (arith, large, le)))
 one_encoding (suc most) m n x y le = encoding_step m n x y (λ high large e. one_encoding most (m / 128) high x y (omega (arith, large, le)) e)
@@ -235,6 +248,7 @@ one_encoding (suc most) m n x y le = encoding_step m n x y (λ high large e. one
 pub leb128_prefix_free : (m n : ℕ) (x y : List ℕ) → leb128 m ++ x ≡ leb128 n ++ y → (m ≡ n) × (x ≡ y)
 leb128_prefix_free m n x y = one_encoding m m n x y (omega arith)
 
+-- what ends an empty list is empty
 ends_empty : (a b : List ℕ) → a ++ b ≡ [] → b ≡ []
 ends_empty [] b e = e
 ends_empty (v ∷ a) b e = cc

@@ -17,9 +17,11 @@ use Rattle.mt_types.specs.Profile.{Kind, Whole, Day, Bytes, Stored, Unknown, kin
 pub same_level : (t u : Ty) → out-Ty t ≡ out-Ty u → t ≡ u
 same_level t u e = sym (roll-out-Ty t) ∙ ap roll-Ty e ∙ roll-out-Ty u
 
+-- the name of a type of this level
 pub name_at : (t : Ty) (level : Ty-F Ty) → out-Ty t ≡ level → type_name t ≡ name_step (map-Ty Ty (List ℕ) type_name level)
 name_at t level is = fold_out-Ty (List ℕ) name_step t ∙ ap (λ l. name_step (map-Ty Ty (List ℕ) type_name l)) is
 
+-- the kind of a type of this level
 pub kind_at : (t : Ty) (level : Ty-F Ty) → out-Ty t ≡ level → kind_of t ≡ kind_step (map-Ty Ty Kind kind_of level)
 kind_at t level is = fold_out-Ty Kind kind_step t ∙ ap (λ l. kind_step (map-Ty Ty Kind kind_of l)) is
 

@@ -1,6 +1,7 @@
 pub mod OrderLemmas
 pub mod Leb128Lemmas
 pub mod DefaultLemmas
+pub mod OptionLemmas
 pub mod TextLemmas
 pub mod Levels
 pub mod SizeLemmas

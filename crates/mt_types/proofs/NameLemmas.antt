@@ -12,6 +12,7 @@ use Rattle.mt_types.specs.declared.ty.Ty.TheVariants.{UInt, Int, FixedString, St
 use Rattle.mt_types.specs.Names.{type_name, state_opening, width_text}
 use Rattle.mt_types.specs.NameReading.{integer_named, number_named, scalar_named, optional_named, nested_named, type_named, size_named, within}
 use Rattle.mt_types.specs.Profile.{Stored, kind_of, is_profile, is_known, state_kind}
+use Rattle.mt_types.proofs.OptionLemmas.{some_is}
 use Rattle.mt_types.proofs.Levels.{name-UInt, name-Int, name-FixedString, name-Str, name-Date, name-Nullable, name-Array, name-State, name-CountState}
 use Rattle.mt_types.proofs.KindLemmas.{Known, unsigned, signed, day, text, fixed, optional, nested, stored, counted, outside, known, IsWhole, IsNumber, IsScalar, Nests, array_depth, sum_argument, least_argument, greatest_argument}
 use Rattle.mt_types.proofs.SizeLemmas.{size_of_decimal}
@@ -27,18 +28,21 @@ reads_as reading t u name same is read = ap (λ v. reading (type_name v)) same �
 
 -- ---- integers and dates
 
+-- names without a sign
 unsigned_read : (w : Width) → integer_named (codes "UInt" ++ width_text w) ≡ Some (UInt w)
 unsigned_read W8 = refl
 unsigned_read W16 = refl
 unsigned_read W32 = refl
 unsigned_read W64 = refl
 
+-- names with one
 signed_read : (w : Width) → integer_named (codes "Int" ++ width_text w) ≡ Some (Int w)
 signed_read W8 = refl
 signed_read W16 = refl
 signed_read W32 = refl
 signed_read W64 = refl
 
+-- each integer
 integer_at : (t : Ty) → Known t → IsWhole (kind_of t) → Reads integer_named t
 integer_at t (unsigned w is k) h = reads_as integer_named t (UInt w) (codes "UInt" ++ width_text w) is (name-UInt w) (unsigned_read w)
 integer_at t (signed w is k) h = reads_as integer_named t (Int w) (codes "Int" ++ width_text w) is (name-Int w) (signed_read w)
@@ -51,6 +55,7 @@ integer_at t (stored agg inner is i k) h = absurd (subst IsWhole k h)
 integer_at t (counted is k) h = absurd (subst IsWhole k h)
 integer_at t (outside k) h = absurd (subst IsWhole k h)
 
+-- each number
 number_at : (t : Ty) → Known t → IsNumber (kind_of t) → Reads number_named t
 number_at t (unsigned w is k) h = reads_as number_named t (UInt w) (codes "UInt" ++ width_text w) is (name-UInt w) (unsigned_read w)
 number_at t (signed w is k) h = reads_as number_named t (Int w) (codes "Int" ++ width_text w) is (name-Int w) (signed_read w)
@@ -65,11 +70,13 @@ number_at t (outside k) h = absurd (subst IsNumber k h)
 
 -- ---- the other scalars
 
+-- FixedString
 fixed_read : (n : ℕ) → 1 ≤ n → n ≤ MAX_FIXED_STRING → scalar_named (codes "FixedString(" ++ decimal n ++ codes ")") ≡ Some (FixedString n)
 fixed_read n some small =
     ap (within FixedString size_named (number_named (codes "FixedString(" ++ decimal n ++ codes ")"))) (between_of (codes "FixedString(") (codes "FixedString(" ++ decimal n ++ codes ")") (decimal n) refl)
     ∙ ap (option_map FixedString) (size_of_decimal n some small)
 
+-- each scalar
 scalar_at : (t : Ty) → Known t → IsScalar (kind_of t) → Reads scalar_named t
 scalar_at t (unsigned w is k) h = reads_as scalar_named t (UInt w) (codes "UInt" ++ width_text w) is (name-UInt w) (unsigned_read w)
 scalar_at t (signed w is k) h = reads_as scalar_named t (Int w) (codes "Int" ++ width_text w) is (name-Int w) (signed_read w)
@@ -84,11 +91,13 @@ scalar_at t (outside k) h = absurd (subst IsScalar k h)
 
 -- ---- Nullable
 
+-- Nullable of a scalar
 optional_read : (inner : Ty) → IsScalar (kind_of inner) → optional_named (codes "Nullable(" ++ type_name inner ++ codes ")") ≡ Some (Nullable inner)
 optional_read inner h =
     ap (within Nullable scalar_named (scalar_named (codes "Nullable(" ++ type_name inner ++ codes ")"))) (between_of (codes "Nullable(") (codes "Nullable(" ++ type_name inner ++ codes ")") (type_name inner) refl)
     ∙ ap (option_map Nullable) (scalar_at inner (known inner) h)
 
+-- each type without arrays
 optional_at : (t : Ty) → Known t → Nests 0 (kind_of t) → Reads optional_named t
 optional_at t (unsigned w is k) h = reads_as optional_named t (UInt w) (codes "UInt" ++ width_text w) is (name-UInt w) (unsigned_read w)
 optional_at t (signed w is k) h = reads_as optional_named t (Int w) (codes "Int" ++ width_text w) is (name-Int w) (signed_read w)
@@ -111,6 +120,7 @@ array_read arrays inner h =
     ap (within Array (nested_named arrays) (optional_named (codes "Array(" ++ type_name inner ++ codes ")"))) (between_of (codes "Array(") (codes "Array(" ++ type_name inner ++ codes ")") (type_name inner) refl)
     ∙ ap (option_map Array) h
 
+-- each type of so many arrays
 nested_at : (arrays : ℕ) (t : Ty) → Known t → Nests arrays (kind_of t) → Reads (nested_named arrays) t
 nested_at zero t is h = optional_at t is h
 nested_at (suc arrays) t (unsigned w is k) h = reads_as (nested_named (suc arrays)) t (UInt w) (codes "UInt" ++ width_text w) is (name-UInt w) (unsigned_read w)
@@ -129,6 +139,7 @@ nested_at (suc arrays) t (outside k) h = absurd (subst (Nests (suc arrays)) k h)
 
 -- ---- states, and all types
 
+-- each state
 state_read : (agg : Agg) (inner : Ty) → state_kind agg (kind_of inner) ≡ Stored → type_named (state_opening agg ++ type_name inner ++ codes ")") ≡ Some (State agg inner)
 state_read Sum inner h =
     ap (within (State Sum) integer_named _) (between_of (state_opening Sum) (state_opening Sum ++ type_name inner ++ codes ")") (type_name inner) refl)
@@ -140,6 +151,7 @@ state_read Max inner h =
     ap (within (State Max) number_named _) (between_of (state_opening Max) (state_opening Max ++ type_name inner ++ codes ")") (type_name inner) refl)
     ∙ ap (option_map (State Max)) (number_at inner (known inner) (greatest_argument (kind_of inner) h))
 
+-- each type
 type_at : (t : Ty) → Known t → is_known (kind_of t) ≡ true → Reads type_named t
 type_at t (unsigned w is k) h = reads_as type_named t (UInt w) (codes "UInt" ++ width_text w) is (name-UInt w) (unsigned_read w)
 type_at t (signed w is k) h = reads_as type_named t (Int w) (codes "Int" ++ width_text w) is (name-Int w) (signed_read w)
@@ -159,8 +171,6 @@ type_at t (outside k) h = let never : true ≡ false = sym h ∙ ap is_known k i
 pub type_named_of_name : (t : Ty) → is_profile t ≡ true → type_named (type_name t) ≡ Some t
 type_named_of_name t h = type_at t (known t) h
 
-some_is : (s t : Ty) → Some s ≡ Some t → s ≡ t
-some_is s t e = cc
-
+-- so names differ
 pub type_name_injective : (s t : Ty) → is_profile s ≡ true → is_profile t ≡ true → type_name s ≡ type_name t → s ≡ t
 type_name_injective s t in_s in_t e = some_is s t (sym (type_named_of_name s in_s) ∙ ap type_named e ∙ type_named_of_name t in_t)

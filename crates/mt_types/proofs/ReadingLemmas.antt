@@ -1,6 +1,6 @@
 -- What is read of a text is a type of the profile that has this name.
-use Rattle.std.proofs.Common.{◌≡◌, ◌≢◌, ◌⊎◌, inl, inr, ℕ, zero, suc, ◌+◌, ◌≤◌, ◌<◌, Bool, true, false, List, ◌++◌, Option, Some, None, Result, Ok, Err, refl, ap, sym, ◌∙◌, arith, subst, lit≤}
-use Rattle.std.specs.Prelude.{IfOk, codes, nat_lt, option_map, if◌then◌else◌}
+use Rattle.std.proofs.Common.{◌≡◌, ◌≢◌, ◌⊎◌, inl, inr, ℕ, zero, suc, ◌+◌, ◌≤◌, ◌<◌, true, List, ◌++◌, Option, Some, None, Result, Ok, Err, refl, ap, sym, ◌∙◌, arith, subst, lit≤}
+use Rattle.std.specs.Prelude.{IfOk, codes, nat_lt, if◌then◌else◌}
 use Rattle.std.specs.Str.{bytes_eq}
 use Rattle.std.specs.Fmt.{decimal}
 use Rattle.std.proofs.lemmas.Bool.{lt-ltb, le-leb}
@@ -11,11 +11,12 @@ use Rattle.mt_types.specs.declared.ty.Width.TheVariants.{W8, W16, W32, W64}
 use Rattle.mt_types.specs.declared.ty.Agg.TheVariants.{Sum, Min, Max}
 use Rattle.mt_types.specs.declared.ty.Ty.{Ty}
 use Rattle.mt_types.specs.declared.ty.Ty.TheVariants.{UInt, Int, FixedString, Str, Date, Nullable, Array, State, CountState}
-use Rattle.mt_types.specs.declared.ty.read_name.TyError.{TyError}
-use Rattle.mt_types.specs.declared.ty.read_name.TyError.TheVariants.{NotAType, NoMemory}
+use Rattle.mt_types.specs.declared.ty.error.TyError.{TyError}
+use Rattle.mt_types.specs.declared.ty.error.TyError.TheVariants.{NotAType, NoMemory}
 use Rattle.mt_types.specs.Names.{type_name, state_opening, width_text}
 use Rattle.mt_types.specs.NameReading.{GivesType, after_prefix, between, width_named, integer_named, number_named, scalar_named, optional_named, nested_named, type_named, size_named, within, state_named}
 use Rattle.mt_types.specs.Profile.{Kind, Whole, Day, Bytes, Optional, Nested, Stored, Unknown, kind_of, is_profile, is_known, optional_kind, array_kind, state_kind}
+use Rattle.mt_types.proofs.OptionLemmas.{chosen_is, mapped_is}
 use Rattle.mt_types.proofs.Levels.{name-UInt, name-Int, name-FixedString, name-Str, name-Date, name-Nullable, name-Array, name-State, name-CountState, kind-UInt, kind-Int, kind-FixedString, kind-Str, kind-Date, kind-Nullable, kind-Array, kind-State, kind-CountState}
 use Rattle.mt_types.proofs.KindLemmas.{IsWhole, IsNumber, IsScalar, Nests}
 use Rattle.mt_types.proofs.NameLemmas.{type_named_of_name}
@@ -24,10 +25,7 @@ use Rattle.mt_types.proofs.TextLemmas.{after_prefix_is, between_is}
 
 -- ---- taking readings apart
 
-chosen_is : {X : Type 0} (test : Bool) (u : X) (rest : Option X) (t : X) → (if test then Some u else rest) ≡ Some t → ((test ≡ true) × (t ≡ u)) ⊎ (rest ≡ Some t)
-chosen_is true u rest t e = inl (refl, cc)
-chosen_is false u rest t e = inr e
-
+-- a text is the word, or it is read otherwise
 word_is : {X : Type 0} (text word : List ℕ) (u : X) (rest : Option X) (t : X) → (if bytes_eq text word then Some u else rest) ≡ Some t → ((text ≡ word) × (t ≡ u)) ⊎ (rest ≡ Some t)
 word_is text word u rest t e =
     elim (chosen_is (bytes_eq text word) u rest t e) [
@@ -35,10 +33,7 @@ word_is text word u rest t e =
       | inr other ↦ inr other
     ]
 
-mapped_is : {X : Type 0} (make : X → Ty) (o : Option X) (t : Ty) → option_map make o ≡ Some t → (x : X) × (o ≡ Some x) × (t ≡ make x)
-mapped_is make None t e = cc
-mapped_is make (Some x) t e = let same : make x ≡ t = cc in (x, refl, sym same)
-
+-- there is an inner text, or the text is read otherwise
 within_is : {X : Type 0} (make : X → Ty) (read : List ℕ → Option X) (otherwise : Option Ty) (o : Option (List ℕ)) (t : Ty) → within make read otherwise o ≡ Some t
     → ((s : List ℕ) × (x : X) × (o ≡ Some s) × (read s ≡ Some x) × (t ≡ make x)) ⊎ (otherwise ≡ Some t)
 within_is make read otherwise None t e = inr e
@@ -49,6 +44,7 @@ record Named (K : Kind → Type 0) (t : Ty) (text : List ℕ) : Type 0 where
   pub kind : K (kind_of t)
   pub name : type_name t ≡ text
 
+-- the same type, with its name and its kind
 named_as : (K : Kind → Type 0) (t u : Ty) (text name : List ℕ) (k : Kind) → t ≡ u → type_name u ≡ name → text ≡ name → kind_of u ≡ k → K k → Named K t text
 named_as K t u text name k same is text_is kind_is holds = record {
   kind = subst (λ v. K (kind_of v)) (sym same) (subst K (sym kind_is) holds);
@@ -57,21 +53,25 @@ named_as K t u text name k same is text_is kind_is holds = record {
 
 -- ---- numbers
 
+-- kinds that are among others
 whole_number : (k : Kind) → IsWhole k → IsNumber k
 whole_number Whole h = tt
 whole_number _ h = absurd h
 
+-- a number is a scalar
 number_scalar : (k : Kind) → IsNumber k → IsScalar k
 number_scalar Whole h = tt
 number_scalar Day h = tt
 number_scalar _ h = absurd h
 
+-- a scalar has no arrays
 scalar_nests : (arrays : ℕ) (k : Kind) → IsScalar k → Nests arrays k
 scalar_nests arrays Whole h = tt
 scalar_nests arrays Day h = tt
 scalar_nests arrays Bytes h = tt
 scalar_nests arrays _ h = absurd h
 
+-- what has no arrays
 nests_more : (arrays : ℕ) (k : Kind) → Nests 0 k → Nests arrays k
 nests_more arrays Whole h = tt
 nests_more arrays Day h = tt
@@ -81,9 +81,11 @@ nests_more arrays (Nested depth) h = omega arith
 nests_more arrays Stored h = absurd h
 nests_more arrays Unknown h = absurd h
 
+-- a weaker statement on the kind
 weaker : (K L : Kind → Type 0) (t : Ty) (text : List ℕ) → ((k : Kind) → K k → L k) → Named K t text → Named L t text
 weaker K L t text more h = record { kind = more (kind_of t) h.kind; name = h.name }
 
+-- widths
 width_is : (text : List ℕ) (w : Width) → width_named text ≡ Some w → text ≡ width_text w
 width_is text w e =
     elim (word_is text (codes "8") W8 _ w e) [
@@ -100,6 +102,7 @@ width_is text w e =
       ]
     ]
 
+-- integers
 integer_is : (text : List ℕ) (t : Ty) → integer_named text ≡ Some t → Named IsWhole t text
 integer_is text t e =
     elim (within_is UInt width_named _ (after_prefix (codes "UInt") text) t e) [
@@ -110,6 +113,7 @@ integer_is text t e =
       ]
     ]
 
+-- numbers
 number_is : (text : List ℕ) (t : Ty) → number_named text ≡ Some t → Named IsNumber t text
 number_is text t e =
     elim (word_is text (codes "Date") Date _ t e) [
@@ -119,9 +123,11 @@ number_is text t e =
 
 -- ---- scalars and Nullable
 
+-- a FixedString within the limit is of the profile
 sized_kind : (n : ℕ) → 1 ≤ n → n ≤ MAX_FIXED_STRING → kind_of (FixedString n) ≡ Bytes
 sized_kind n some small = kind-FixedString n ∙ rw (le-leb 1 n some, le-leb n MAX_FIXED_STRING small) refl
 
+-- scalars
 scalar_is : (text : List ℕ) (t : Ty) → scalar_named text ≡ Some t → Named IsScalar t text
 scalar_is text t e =
     elim (word_is text (codes "String") Str _ t e) [
@@ -135,6 +141,7 @@ scalar_is text t e =
       ]
     ]
 
+-- Nullable takes each scalar
 optional_of_scalar : (k : Kind) → IsScalar k → optional_kind k ≡ Optional
 optional_of_scalar Whole h = refl
 optional_of_scalar Day h = refl
@@ -147,6 +154,7 @@ around : (K L : Kind → Type 0) (t u inner : Ty) (text s opening : List ℕ) (w
 around K L t u inner text s opening wrap same name kind is step h =
     named_as L t u text (opening ++ type_name inner ++ codes ")") (wrap (kind_of inner)) same name (between_is opening text s is ∙ ap (λ v. opening ++ v ++ codes ")") (sym h.name)) kind (step (kind_of inner) h.kind)
 
+-- types without arrays
 optional_is : (text : List ℕ) (t : Ty) → optional_named text ≡ Some t → Named (Nests 0) t text
 optional_is text t e =
     elim (within_is Nullable scalar_named _ (between (codes "Nullable(") text) t e) [
@@ -158,9 +166,11 @@ optional_is text t e =
 
 -- ---- Array and the states
 
+-- one array more
 deeper_nests : (arrays d : ℕ) → d ≤ arrays → arrays < MAX_ARRAY_DEPTH → Nests (suc arrays) (if nat_lt d MAX_ARRAY_DEPTH then Nested (d + 1) else Unknown)
 deeper_nests arrays d in_arrays below = let less : d < MAX_ARRAY_DEPTH = omega arith in rw (lt-ltb d MAX_ARRAY_DEPTH less) (omega arith)
 
+-- Array, while there may be one more
 array_nests : (arrays : ℕ) → arrays < MAX_ARRAY_DEPTH → (k : Kind) → Nests arrays k → Nests (suc arrays) (array_kind k)
 array_nests arrays below Whole h = omega arith
 array_nests arrays below Day h = omega arith
@@ -170,6 +180,7 @@ array_nests arrays below (Nested d) h = deeper_nests arrays d h below
 array_nests arrays below Stored h = absurd h
 array_nests arrays below Unknown h = absurd h
 
+-- types of so many arrays
 nested_is : (arrays : ℕ) → arrays ≤ MAX_ARRAY_DEPTH → (text : List ℕ) (t : Ty) → nested_named arrays text ≡ Some t → Named (Nests arrays) t text
 nested_is zero fits text t e = optional_is text t e
 nested_is (suc arrays) fits text t e =
@@ -180,9 +191,11 @@ nested_is (suc arrays) fits text t e =
       | inr e2 ↦ weaker (Nests 0) (Nests (suc arrays)) t text (nests_more (suc arrays)) (optional_is text t e2)
     ]
 
+-- a kind of the profile
 abbrev IsOfProfile : Kind → Type 0
 IsOfProfile k = is_known k ≡ true
 
+-- a type of at most three arrays is of the profile
 nests_known : (k : Kind) → Nests MAX_ARRAY_DEPTH k → IsOfProfile k
 nests_known Whole h = refl
 nests_known Day h = refl
@@ -192,20 +205,24 @@ nests_known (Nested depth) h = refl
 nests_known Stored h = absurd h
 nests_known Unknown h = absurd h
 
+-- so are the states: of sum
 sum_known : (k : Kind) → IsWhole k → IsOfProfile (state_kind Sum k)
 sum_known Whole h = refl
 sum_known _ h = absurd h
 
+-- of min
 least_known : (k : Kind) → IsNumber k → IsOfProfile (state_kind Min k)
 least_known Whole h = refl
 least_known Day h = refl
 least_known _ h = absurd h
 
+-- of max
 greatest_known : (k : Kind) → IsNumber k → IsOfProfile (state_kind Max k)
 greatest_known Whole h = refl
 greatest_known Day h = refl
 greatest_known _ h = absurd h
 
+-- the states of max, or no state
 greatest_is : (text : List ℕ) (t : Ty) → within (State Max) number_named (nested_named MAX_ARRAY_DEPTH text) (between (state_opening Max) text) ≡ Some t → Named IsOfProfile t text
 greatest_is text t e =
     elim (within_is (State Max) number_named (nested_named MAX_ARRAY_DEPTH text) (between (state_opening Max) text) t e) [
@@ -213,6 +230,7 @@ greatest_is text t e =
       | inr e2 ↦ weaker (Nests MAX_ARRAY_DEPTH) IsOfProfile t text nests_known (nested_is MAX_ARRAY_DEPTH (lit≤ tt) text t e2)
     ]
 
+-- states, or no state
 state_is : (text : List ℕ) (t : Ty) → state_named text (nested_named MAX_ARRAY_DEPTH text) ≡ Some t → Named IsOfProfile t text
 state_is text t e =
     elim (within_is (State Sum) integer_named _ (between (state_opening Sum) text) t e) [
@@ -223,6 +241,7 @@ state_is text t e =
       ]
     ]
 
+-- all types
 type_is : (text : List ℕ) (t : Ty) → type_named text ≡ Some t → Named IsOfProfile t text
 type_is text t e =
     elim (word_is text (codes "AggregateFunction(count)") CountState _ t e) [
@@ -236,11 +255,13 @@ name_of_type_named text t e = let h = type_is text t e in (h.kind, h.name)
 
 -- ---- a reading's answer
 
+-- what is answered is the type
 pub found_of : (text : List ℕ) (r : Result Ty TyError) → GivesType r (type_named text) → IfOk r (λ t. (is_profile t ≡ true) × (type_name t ≡ text))
 found_of text (Ok t) h = name_of_type_named text t h
 found_of text (Err NotAType) h = tt
 found_of text (Err NoMemory) h = tt
 
+-- a type that is there is answered
 pub only_of : (text : List ℕ) (r : Result Ty TyError) → GivesType r (type_named text) → (t : Ty) → is_profile t ≡ true → type_name t ≡ text → (r ≡ Ok t) ⊎ (r ≡ Err NoMemory)
 only_of text (Ok u) h t profile name =
     let read : type_named text ≡ Some t = ap type_named (sym name) ∙ type_named_of_name t profile in
@@ -251,6 +272,7 @@ only_of text (Err NotAType) h t profile name =
     let never : None ≡ Some t = sym h ∙ read in cc
 only_of text (Err NoMemory) h t profile name = inr refl
 
+-- none is there where none is answered
 pub cause_of : (text : List ℕ) (r : Result Ty TyError) → GivesType r (type_named text) → r ≡ Err NotAType → (t : Ty) → is_profile t ≡ true → type_name t ≢ text
 cause_of text r h is t profile name =
     elim (only_of text r h t profile name) [

@@ -1,5 +1,5 @@
--- Names read: the type of the profile that a text names, if there is one. `Names` and `Profile` say which that is;
--- this is the same from the text's side.
+-- Names read: the type of the profile that a text names, if there is one. `Names` and `Profile` say
+-- which that is; this is the same from the text's side, and laws in src/law.rt say that it is.
 use Rattle.std.specs.Prelude.{◌≡◌, ℕ, zero, suc, ◌+◌, ◌*◌, ◌-◌, ◌==◌, nat_le, Bool, ◌&&◌, List, [], ◌∷◌, Option, Some, None, option_map, option_and_then, Result, Ok, Err, if◌then◌else◌, codes}
 use Rattle.std.specs.Str.{bytes_eq}
 use Rattle.mt_types.specs.declared.limits.TheConstants.{MAX_FIXED_STRING, MAX_ARRAY_DEPTH}
@@ -8,8 +8,8 @@ use Rattle.mt_types.specs.declared.ty.Width.TheVariants.{W8, W16, W32, W64}
 use Rattle.mt_types.specs.declared.ty.Agg.TheVariants.{Sum, Min, Max}
 use Rattle.mt_types.specs.declared.ty.Ty.{Ty}
 use Rattle.mt_types.specs.declared.ty.Ty.TheVariants.{UInt, Int, FixedString, Str, Date, Nullable, Array, State, CountState}
-use Rattle.mt_types.specs.declared.ty.read_name.TyError.{TyError}
-use Rattle.mt_types.specs.declared.ty.read_name.TyError.TheVariants.{NotAType, NoMemory}
+use Rattle.mt_types.specs.declared.ty.error.TyError.{TyError}
+use Rattle.mt_types.specs.declared.ty.error.TyError.TheVariants.{NotAType, NoMemory}
 use Rattle.mt_types.specs.Names.{state_opening}
 
 -- what follows a prefix
@@ -29,7 +29,8 @@ abbrev pub between : (opening : List ℕ) → (text : List ℕ) → Option (List
 between opening text = option_and_then before_close (after_prefix opening text)
 
 -- where there is an inner text, what is made of its reading; else another reading
-abbrev pub within : {X : Type 0} → (X → Ty) → (List ℕ → Option X) → (otherwise : Option Ty) → Option (List ℕ) → Option Ty
+abbrev pub within : {X : Type 0} → (make : X → Ty) → (read : List ℕ → Option X)
+    → (otherwise : Option Ty) → (inner : Option (List ℕ)) → Option Ty
 within make read otherwise None = otherwise
 within make read otherwise (Some text) = option_map make (read text)
 

@@ -2,7 +2,8 @@
 
 ghost use Rattle.std.specs.Prelude.{◌≡◌};
 ghost use Rattle.std.specs.List.{list_all};
-ghost use Rattle.mt_types.specs.Fits.{bits, fits_of, is_count, is_least_of, is_signed, is_state_of, is_unsigned};
+ghost use Rattle.mt_types.specs.Fits.{bits, fits_of, is_signed, is_unsigned};
+ghost use Rattle.mt_types.specs.Fits.{is_count, is_least_of, is_state_of};
 
 use crate::limits::{MAX_ELEMENTS, MAX_TEXT};
 use crate::ty::{Agg, Ty, Width};

@@ -1,4 +1,4 @@
-//! Laws of the order and of numbers, each the contract of a function that does nothing.
+//! Laws of the order, numbers and names, each the contract of a function that does nothing.
 
 ghost use Rattle.std.specs.Prelude.{◌≡◌, ◌++◌, ◌^◌, ◌<◌, ℕ, List, length, true, Some};
 ghost use Rattle.std.specs.Cmp.{IsTotalOrder};
@@ -42,7 +42,8 @@ pub fn defaults_fit()
 
 /// A number has one encoding, and none is a proper prefix of another's.
 pub fn numbers_have_one_encoding()
-    ensures { (m n : ℕ) (x y : List ℕ) → leb128 m ++ x ≡ leb128 n ++ y → (m ≡ n) × (x ≡ y) }
+    ensures { (m n : ℕ) (x y : List ℕ) → leb128 m ++ x ≡ leb128 n ++ y
+        → (m ≡ n) × (x ≡ y) }
 {}
 
 /// What was written is read again with its length, whatever follows.

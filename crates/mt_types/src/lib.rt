@@ -10,6 +10,8 @@ mod list;
 mod memory;
 mod order;
 mod row;
+#[cfg(test)]
+mod tests;
 mod ty;
 mod value;
 mod varint;

@@ -9,5 +9,5 @@ pub const MAX_FIXED_STRING: u32 = 65_535;
 /// The most elements of an array: at 64 bytes a value they take 64 MiB of memory.
 pub const MAX_ELEMENTS: usize = 1_048_576;
 
-/// How many arrays may stand inside each other: no value is deeper, so recursion over it is shallow.
+/// The most arrays inside each other, so that recursion over a type or a value is shallow.
 pub const MAX_ARRAY_DEPTH: u32 = 3;

@@ -32,7 +32,8 @@ impl Eq for List<Value> {
 impl PartialOrd for List<Value> {
     ghost partial_cmp = { as_partial_cmp values_cmp };
 
-    ghost laws = { partial_order_from_agreeing_total values_cmp values_total (λ x y. refl) (λ x y. refl) };
+    ghost laws = { partial_order_from_agreeing_total values_cmp values_total
+        (λ x y. refl) (λ x y. refl) };
 
     fn partial_cmp(&self, other: &List<Value>) -> Option<Ordering> {
         Some(compare_items(self.as_slice(), other.as_slice()))

@@ -3,13 +3,15 @@
 ghost use Rattle.std.specs.Prelude.{◌≡◌, ◌↔◌, IfOk, IsTrue};
 ghost use Rattle.mt_types.specs.Defaults.{default_of, empty_state};
 
+mod error;
 mod name;
 mod read_name;
+mod scalar;
 
 use crate::list::List;
 use crate::memory::NoMemory;
 use crate::value::{AggState, Value};
-pub use read_name::TyError;
+pub use error::TyError;
 use sqlite_items::Boxed;
 use std::alloc::Global;
 

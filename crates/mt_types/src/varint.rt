@@ -1,6 +1,6 @@
 //! Minimal LEB128: the lengths of strings and the counts of states.
 
-ghost use Rattle.std.specs.Prelude.{◌≡◌, ◌++◌, length, drop};
+ghost use Rattle.std.specs.Prelude.{◌≡◌, ◌≤◌, ◌++◌, length, drop};
 ghost use Rattle.mt_types.specs.Leb128.{leb128, Reads};
 
 /// What some bytes begin with.
@@ -17,6 +17,7 @@ pub enum VarInt {
 /// Writes a number's encoding at the start of `into`, and returns its length. Later bytes stay.
 pub fn varint_put(value: u64, into: &mut [u8; 10]) -> usize
     ensures size { result ≡ length (leb128 value) }
+    ensures bound { result ≤ 10 }
     ensures written { into.new ≡ leb128 value ++ drop (length (leb128 value)) into.old }
 {
     let mut rest = value;

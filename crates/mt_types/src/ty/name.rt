@@ -77,7 +77,8 @@ impl Ty {
         opening: &[u8],
         out: &mut List<u8>,
     ) -> Result<(), NoMemory>
-        ensures { OnOk result (out.new ≡ out.old ++ (opening.now ++ type_name self.now ++ codes ")")) }
+        ensures { OnOk result
+            (out.new ≡ out.old ++ (opening.now ++ type_name self.now ++ codes ")")) }
     {
         out.append(opening)?;
         self.append_name(alloc, out)?;
@@ -93,7 +94,8 @@ fn append_both(first: &[u8], second: &[u8], out: &mut List<u8>) -> Result<(), No
 }
 
 fn append_fixed_string(alloc: Global, size: u32, out: &mut List<u8>) -> Result<(), NoMemory>
-    ensures { OnOk result (out.new ≡ out.old ++ (codes "FixedString(" ++ decimal size ++ codes ")")) }
+    ensures { OnOk result
+        (out.new ≡ out.old ++ (codes "FixedString(" ++ decimal size ++ codes ")")) }
 {
     let digits = size.to_string(alloc)?;
     append_three(b"FixedString(", digits.as_bytes(), b")", out)

@@ -1,7 +1,7 @@
 use Rattle.std.proofs.Common.{◌≡◌, ◌≤◌, drop}
 use Rattle.mt_types.specs.declared.limits.TheConstants.{MAX_FIXED_STRING}
 use Rattle.mt_types.specs.NameReading.{size_from}
-use Rattle.mt_types.proofs.ty.read_name.read_size.Given as goal
+use Rattle.mt_types.proofs.ty.scalar.read_size.Given as goal
 
 -- what is left decides
 abbrev pub invariant-loop-digit : goal.invariant-loop-digit

@@ -4,7 +4,7 @@ use Rattle.std.proofs.lemmas.Bool.Decides.{Decides-eqb}
 use Rattle.std.proofs.lemmas.Slice.Eq.{strip_prefix_is, strip_suffix_is}
 use Rattle.mt_types.specs.NameReading.{before_close}
 use Rattle.mt_types.proofs.TextLemmas.{strip_prefix_result, strip_close_result}
-use Rattle.mt_types.proofs.ty.read_name.between.Goals as goal
+use Rattle.mt_types.proofs.ty.scalar.between.Goals as goal
 
 pub returns-in_err-strip_prefix : goal.returns-in_err-strip_prefix
 returns-in_err-strip_prefix c =
