@@ -1,11 +1,11 @@
 //! Stub.
 #![tactic(auto)]
-ghost use Rattle.std.specs.Prelude.{◌≡◌, ◌<◌, ◌≤◌, IfOk};
+ghost use Rattle.std.specs.Prelude.{◌≡◌, ◌≢◌, [], ◌≤◌, IfOk, All, IsSorted};
 ghost use Rattle.mt_defs.specs.Sorting.{sorted_rows};
 ghost use Rattle.mt_defs.specs.Writer.{written_folder};
 ghost use Rattle.mt_table.specs.Form.{IsNumbersTable};
-ghost use Rattle.mt_defs.specs.Projections.{base_of};
-ghost use Rattle.mt_defs.specs.Rows.{ArePartRows};
+ghost use Rattle.mt_defs.specs.Rows.{RowFits, key_cmp};
+ghost use Rattle.mt_defs.specs.Partition.{HaveOnePartition};
 
 use mt_shelf::{FileBytes, Gate};
 use mt_table::Table;
@@ -29,10 +29,13 @@ pub fn build<R: Threads + Sync, G: Gate + Sync>(
     workers: u64,
     _gate: &G,
 ) -> Result<List<FileBytes>, NoMemory>
-    requires numbers { IsNumbersTable table.now }
-    requires rows { ArePartRows (base_of table.now) rows.now }
-    requires few { 0 < workers }
-    requires many { workers ≤ 64 }
+    requires form { IsNumbersTable table.now }
+    requires some_rows { rows.now ≢ [] }
+    requires fit { All (RowFits table.now.columns) rows.now }
+    requires ordered { IsSorted (key_cmp table.now.sort) rows.now }
+    requires one_partition { HaveOnePartition table.now rows.now }
+    requires some_workers { 1 ≤ workers }
+    requires few_workers { workers ≤ 64 }
     ensures { IfOk result (λ files. files ≡ written_folder table.now rows.now) }
 {
     Err(NoMemory)

@@ -2,3 +2,4 @@ pub mod Encoders
 pub mod Numbers
 pub mod Examples
 pub mod Sorted
+pub mod WrittenNames

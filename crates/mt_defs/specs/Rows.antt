@@ -6,7 +6,7 @@ use Rattle.mt_types.specs.declared.value.Value.TheVariants.{Null}
 use Rattle.mt_types.specs.Order.{values_cmp}
 pub use Rattle.mt_table.specs.Rows.{RowFits, element_count, cell_count}
 use Rattle.mt_table.specs.declared.definition.PartDef.{PartDef}
-use Rattle.mt_defs.specs.declared.limits.TheConstants.{MAX_ROWS, MAX_CELLS}
+use Rattle.mt_table.specs.declared.limits.TheConstants.{MAX_ROWS, MAX_CELLS}
 
 -- one value per column, in the columns' order
 abbrev pub Row : Type 0

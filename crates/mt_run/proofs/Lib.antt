@@ -1,4 +1,3 @@
 pub mod Reported
 pub mod WriteLemmas
-pub mod FolderNames
-pub mod SortedRows
+pub mod FolderLemmas

@@ -4,7 +4,7 @@ use Rattle.mt_shelf.specs.declared.causes.CallError.{CallError}
 use Rattle.mt_shelf.specs.declared.causes.CallError.TheVariants as call
 use Rattle.mt_tsv.specs.declared.fault.RowError.{RowError}
 use Rattle.mt_tsv.specs.declared.fault.RowError.TheVariants as row
-use Rattle.mt_tsv.specs.declared.limits.TheConstants.{MAX_ROWS, MAX_CELLS}
+use Rattle.mt_table.specs.declared.limits.TheConstants.{MAX_ROWS, MAX_CELLS}
 use Rattle.mt_run.specs.declared.status.What.TheVariants as what
 use Rattle.mt_run.specs.declared.status.Status.{Status}
 use Rattle.mt_run.specs.declared.status.Status.TheVariants.{Done, BadRows, TooMuch, SourceFault, ShelfFault, SinkFault, NoMemory}

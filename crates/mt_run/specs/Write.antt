@@ -1,16 +1,14 @@
 -- The command `write`: its refusals in order, and the files that it adds.
-use Rattle.std.specs.Prelude.{◌≢◌, ◌≤◌, All, ℕ, true, false, nat_lt, List, [], ◌∷◌, length, map, sum_by, Option, None, Some, if◌then◌else◌, Result, Ok, Err}
+use Rattle.std.specs.Prelude.{ℕ, true, false, nat_lt, List, [], ◌∷◌, length, map, sum_by, Option, None, Some, if◌then◌else◌, Result, Ok, Err}
 use Rattle.std.specs.FinMap.{get}
 use Rattle.mt_table.specs.declared.definition.Table.{Table}
 use Rattle.mt_table.specs.declared.why.TableWhy.{TableWhy}
-use Rattle.mt_table.specs.declared.column.Column.{Column}
 use Rattle.mt_table.specs.Reading.{table_reading}
-use Rattle.mt_tsv.specs.declared.limits.TheConstants.{MAX_ROWS, MAX_CELLS}
 use Rattle.mt_tsv.specs.Reading.{rows_reading}
 use Rattle.mt_shelf.specs.declared.file.FileBytes.{FileBytes}
 use Rattle.mt_shelf.specs.Files.{Files, stands, gained_files}
 use Rattle.mt_shelf.specs.Held.{pair_of}
-use Rattle.mt_defs.specs.Rows.{Row, RowFits, cell_count}
+use Rattle.mt_defs.specs.Rows.{Row}
 use Rattle.mt_defs.specs.Sorting.{sorted_rows}
 use Rattle.mt_defs.specs.Writer.{written_folder}
 use Rattle.mt_run.specs.Status.{◌>>=◌, refused_by, status_of_rows}
@@ -53,13 +51,6 @@ input_text input = if nat_lt MAX_INPUT (length input) then Err (TooMuch what.Inp
 
 unfoldable pub rows_of : Table → List ℕ → Result (List Row) Status
 rows_of table text = refused_by status_of_rows (rows_reading table.columns text)
-
--- rows that the writer takes, in any order
-pub record AreRows (columns : List Column) (rows : List Row) : Type 0 where
-  pub not_empty : rows ≢ []
-  pub fit : All (RowFits columns) rows
-  pub few_rows : length rows ≤ MAX_ROWS
-  pub few_cells : cell_count columns rows ≤ MAX_CELLS
 
 -- the bytes of all files together
 abbrev pub folder_bytes : List FileBytes → ℕ

@@ -2,11 +2,12 @@
 ghost use Rattle.std.specs.Prelude.{◌≡◌, ◌≢◌, [], ◌<◌, ◌≤◌, IfOk, All, IsTrue, nat_lt};
 ghost use Rattle.mt_table.specs.Form.{IsNumbersTable};
 ghost use Rattle.mt_shelf.specs.Held.{HasName};
+ghost use Rattle.mt_defs.specs.Rows.{RowFits};
 ghost use Rattle.mt_defs.specs.Sorting.{sorted_rows};
 ghost use Rattle.mt_defs.specs.Writer.{written_folder};
 ghost use Rattle.mt_run.specs.Status.{Gives};
 ghost use Rattle.mt_run.specs.Steps.{StepCausedBy, of_nothing};
-ghost use Rattle.mt_run.specs.Write.{AreRows, rows_of, folder_bytes, folder_of};
+ghost use Rattle.mt_run.specs.Write.{rows_of, folder_bytes, folder_of};
 
 use crate::limits::MAX_FOLDER;
 use crate::status::{Status, What, status_of_rows};
@@ -23,7 +24,8 @@ use std::thread::Threads;
 fn rows_of(alloc: Global, table: &Table, text: &[u8]) -> Result<List<Row>, Status>
     requires { text.now ≢ [] }
     ensures gives { Gives result (rows_of table.now text.now) }
-    ensures rows { IfOk result (AreRows table.now.columns) }
+    ensures some { IfOk result (λ rows. rows ≢ []) }
+    ensures fit { IfOk result (All (RowFits table.now.columns)) }
     ensures cause { StepCausedBy result of_nothing of_nothing }
 {
     match read_rows(alloc, table, text) {
@@ -53,7 +55,8 @@ fn written_folder<R: Threads + Sync, G: Gate + Sync>(
     gate: &G,
 ) -> Result<List<FileBytes>, NoMemory>
     requires numbers { IsNumbersTable table.now }
-    requires rows { AreRows table.now.columns rows }
+    requires some { rows ≢ [] }
+    requires fit { All (RowFits table.now.columns) rows }
     requires few { 0 < workers }
     requires many { workers ≤ 64 }
     ensures folder { IfOk result

@@ -1,4 +1,4 @@
-//! Limits of table texts, and the settings that stand where a text gives none.
+//! Limits of table texts and of their rows, and the settings that stand where a text gives none.
 
 /// The most bytes of a name.
 pub const MAX_NAME: usize = 64;
@@ -14,6 +14,12 @@ pub const MAX_KEY: usize = 16;
 pub const MAX_PARTITION: usize = 4;
 /// The most rows that `index_granularity` may ask for in the two-column form.
 pub const MAX_GRANULE_ROWS: u64 = 8192;
+
+/// The most rows of a text of rows, of a part, and of a projection.
+pub const MAX_ROWS: usize = 4_194_304;
+/// The most cells of such rows: rows times columns, and the elements of all arrays in them. At 64
+/// bytes a cell these are 1 GiB.
+pub const MAX_CELLS: usize = 16_777_216;
 
 /// `index_granularity` where none is given, in rows (ClickHouse: `MergeTreeSettings`).
 pub const DEFAULT_GRANULE_ROWS: u64 = 8192;

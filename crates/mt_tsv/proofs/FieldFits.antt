@@ -16,7 +16,7 @@ use Rattle.mt_types.specs.declared.value.Value.TheVariants.{Num, Text, List as I
 use Rattle.mt_types.specs.Fits.{fits_of, fits_step, bits, is_unsigned, is_signed}
 use Rattle.mt_tsv.specs.declared.fault.RowWhy.{RowWhy}
 use Rattle.mt_tsv.specs.declared.fault.RowWhy.TheVariants.{Number, Range, Date, Null, TooLong, List as BadList}
-use Rattle.mt_tsv.specs.declared.limits.TheConstants.{MAX_TEXT, MAX_ITEMS}
+use Rattle.mt_types.specs.declared.limits.TheConstants.{MAX_TEXT, MAX_ELEMENTS}
 use Rattle.mt_tsv.specs.Steps.{◌>>=◌, unless_bad, onto}
 use Rattle.mt_tsv.specs.Texts.{text_of, bounded_text, padded_text}
 use Rattle.mt_tsv.specs.Scalars.{integer_of, number_of, number_value, day_of, scalar_at, scalar_of}
@@ -160,10 +160,10 @@ unfolding array_of
 array_fits fits element each text v e =
     let texts = then_ok (level_of element.in_quotes text) _ v e in
     let values = then_ok (items_of element.read texts.0) _ v texts.2 in
-    let few = passed (leb (length values.0) MAX_ITEMS) TooLong _ v values.2 in
+    let few = passed (leb (length values.0) MAX_ELEMENTS) TooLong _ v values.2 in
     let same : Ok (Items values.0) ≡ Ok v = few.1 in
     let is : Items values.0 ≡ v = cc in
-    subst (λ v. fits_step (Ty-F.Array fits) v ≡ true) is (rw (outs-List values.0) (and_from (leb (length values.0) MAX_ITEMS) (list_all fits values.0) few.0 (items_fit fits element.read each texts.0 values.0 values.1)))
+    subst (λ v. fits_step (Ty-F.Array fits) v ≡ true) is (rw (outs-List values.0) (and_from (leb (length values.0) MAX_ELEMENTS) (list_all fits values.0) few.0 (items_fit fits element.read each texts.0 values.0 values.1)))
 
 -- what is read of an element fits
 abbrev Reads : Ty → Type 0

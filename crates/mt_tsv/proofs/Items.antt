@@ -4,7 +4,7 @@ use Rattle.std.proofs.lemmas.Bool.{le-leb, lt-leb}
 use Rattle.std.proofs.lemmas.List.{append-nil}
 use Rattle.mt_types.specs.declared.value.Value.{Value}
 use Rattle.mt_types.specs.declared.value.Value.TheVariants.{List as Items}
-use Rattle.mt_tsv.specs.declared.limits.TheConstants.{MAX_ITEMS}
+use Rattle.mt_types.specs.declared.limits.TheConstants.{MAX_ELEMENTS}
 use Rattle.mt_tsv.specs.declared.fault.RowWhy.{RowWhy}
 use Rattle.mt_tsv.specs.declared.fault.RowWhy.TheVariants.{TooLong}
 use Rattle.mt_tsv.specs.declared.fault.FieldError.{FieldError}
@@ -44,12 +44,12 @@ unfolding array_of
 array_items_fail field_error.NoMemory element text texts e h = tt
 array_items_fail (field_error.Bad why) element text texts e h = rw (e, h) refl
 
-pub array_too_long : (element : Element) (text : List ℕ) (texts : List (List ℕ)) (values : List Value) → level_of element.in_quotes text ≡ Ok texts → items_of element.read texts ≡ Ok values → MAX_ITEMS < length values
+pub array_too_long : (element : Element) (text : List ℕ) (texts : List (List ℕ)) (values : List Value) → level_of element.in_quotes text ≡ Ok texts → items_of element.read texts ≡ Ok values → MAX_ELEMENTS < length values
     → array_of element text ≡ Err TooLong
 unfolding array_of
-array_too_long element text texts values e h long = rw (e, h, lt-leb (length values) MAX_ITEMS long) refl
+array_too_long element text texts values e h long = rw (e, h, lt-leb (length values) MAX_ELEMENTS long) refl
 
-pub array_is : (element : Element) (text : List ℕ) (texts : List (List ℕ)) (values : List Value) → level_of element.in_quotes text ≡ Ok texts → items_of element.read texts ≡ Ok values → length values ≤ MAX_ITEMS
+pub array_is : (element : Element) (text : List ℕ) (texts : List (List ℕ)) (values : List Value) → level_of element.in_quotes text ≡ Ok texts → items_of element.read texts ≡ Ok values → length values ≤ MAX_ELEMENTS
     → array_of element text ≡ Ok (Items values)
 unfolding array_of
-array_is element text texts values e h fits = rw (e, h, le-leb (length values) MAX_ITEMS fits) refl
+array_is element text texts values e h fits = rw (e, h, le-leb (length values) MAX_ELEMENTS fits) refl

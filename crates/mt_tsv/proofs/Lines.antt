@@ -5,7 +5,7 @@ use Rattle.std.proofs.lemmas.Bool.{eq-eqb, ne_eqb, lt-ltb, le-ltb}
 use Rattle.std.proofs.lemmas.List.{append-nil}
 use Rattle.mt_types.specs.declared.value.Value.{Value}
 use Rattle.mt_table.specs.declared.column.Column.{Column}
-use Rattle.mt_tsv.specs.declared.limits.TheConstants.{MAX_ROWS}
+use Rattle.mt_table.specs.declared.limits.TheConstants.{MAX_ROWS}
 use Rattle.mt_tsv.specs.declared.fault.RowWhy.{RowWhy}
 use Rattle.mt_tsv.specs.declared.fault.RowWhy.TheVariants.{NoLineEnd, Columns}
 use Rattle.mt_tsv.specs.declared.fault.FieldError.{FieldError}

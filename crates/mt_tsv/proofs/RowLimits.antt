@@ -10,7 +10,7 @@ use Rattle.mt_types.specs.declared.value.Value.{Value}
 use Rattle.mt_table.specs.declared.column.Column.{Column}
 use Rattle.mt_table.specs.Rows.{element_count, cell_count}
 use Rattle.mt_tsv.specs.declared.ascii.TheConstants.{LINE_END}
-use Rattle.mt_tsv.specs.declared.limits.TheConstants.{MAX_ROWS, MAX_CELLS}
+use Rattle.mt_table.specs.declared.limits.TheConstants.{MAX_ROWS, MAX_CELLS}
 use Rattle.mt_tsv.specs.declared.fault.RowWhy.{RowWhy}
 use Rattle.mt_tsv.specs.declared.fault.RowWhy.TheVariants.{Columns}
 use Rattle.mt_tsv.specs.declared.fault.RowError.{RowError}

@@ -4,7 +4,7 @@ use Rattle.std.proofs.lemmas.Bool.{eqb-true}
 use Rattle.mt_types.specs.declared.value.Value.{Value}
 use Rattle.mt_table.specs.declared.column.Column.{Column}
 use Rattle.mt_table.specs.Rows.{RowFits}
-use Rattle.mt_tsv.specs.declared.limits.TheConstants.{MAX_CELLS}
+use Rattle.mt_table.specs.declared.limits.TheConstants.{MAX_CELLS}
 use Rattle.mt_tsv.specs.declared.fault.RowWhy.TheVariants.{Columns}
 use Rattle.mt_tsv.specs.Fields.{field_of}
 use Rattle.mt_tsv.specs.Reading.{values_of, row_of, fields, lines, rows_reading}

@@ -7,7 +7,7 @@ use Rattle.mt_types.specs.declared.ty.Ty.TheFolds.{fold-Ty}
 use Rattle.mt_types.specs.declared.value.Value.{Value}
 use Rattle.mt_types.specs.declared.value.Value.TheVariants.{Null as NullValue, List as Items}
 use Rattle.mt_tsv.specs.declared.ascii.TheConstants.{OPEN, CLOSE, SPACE}
-use Rattle.mt_tsv.specs.declared.limits.TheConstants.{MAX_ITEMS}
+use Rattle.mt_types.specs.declared.limits.TheConstants.{MAX_ELEMENTS}
 use Rattle.mt_tsv.specs.declared.nesting.Nesting.TheVariants.{Outside}
 use Rattle.mt_tsv.specs.declared.fault.RowWhy.{RowWhy}
 use Rattle.mt_tsv.specs.declared.fault.RowWhy.TheVariants.{Null, TooLong, List as BadList}
@@ -87,7 +87,7 @@ unfoldable pub array_of : Element → List ℕ → Result Value RowWhy
 array_of element text = do
   texts ← level_of element.in_quotes text
   values ← items_of element.read texts
-  unless_bad (nat_le (length values) MAX_ITEMS) TooLong (Ok (Items values))
+  unless_bad (nat_le (length values) MAX_ELEMENTS) TooLong (Ok (Items values))
 
 -- ---- elements by type
 

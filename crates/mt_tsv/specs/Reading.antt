@@ -4,7 +4,7 @@ use Rattle.std.specs.List.{slice_split}
 use Rattle.mt_types.specs.declared.value.Value.{Value}
 use Rattle.mt_table.specs.declared.column.Column.{Column}
 use Rattle.mt_tsv.specs.declared.ascii.TheConstants.{TAB, LINE_END}
-use Rattle.mt_tsv.specs.declared.limits.TheConstants.{MAX_ROWS, MAX_CELLS}
+use Rattle.mt_table.specs.declared.limits.TheConstants.{MAX_ROWS, MAX_CELLS}
 use Rattle.mt_tsv.specs.declared.fault.RowWhy.{RowWhy}
 use Rattle.mt_tsv.specs.declared.fault.RowWhy.TheVariants.{NoLineEnd, Columns}
 use Rattle.mt_tsv.specs.declared.fault.RowError.{RowError}

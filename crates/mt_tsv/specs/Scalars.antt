@@ -8,7 +8,7 @@ use Rattle.mt_types.specs.declared.value.Value.{Value}
 use Rattle.mt_types.specs.declared.value.Value.TheVariants.{Num, Text}
 use Rattle.mt_types.specs.Fits.{bits, is_unsigned, is_signed}
 use Rattle.mt_tsv.specs.declared.ascii.TheConstants.{MINUS}
-use Rattle.mt_tsv.specs.declared.limits.TheConstants.{MAX_TEXT}
+use Rattle.mt_types.specs.declared.limits.TheConstants.{MAX_TEXT}
 use Rattle.mt_tsv.specs.declared.fault.RowWhy.{RowWhy}
 use Rattle.mt_tsv.specs.declared.fault.RowWhy.TheVariants.{Number, Range, Date, List as BadList}
 use Rattle.mt_tsv.specs.Steps.{◌>>=◌, unless_bad}

@@ -6,9 +6,8 @@ ghost use Rattle.mt_tsv.specs.Arrays.{array_of, element_of};
 
 use crate::fault::{FieldError, RowWhy};
 use crate::level::{cut_element, is_null_word, middle, read_level};
-use crate::limits::MAX_ITEMS;
 use crate::scalar::read_scalar;
-use mt_types::{List, Ty, Value};
+use mt_types::{List, MAX_ELEMENTS, Ty, Value};
 use std::alloc::Global;
 
 /// Whether elements of this type stand in quotes.
@@ -69,7 +68,7 @@ pub fn read_array(alloc: Global, inner: &Ty, text: &[u8]) -> Result<Value, Field
         items.push(read_element(alloc, inner, element)?)?;
         rest = after;
     }
-    if items.len() > MAX_ITEMS {
+    if items.len() > MAX_ELEMENTS {
         return Err(FieldError::Bad(RowWhy::TooLong));
     }
     Ok(Value::List(items))

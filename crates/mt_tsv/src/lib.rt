@@ -13,7 +13,6 @@ mod escape;
 mod fault;
 mod field;
 mod level;
-mod limits;
 mod line;
 mod nesting;
 mod number;
@@ -27,6 +26,6 @@ mod text;
 mod writing;
 
 pub use fault::{RowError, RowWhy};
-pub use limits::{MAX_CELLS, MAX_ROWS};
+pub use mt_table::{MAX_CELLS, MAX_ROWS};
 pub use rows::read_rows;
 pub use writing::write_row;

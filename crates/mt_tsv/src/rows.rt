@@ -2,17 +2,16 @@
 
 ghost use Rattle.std.specs.Prelude.{◌≡◌, ◌≢◌, ◌≤◌, [], length, All, IfOk};
 ghost use Rattle.mt_table.specs.Rows.{RowFits, cell_count};
-ghost use Rattle.mt_tsv.specs.declared.limits.TheConstants.{MAX_ROWS, MAX_CELLS};
+ghost use Rattle.mt_table.specs.declared.limits.TheConstants.{MAX_ROWS, MAX_CELLS};
 ghost use Rattle.mt_tsv.specs.Steps.{GivesRows};
 ghost use Rattle.mt_tsv.specs.Reading.{error_at, rows_reading};
 
 use crate::ascii::LINE_END;
 use crate::cells::room_after;
 use crate::fault::{FieldError, RowError, RowWhy};
-use crate::limits::{MAX_CELLS, MAX_ROWS};
 use crate::line::read_row;
 use crate::split::cut;
-use mt_table::Table;
+use mt_table::{MAX_CELLS, MAX_ROWS, Table};
 use mt_types::{List, Row};
 use std::alloc::Global;
 

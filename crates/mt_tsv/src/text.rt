@@ -6,9 +6,8 @@ ghost use Rattle.mt_tsv.specs.Texts.{escaped_byte, text_of, bounded_text, padded
 
 use crate::ascii::BACKSLASH;
 use crate::fault::{FieldError, RowWhy};
-use crate::limits::MAX_TEXT;
 use crate::split::{cut, split_first};
-use mt_types::{List, NoMemory};
+use mt_types::{List, MAX_TEXT, NoMemory};
 use std::alloc::Global;
 
 /// The byte that a backslash and this letter stand for.

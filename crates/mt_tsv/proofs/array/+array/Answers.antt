@@ -24,8 +24,8 @@ read_array-elements-preserved t c =
     let texts = ap (λ r. elements_after (option_copied r)) c.in-Some.is ∙ c.cut_element.ensures.elements in
     rw c.in_ok-push.ensures.ok (items_more (element_of c.args.inner.now).read c.elements.items _ _ _ c.in_ok-read_element.field-0 (items_of (element_of c.args.inner.now).read (elements_after (option_copied c.in_ok-rest.rest))) texts c.in_ok-read_element.ensures c.elements.invariant)
 
-pub read_array-returns-then-len-gt-MAX_ITEMS : goal.read_array-returns-then-len-gt-MAX_ITEMS
-read_array-returns-then-len-gt-MAX_ITEMS t c =
+pub read_array-returns-then-len-gt-MAX_ELEMENTS : goal.read_array-returns-then-len-gt-MAX_ELEMENTS
+read_array-returns-then-len-gt-MAX_ELEMENTS t c =
     let level = rw c.in_quotes.ensures at c.in_ok-rest.ensures in
     let none = ap (λ r. elements_after (option_copied r)) c.in_default.is in
     let done = items_done (element_of c.args.inner.now).read c.elements.items _ (items_of (element_of c.args.inner.now).read (elements_after (option_copied c.in_ok-rest.rest))) none c.elements.invariant in

@@ -3,7 +3,7 @@ use Rattle.std.specs.Option.{option_copied}
 use Rattle.std.proofs.lemmas.Bool.{eqb-true, eqb-false}
 use Rattle.std.proofs.lemmas.List.{length_push}
 use Rattle.mt_tsv.specs.declared.ascii.TheConstants.{LINE_END}
-use Rattle.mt_tsv.specs.declared.limits.TheConstants.{MAX_CELLS}
+use Rattle.mt_table.specs.declared.limits.TheConstants.{MAX_CELLS}
 use Rattle.mt_tsv.specs.Reading.{parts, lines, rows_of, rows_reading}
 use Rattle.mt_tsv.proofs.Prefixes.{with_prefix-nil}
 use Rattle.mt_tsv.proofs.Lines.{rows_ended, rows_cut, rows_bad, rows_over, cells_over, rows_more}

@@ -1,5 +1,5 @@
 use Rattle.std.proofs.Common.{◌≡◌, ◌≤◌, length}
-use Rattle.mt_tsv.specs.declared.limits.TheConstants.{MAX_ROWS}
+use Rattle.mt_table.specs.declared.limits.TheConstants.{MAX_ROWS}
 use Rattle.mt_tsv.specs.Reading.{lines, rows_of, rows_reading}
 use Rattle.mt_tsv.proofs.Prefixes.{with_prefix}
 use Rattle.mt_tsv.proofs.rows.read_rows.Given as goal
