@@ -62,14 +62,17 @@ no_words e = cc
 
 performed_memory : (plan : Option Plan) (old new : World) (status : Status) → ¬ (status ≡ Done) → Performs plan old new status → Performs plan old new NoMemory
 performed_memory None old new status refused (same, words) = (same, inr refl)
-performed_memory (Some plan) old new status refused (meets, cause) = (record {
-  answer = answer_of_memory old.files old.left (refusal_of plan);
-  early = early_memory old.files plan.early;
-  words = no_words;
-  left = left_of_memory plan old new status refused cause meets.left;
-  unread = meets.unread;
-  taken = meets.taken
-}, tt)
+performed_memory (Some plan) old new status refused (meets, cause) = (
+  record {
+    answer = answer_of_memory old.files old.left (refusal_of plan);
+    early = early_memory old.files plan.early;
+    words = no_words;
+    left = left_of_memory plan old new status refused cause meets.left;
+    unread = meets.unread;
+    taken = meets.taken;
+  },
+  tt,
+)
 
 -- a command's contract holds of the reported answer too
 pub performs_reported : (plan : Option Plan) (old new : World) (status reported : Status) → IsReported status reported → Performs plan old new status → Performs plan old new reported

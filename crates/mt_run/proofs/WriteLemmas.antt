@@ -53,10 +53,10 @@ printed_prefix path part (Some f) (Some input) written = grew_by_nothing written
 
 -- the files gained what the plan has
 files_gained : (path part : List ℕ) (table : Table) (folder : List FileBytes) (files : Option Files) (left : Option (List ℕ)) (new : Option Files)
-  → IfSome files (λ f. table_for path part f ≡ Ok table)
-  → IfSome left (λ input. folder_for table input ≡ Ok folder)
-  → new ≡ option_map (gained_files part (map pair_of folder)) files
-  → IfSome files (λ f. IfSome left (λ input. new ≡ Some ((write_plan path part).files f input)))
+    → IfSome files (λ f. table_for path part f ≡ Ok table)
+    → IfSome left (λ input. folder_for table input ≡ Ok folder)
+    → new ≡ option_map (gained_files part (map pair_of folder)) files
+    → IfSome files (λ f. IfSome left (λ input. new ≡ Some ((write_plan path part).files f input)))
 files_gained path part table folder None left new known gives is = tt
 files_gained path part table folder (Some f) None new known gives is = tt
 files_gained path part table folder (Some f) (Some input) new known gives is =
@@ -72,19 +72,19 @@ outside_answers : (status : Status) → is_outside status ≡ true → (refused 
 outside_answers status is refused = λ inside. cc
 
 pub folder_stored : (path part : List ℕ) (table : Table) (folder : List FileBytes) (result : Result Unit Status) (left left' written : Option (List ℕ)) (files mid new : Option Files) (a b c a' b' c' : ℕ)
-  → IfSome files (λ f. table_for path part f ≡ Ok table)
-  → mid ≡ files
-  → IfSome left (λ input. folder_for table input ≡ Ok folder)
-  → IsAtEnd left'
-  → Stored (option_map (gained_files part (map pair_of folder)) mid) mid new result
-  → Meets (write_plan path part) (world left written files a b c) (world left' written new a' b' c') (answer_of result)
+    → IfSome files (λ f. table_for path part f ≡ Ok table)
+    → mid ≡ files
+    → IfSome left (λ input. folder_for table input ≡ Ok folder)
+    → IsAtEnd left'
+    → Stored (option_map (gained_files part (map pair_of folder)) mid) mid new result
+    → Meets (write_plan path part) (world left written files a b c) (world left' written new a' b' c') (answer_of result)
 folder_stored path part table folder (Ok done) left left' written files mid new a b c a' b' c' known same gives ended stored = record {
   answer = if_both (λ f input is gives. none_refuses (table_for path part f) (λ t. folder_for t input) table folder is gives) files left known gives;
   early = if_some (λ f is some. not_refused (table_for path part f) table is some) files known;
   words = λ e. cc;
   left = (files_gained path part table folder files left new known gives (stored ∙ ap (option_map (gained_files part (map pair_of folder))) same), text_printed path part files left written, λ _. ended);
   unread = λ none. cc;
-  taken = if_some (λ f is some. not_refused (table_for path part f) table is some) files known
+  taken = if_some (λ f is some. not_refused (table_for path part f) table is some) files known;
 }
 folder_stored path part table folder (Err ShelfFault) left left' written files mid new a b c a' b' c' known same gives ended stored = record {
   answer = if_both (λ f input is gives. outside_answers ShelfFault refl (refusal_of (write_plan path part) f input)) files left known gives;
@@ -92,7 +92,7 @@ folder_stored path part table folder (Err ShelfFault) left left' written files m
   words = λ e. cc;
   left = (after stored, refl);
   unread = λ none. cc;
-  taken = if_some (λ f is some. not_refused (table_for path part f) table is some) files known
+  taken = if_some (λ f is some. not_refused (table_for path part f) table is some) files known;
 }
   where
     after : (new ≡ option_map (gained_files part (map pair_of folder)) mid) ⊎ (new ≡ mid) → IfSome files (λ f. IfSome left (λ input. new ≡ Some ((write_plan path part).files f input))) ⊎ (new ≡ files)
@@ -104,7 +104,7 @@ folder_stored path part table folder (Err NoMemory) left left' written files mid
   words = λ e. cc;
   left = (inr (stored ∙ same), printed_prefix path part files left written);
   unread = λ none. cc;
-  taken = if_some (λ f is some. not_refused (table_for path part f) table is some) files known
+  taken = if_some (λ f is some. not_refused (table_for path part f) table is some) files known;
 }
 folder_stored path part table folder (Err Done) left left' written files mid new a b c a' b' c' known same gives ended stored = absurd stored
 folder_stored path part table folder (Err BadWords) left left' written files mid new a b c a' b' c' known same gives ended stored = absurd stored

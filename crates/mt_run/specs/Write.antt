@@ -90,5 +90,5 @@ write_plan path part = record {
   reads = true;
   prints = false;
   files = λ files input. with_folder part (folder_in path part files input) files;
-  text = λ _ _. []
+  text = λ _ _. [];
 }

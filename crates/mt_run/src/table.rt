@@ -55,7 +55,11 @@ fn table_of(alloc: Global, text: &[u8]) -> Result<Table, Status>
 }
 
 /// Reads the table of a file.
-pub(crate) fn read_table<F: Shelf>(alloc: Global, shelf: &mut F, path: &str) -> Result<Table, Status>
+pub(crate) fn read_table<F: Shelf>(
+    alloc: Global,
+    shelf: &mut F,
+    path: &str,
+) -> Result<Table, Status>
     requires { IsTrue (is_path path.now) }
     ensures gives { IfSome (files_of (F.state shelf.old)) (λ files. Gives result (table_in path.now files)) }
     ensures numbers { IfOk result IsNumbersTable }

@@ -26,9 +26,9 @@ fn perform<R: Threads + Sync, S: Source, K: Sink, F: Shelf, G: Gate + Sync>(
 ) -> Status
     ensures { Performs (plan_of (map string_bytes words.now))
         (world (S.left input.old) (K.written output.old) (files_of (F.state shelf.old))
-            (S.faults input.old) (K.faults output.old) (F.faults shelf.old))
+        (S.faults input.old) (K.faults output.old) (F.faults shelf.old))
         (world (S.left input.new) (K.written output.new) (files_of (F.state shelf.new))
-            (S.faults input.new) (K.faults output.new) (F.faults shelf.new)) result }
+        (S.faults input.new) (K.faults output.new) (F.faults shelf.new)) result }
 {
     let [name, path, part, workers] = words else {
         return Status::BadWords;
@@ -37,7 +37,17 @@ fn perform<R: Threads + Sync, S: Source, K: Sink, F: Shelf, G: Gate + Sync>(
         return Status::BadWords;
     };
     if name.as_str() == "write" && is_path(path.as_str()) && is_path(part.as_str()) {
-        write(rt, alloc, path.as_str(), part.as_str(), workers, input, output, shelf, gate)
+        write(
+            rt,
+            alloc,
+            path.as_str(),
+            part.as_str(),
+            workers,
+            input,
+            output,
+            shelf,
+            gate,
+        )
     } else {
         Status::BadWords
     }
@@ -87,9 +97,9 @@ pub fn run<R: Threads + Sync, S: Source, K: Sink, N: Sink, F: Shelf, G: Gate + S
 ) -> Status
     ensures meets { Performs (plan_of (map string_bytes words.now))
         (world (S.left input.old) (K.written output.old) (files_of (F.state shelf.old))
-            (S.faults input.old) (K.faults output.old) (F.faults shelf.old))
+        (S.faults input.old) (K.faults output.old) (F.faults shelf.old))
         (world (S.left input.new) (K.written output.new) (files_of (F.state shelf.new))
-            (S.faults input.new) (K.faults output.new) (F.faults shelf.new)) result }
+        (S.faults input.new) (K.faults output.new) (F.faults shelf.new)) result }
     ensures noted { Noted result (N.written notes.old) (N.written notes.new)
         (N.faults notes.old) (N.faults notes.new) }
 {

@@ -37,7 +37,12 @@ fn free_target<F: Shelf>(shelf: &mut F, part: &str) -> Result<(), Status>
 }
 
 /// Reads the table of a file, and then tries the target.
-fn table_for<F: Shelf>(alloc: Global, shelf: &mut F, path: &str, part: &str) -> Result<Table, Status>
+fn table_for<F: Shelf>(
+    alloc: Global,
+    shelf: &mut F,
+    path: &str,
+    part: &str,
+) -> Result<Table, Status>
     requires path { IsTrue (is_path path.now) }
     requires part { IsTrue (is_path part.now) }
     ensures gives { IfSome (files_of (F.state shelf.old))
@@ -105,14 +110,14 @@ fn write_steps<R: Threads + Sync, S: Source, K: Sink, F: Shelf, G: Gate + Sync>(
     requires many { workers ≤ 64 }
     ensures meets { Meets (write_plan path.now part.now)
         (world (S.left input.old) (K.written _output.old) (files_of (F.state shelf.old))
-            (S.faults input.old) (K.faults _output.old) (F.faults shelf.old))
+        (S.faults input.old) (K.faults _output.old) (F.faults shelf.old))
         (world (S.left input.new) (K.written _output.new) (files_of (F.state shelf.new))
-            (S.faults input.new) (K.faults _output.new) (F.faults shelf.new)) (answer_of result) }
+        (S.faults input.new) (K.faults _output.new) (F.faults shelf.new)) (answer_of result) }
     ensures cause { CausedBy (write_plan path.now part.now)
         (world (S.left input.old) (K.written _output.old) (files_of (F.state shelf.old))
-            (S.faults input.old) (K.faults _output.old) (F.faults shelf.old))
+        (S.faults input.old) (K.faults _output.old) (F.faults shelf.old))
         (world (S.left input.new) (K.written _output.new) (files_of (F.state shelf.new))
-            (S.faults input.new) (K.faults _output.new) (F.faults shelf.new)) (answer_of result) }
+        (S.faults input.new) (K.faults _output.new) (F.faults shelf.new)) (answer_of result) }
 {
     let table = table_for(alloc, shelf, path, part)?;
     let folder = match folder_for(rt, alloc, input, &table, workers, gate) {
@@ -140,14 +145,14 @@ pub(crate) fn write<R: Threads + Sync, S: Source, K: Sink, F: Shelf, G: Gate + S
     requires many { workers ≤ 64 }
     ensures meets { Meets (write_plan path.now part.now)
         (world (S.left input.old) (K.written output.old) (files_of (F.state shelf.old))
-            (S.faults input.old) (K.faults output.old) (F.faults shelf.old))
+        (S.faults input.old) (K.faults output.old) (F.faults shelf.old))
         (world (S.left input.new) (K.written output.new) (files_of (F.state shelf.new))
-            (S.faults input.new) (K.faults output.new) (F.faults shelf.new)) result }
+        (S.faults input.new) (K.faults output.new) (F.faults shelf.new)) result }
     ensures cause { CausedBy (write_plan path.now part.now)
         (world (S.left input.old) (K.written output.old) (files_of (F.state shelf.old))
-            (S.faults input.old) (K.faults output.old) (F.faults shelf.old))
+        (S.faults input.old) (K.faults output.old) (F.faults shelf.old))
         (world (S.left input.new) (K.written output.new) (files_of (F.state shelf.new))
-            (S.faults input.new) (K.faults output.new) (F.faults shelf.new)) result }
+        (S.faults input.new) (K.faults output.new) (F.faults shelf.new)) result }
 {
     match write_steps(rt, alloc, path, part, workers, input, output, shelf, gate) {
         Ok(()) => Status::Done,

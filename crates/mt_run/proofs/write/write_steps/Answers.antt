@@ -7,6 +7,6 @@ store_folder-requires-clause-names g c = rw (c.as_slice.ensures) c.in-Ok.ensures
 pub returns-clause-meets : goal.returns-clause-meets
 returns-clause-meets g c =
     folder_stored c.args.path.now c.args.part.now c.in_ok-table.table c.in-Ok.folder c.store_folder.result
-      _ _ _ _ _ _ _ _ _ _ _ _
-      c.in_ok-table.ensures.gives c.in_ok-table.ensures.files c.in-Ok.ensures.gives c.in-Ok.ensures.ended
-      (rw c.as_slice.ensures at c.store_folder.ensures.stored)
+    _ _ _ _ _ _ _ _ _ _ _ _
+    c.in_ok-table.ensures.gives c.in_ok-table.ensures.files c.in-Ok.ensures.gives c.in-Ok.ensures.ended
+    (rw c.as_slice.ensures at c.store_folder.ensures.stored)
