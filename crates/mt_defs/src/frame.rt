@@ -10,7 +10,7 @@ pub const METHOD_NONE: u8 = 2;
 pub const SIZES_EXTRA: u32 = 9;
 
 /// The bytes of a frame before its payload: checksum, method and two sizes.
-pub const HEADER_BYTES: u64 = 25;
+pub const HEADER_BYTES: usize = 25;
 
 /// The largest payload of a frame, in bytes: 64 MiB. Larger ones are refused before they are read.
 pub const MAX_PAYLOAD: u64 = 67_108_864;
