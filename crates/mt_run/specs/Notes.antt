@@ -1,4 +1,4 @@
--- The line that the notes get of an answer: docs/CLI.md, "Notes".
+-- The line that the notes get of a status: docs/CLI.md, "Notes".
 use Rattle.std.specs.Prelude.{◌≡◌, ◌⊎◌, ℕ, List, [], ◌++◌, Option, codes, decimal}
 use Rattle.std.specs.Io.KnownBytes.{append_known}
 use Rattle.mt_shelf.specs.Causes.{Rose}
@@ -46,7 +46,7 @@ what_name what.Rows = codes "Rows"
 what_name what.Cells = codes "Cells"
 what_name what.Part = codes "Part"
 
--- the line of an answer; Done has none
+-- the line of a status; Done has none
 abbrev pub line_of : Status → List ℕ
 line_of Done = []
 line_of BadWords = codes "mtpart: words are no command\n"
@@ -61,13 +61,13 @@ line_of ShelfFault = codes "mtpart: shelf failed\n"
 line_of SinkFault = codes "mtpart: output failed\n"
 line_of NoMemory = codes "mtpart: no memory\n"
 
--- the notes got a prefix of the answer's line, and the whole line unless they failed;
--- of Done nothing, and where memory ran out a prefix of some answer's line
+-- the notes got a prefix of the status's line, and the whole line unless they failed;
+-- of Done nothing, and where memory ran out a prefix of some status's line
 abbrev pub Noted : Status → Option (List ℕ) → Option (List ℕ) → ℕ → ℕ → Type 0
 Noted Done old new before now = new ≡ old
 Noted NoMemory old new before now = (status : Status) × GrowsByPrefix (line_of status) old new
 Noted status old new before now = GrowsByPrefix (line_of status) old new × (Rose before now ⊎ (new ≡ append_known old (line_of status)))
 
--- a refusal whose note finds no memory is answered as NoMemory
+-- a status whose note finds no memory becomes NoMemory
 abbrev pub IsReported : Status → Status → Type 0
 IsReported status reported = (reported ≡ status) ⊎ ((reported ≡ NoMemory) × ¬ (status ≡ Done))

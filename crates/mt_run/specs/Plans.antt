@@ -45,6 +45,7 @@ pub record World : Type 0 where
   pub output_faults : ℕ
   pub shelf_faults : ℕ
 
+-- the world of three objects, by what each shows
 abbrev pub world : Option (List ℕ) → Option (List ℕ) → Option Files → ℕ → ℕ → ℕ → World
 world left written files source output shelf = record { left = left; written = written; files = files; source_faults = source; output_faults = output; shelf_faults = shelf }
 
@@ -64,7 +65,7 @@ PrintsPrefix plan old new = IfSome old.files (λ files. IfSome old.left (λ inpu
 abbrev pub Unchanged : World → World → Type 0
 Unchanged old new = (new.files ≡ old.files) × (new.written ≡ old.written)
 
--- what stands after an answer: files gained after a fault only by a `publish` that failed
+-- what stands afterwards; after a fault of the shelf the files may have been gained by a `publish` that failed
 abbrev pub Leaves : Plan → World → World → Status → Type 0
 Leaves plan old new Done = Gains plan old new × Prints plan old new × (plan.reads ≡ true → IsAtEnd new.left)
 Leaves plan old new ShelfFault = (Gains plan old new ⊎ (new.files ≡ old.files)) × (new.written ≡ old.written)
@@ -72,7 +73,7 @@ Leaves plan old new SinkFault = (new.files ≡ old.files) × PrintsPrefix plan o
 Leaves plan old new NoMemory = ((Gains plan old new × Rose old.shelf_faults new.shelf_faults) ⊎ (new.files ≡ old.files)) × PrintsPrefix plan old new
 Leaves plan old new status = Unchanged old new
 
--- a refusal, or Done where there is none; or an answer from outside
+-- a refusal, or Done where there is none, unless the command ends from outside
 abbrev pub Answers : Option Status → Status → Type 0
 Answers refusal status = is_outside status ≡ false → status ≡ status_of refusal
 
@@ -84,7 +85,7 @@ pub record Meets (plan : Plan) (old new : World) (status : Status) : Type 0 wher
   pub early : IfSome old.files (λ files. IsSome (plan.early files) → Answers (plan.early files) status)
   -- the words are a command's
   pub words : ¬ (status ≡ BadWords)
-  -- what the answer leaves
+  -- what stands afterwards
   pub left : Leaves plan old new status
   -- only a command that reads rows takes anything of the input
   pub unread : plan.reads ≡ false → new.left ≡ old.left
@@ -95,8 +96,8 @@ pub record Meets (plan : Plan) (old new : World) (status : Status) : Type 0 wher
 abbrev pub NoneRose : World → World → Type 0
 NoneRose old new = (new.source_faults ≡ old.source_faults) × (new.output_faults ≡ old.output_faults) × (new.shelf_faults ≡ old.shelf_faults)
 
--- a fault is answered only of an object that the command uses and whose count rose, or stands at its last value;
--- where a count rose, the answer is that fault, or out of memory
+-- a fault is only of an object that the command uses and whose count rose, or stands at its last value;
+-- where a count rose, the status is that fault, or out of memory
 abbrev pub CausedBy : Plan → World → World → Status → Type 0
 CausedBy plan old new SourceFault = (plan.reads ≡ true) × Rose old.source_faults new.source_faults × (new.output_faults ≡ old.output_faults) × (new.shelf_faults ≡ old.shelf_faults)
 CausedBy plan old new SinkFault = (plan.prints ≡ true) × Rose old.output_faults new.output_faults × (new.source_faults ≡ old.source_faults) × (new.shelf_faults ≡ old.shelf_faults)
@@ -109,7 +110,7 @@ abbrev pub Performs : Option Plan → World → World → Status → Type 0
 Performs None old new status = (new ≡ old) × ((status ≡ BadWords) ⊎ (status ≡ NoMemory))
 Performs (Some plan) old new status = Meets plan old new status × CausedBy plan old new status
 
--- the answer of a command that is written as steps
+-- the status of a command that is written as steps
 abbrev pub answer_of : Result Unit Status → Status
 answer_of (Ok done) = Done
 answer_of (Err status) = status

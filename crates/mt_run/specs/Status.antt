@@ -1,4 +1,4 @@
--- What a run answers, its codes, and the answers of the layers below.
+-- What a run returns, the exit codes, and the errors of the layers below as statuses.
 use Rattle.std.specs.Prelude.{◌≡◌, ℕ, Bool, true, false, Result, Ok, Err}
 use Rattle.mt_shelf.specs.declared.causes.CallError.{CallError}
 use Rattle.mt_shelf.specs.declared.causes.CallError.TheVariants as call
@@ -37,20 +37,22 @@ abbrev pub refused_by : {A E : Type 0} → (E → Status) → Result A E → Res
 refused_by status_for (Ok x) = Ok x
 refused_by status_for (Err error) = Err (status_for error)
 
--- a call answers this value or this refusal, or from outside
+-- a call returns this value or this refusal, unless it ends from outside
 abbrev pub Gives : {A : Type 0} → Result A Status → Result A Status → Type 0
 Gives (Ok x) wanted = wanted ≡ Ok x
 Gives (Err status) wanted = is_outside status ≡ false → wanted ≡ Err status
 
+-- a shelf's error
 abbrev pub status_of_shelf : CallError → Status
 status_of_shelf call.Failed = ShelfFault
 status_of_shelf call.NoMemory = NoMemory
 
+-- a source's error
 abbrev pub status_of_source : CallError → Status
 status_of_source call.Failed = SourceFault
 status_of_source call.NoMemory = NoMemory
 
--- why lines are no rows, as the answer of a run
+-- why lines are no rows
 abbrev pub status_of_rows : RowError → Status
 status_of_rows (row.At line why) = BadRows line why
 status_of_rows row.Rows = TooMuch what.Rows MAX_ROWS

@@ -15,16 +15,19 @@ pub record Counts : Type 0 where
 abbrev pub of_nothing : Counts
 of_nothing = record { source = 0; output = 0; shelf = 0 }
 
+-- the source alone
 abbrev pub of_source : ℕ → Counts
 of_source n = record { source = n; output = 0; shelf = 0 }
 
+-- the output alone
 abbrev pub of_output : ℕ → Counts
 of_output n = record { source = 0; output = n; shelf = 0 }
 
+-- the shelf alone
 abbrev pub of_shelf : ℕ → Counts
 of_shelf n = record { source = 0; output = 0; shelf = n }
 
--- why a step answers what it does; no step answers Done or BadWords in place of a value
+-- why a step ends as it does; no step fails with Done or BadWords
 abbrev pub StepCausedBy : {A : Type 0} → Result A Status → Counts → Counts → Type 0
 StepCausedBy (Ok x) before now = now ≡ before
 StepCausedBy (Err Done) before now = ⊥

@@ -10,6 +10,7 @@ use Rattle.mt_run.specs.declared.limits.TheConstants.{MAX_WORKERS}
 abbrev pub is_first_digit : ℕ → Bool
 is_first_digit byte = nat_le 49 byte && nat_le byte 57
 
+-- a digit from 0 to 9
 abbrev pub is_digit : ℕ → Bool
 is_digit byte = nat_le 48 byte && nat_le byte 57
 

@@ -23,6 +23,7 @@ abbrev pub table_text : Option (List ℕ) → Result (List ℕ) Status
 table_text None = Err NoTable
 table_text (Some text) = if nat_lt MAX_TABLE_TEXT (length text) then Err (TooMuch what.Table MAX_TABLE_TEXT) else Ok text
 
+-- the table of a text, or the first rule that the text breaks
 unfoldable pub table_of : List ℕ → Result Table Status
 table_of text = refused_by BadTable (table_reading text)
 
@@ -46,9 +47,11 @@ abbrev pub some_input : List ℕ → Result (List ℕ) Status
 some_input [] = Err NoRows
 some_input (byte ∷ more) = Ok (byte ∷ more)
 
+-- an input within the limit, which has a byte
 abbrev pub input_text : List ℕ → Result (List ℕ) Status
 input_text input = if nat_lt MAX_INPUT (length input) then Err (TooMuch what.Input MAX_INPUT) else some_input input
 
+-- the rows of a text, or the first line that is none
 unfoldable pub rows_of : Table → List ℕ → Result (List Row) Status
 rows_of table text = refused_by status_of_rows (rows_reading table.columns text)
 
@@ -70,6 +73,7 @@ folder_of table text = do
 abbrev pub folder_for : Table → List ℕ → Result (List FileBytes) Status
 folder_for table input = input_text input >>= folder_of table
 
+-- the refusal of steps, if they refuse
 abbrev pub refusal : {A : Type 0} → Result A Status → Option Status
 refusal (Ok x) = None
 refusal (Err status) = Some status
@@ -83,6 +87,7 @@ with_folder part (Err status) files = files
 abbrev pub folder_in : List ℕ → List ℕ → Files → List ℕ → Result (List FileBytes) Status
 folder_in path part files input = table_for path part files >>= λ table. folder_for table input
 
+-- write TABLE PART WORKERS
 abbrev pub write_plan : List ℕ → List ℕ → Plan
 write_plan path part = record {
   early = λ files. refusal (table_for path part files);

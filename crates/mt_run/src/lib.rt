@@ -1,4 +1,6 @@
-//! The top call.
+//! The top call: `run` does all that the program does, over any source, sinks and shelf.
+//!
+//! Its contract has each refusal in order, the effect, when faults come and what stands afterwards.
 #![tactic(auto)]
 
 mod folder;

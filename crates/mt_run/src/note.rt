@@ -1,4 +1,4 @@
-//! The line that the notes get of an answer (docs/CLI.md, "Notes").
+//! The line that the notes get of a status (docs/CLI.md, "Notes").
 ghost use Rattle.std.specs.Prelude.{◌≡◌, ◌++◌, IfOk, OnOk, codes, decimal};
 ghost use Rattle.mt_run.specs.Notes.{line_of, row_why_name, table_why_name, what_name};
 
@@ -95,7 +95,7 @@ fn too_much_line(alloc: Global, what: What, limit: u64) -> Result<List<u8>, NoMe
     Ok(line)
 }
 
-/// The line of an answer; of `Done` it is empty.
+/// The line of a status; of `Done` it is empty.
 pub(crate) fn line_of(alloc: Global, status: &Status) -> Result<List<u8>, NoMemory>
     ensures { IfOk result (λ line. line ≡ line_of status.now) }
 {

@@ -1,4 +1,4 @@
-//! What a run answers, and the exit code of each answer.
+//! What a run returns, and the exit code of each status.
 ghost use Rattle.std.specs.Prelude.{◌≡◌};
 ghost use Rattle.mt_run.specs.Status.{code_of, status_of_shelf, status_of_source, status_of_rows};
 
@@ -6,7 +6,7 @@ use mt_shelf::CallError;
 use mt_table::TableWhy;
 use mt_tsv::{MAX_CELLS, MAX_ROWS, RowError, RowWhy};
 
-/// The quantity that passes its limit.
+/// A quantity that has a limit.
 #[derive(Clone, Copy, Debug, PartialEq, Eq)]
 pub enum What {
     /// The bytes of the table's text.
@@ -21,7 +21,7 @@ pub enum What {
     Part,
 }
 
-/// What a run answers.
+/// What a run returns.
 #[derive(Debug, PartialEq, Eq, Drop)]
 pub enum Status {
     /// All that the command says was done.

@@ -53,7 +53,7 @@ fn perform<R: Threads + Sync, S: Source, K: Sink, F: Shelf, G: Gate + Sync>(
     }
 }
 
-/// Writes the line of an answer, and returns the answer of the run.
+/// Writes the line of a status, and gives the status of the run.
 fn report<N: Sink>(alloc: Global, notes: &mut N, status: Status) -> Status
     ensures noted { Noted result (N.written notes.old) (N.written notes.new)
         (N.faults notes.old) (N.faults notes.new) }
@@ -84,7 +84,10 @@ fn report_no_memory<N: Sink>(notes: &mut N) -> Status
     }
 }
 
-/// Does all that the program does.
+/// Does all that the program does: the words' command, and then the note of a status that isn't `Done`.
+///
+/// The words are those of docs/CLI.md, without the program's name. Where an object doesn't show its
+/// content, what is said of that content says nothing.
 pub fn run<R: Threads + Sync, S: Source, K: Sink, N: Sink, F: Shelf, G: Gate + Sync>(
     rt: &R,
     alloc: Global,
