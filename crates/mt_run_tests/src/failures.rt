@@ -21,7 +21,11 @@ fn input_fails_at_each_call(rt: HostRuntime) -> Result<(), Fail> {
     let alloc = rt.alloc();
     let words = words_of(alloc, &["write", "u.sql", "p", "1"])?;
     for n in 1..MAX_CALLS {
-        let mut input = MemSource::new(List::of_bytes(alloc, INPUT.as_bytes())?, number(alloc, n)?, 4);
+        let mut input = MemSource::new(
+            List::of_bytes(alloc, INPUT.as_bytes())?,
+            number(alloc, n)?,
+            4,
+        );
         let mut output = MemSink::new(alloc, List::new(alloc), 4);
         let mut notes = MemSink::new(alloc, List::new(alloc), 4);
         let files = files_of(alloc, &[("u.sql", TABLE)])?;
@@ -54,7 +58,11 @@ fn shelf_fails_at_each_call(rt: HostRuntime) -> Result<(), Fail> {
     let alloc = rt.alloc();
     let words = words_of(alloc, &["write", "u.sql", "p", "1"])?;
     for n in 1..MAX_CALLS {
-        let mut input = MemSource::new(List::of_bytes(alloc, INPUT.as_bytes())?, List::new(alloc), 4);
+        let mut input = MemSource::new(
+            List::of_bytes(alloc, INPUT.as_bytes())?,
+            List::new(alloc),
+            4,
+        );
         let mut output = MemSink::new(alloc, List::new(alloc), 4);
         let mut notes = MemSink::new(alloc, List::new(alloc), 4);
         let files = files_of(alloc, &[("u.sql", TABLE)])?;
@@ -90,7 +98,11 @@ fn notes_that_fail_change_no_status(rt: HostRuntime) -> Result<(), Fail> {
     let words = words_of(alloc, &["write", "none.sql", "p", "1"])?;
     let line = b"mtpart: no table\n".as_slice();
     for n in 1..MAX_CALLS {
-        let mut input = MemSource::new(List::of_bytes(alloc, INPUT.as_bytes())?, List::new(alloc), 4);
+        let mut input = MemSource::new(
+            List::of_bytes(alloc, INPUT.as_bytes())?,
+            List::new(alloc),
+            4,
+        );
         let mut output = MemSink::new(alloc, List::new(alloc), 4);
         let mut notes = MemSink::new(alloc, number(alloc, n)?, 4);
         let files = files_of(alloc, &[("u.sql", TABLE)])?;

@@ -8,7 +8,8 @@ use std::alloc::Global;
 use std::test::Fail;
 
 /// The table of the worked part.
-pub const TABLE: &str = "CREATE TABLE t (k UInt64, v UInt64) ENGINE = MergeTree ORDER BY k SETTINGS index_granularity = 2, min_bytes_for_wide_part = 0";
+pub const TABLE: &str =
+    "CREATE TABLE t (k UInt64, v UInt64) ENGINE = MergeTree ORDER BY k SETTINGS index_granularity = 2, min_bytes_for_wide_part = 0";
 
 /// The input of the worked part.
 pub const INPUT: &str = "3\t30\n1\t10\n2\t20\n";

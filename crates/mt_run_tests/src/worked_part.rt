@@ -2,16 +2,13 @@
 
 use crate::objects::{INPUT, TABLE, file_at, files_of, words_of};
 use mt_run::{Status, run};
-use mt_shelf::{FileBytes, MemShelf, NoGate, SureShelf, SureSink, SureSource};
+use mt_shelf::{FileBytes, NoGate, SureShelf, SureSink, SureSource};
 use mt_types::List;
 use std::alloc::Global;
 use std::test::Fail;
 
 /// The checksum of a frame, which the writer leaves zero.
 const ZEROS: &str = "00000000000000000000000000000000";
-
-/// A file of the part: its path, and its bytes in hexadecimal, piece by piece.
-type Expected = (&'static str, &'static [&'static str]);
 
 const MARKS: [&str; 9] = [
     "0000000000000000", // the first frame
@@ -118,8 +115,13 @@ fn writes_the_worked_part(rt: HostRuntime) -> Result<(), Fail> {
             &NoGate,
         );
         assert_eq!(rt; status, Status::Done, "at most {most} bytes a call");
-        assert!(rt; is_worked_part(alloc, shelf.held())?, "at most {most} bytes a call");
-        assert!(rt; input.rest().is_empty() && output.shown().is_empty() && notes.shown().is_empty());
+        assert!(rt;
+            is_worked_part(alloc, shelf.held())?,
+            "at most {most} bytes a call"
+        );
+        assert!(rt;
+            input.rest().is_empty() && output.shown().is_empty() && notes.shown().is_empty()
+        );
     }
     Ok(())
 }
