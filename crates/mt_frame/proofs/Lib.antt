@@ -1,6 +1,1 @@
 pub mod FrameLemmas
-pub mod StepLemmas
-pub mod BlockLemmas
-pub mod HeaderLemmas
-pub mod LoopLemmas
-pub mod BytesLemmas

@@ -1,0 +1,4 @@
+pub mod Reported
+pub mod WriteLemmas
+pub mod FolderLemmas
+pub mod Completeness

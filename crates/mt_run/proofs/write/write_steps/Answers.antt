@@ -1,0 +1,12 @@
+use Rattle.mt_run.proofs.WriteLemmas.{folder_stored}
+use Rattle.mt_run.proofs.write.write_steps.Goals as goal
+
+pub store_folder-requires-clause-names : goal.store_folder-requires-clause-names
+store_folder-requires-clause-names g c = rw (c.as_slice.ensures) c.in-Ok.ensures.names
+
+pub returns-clause-meets : goal.returns-clause-meets
+returns-clause-meets g c =
+    folder_stored c.args.path.now c.args.part.now c.in_ok-table.table c.in-Ok.folder c.store_folder.result
+    _ _ _ _ _ _ _ _ _ _ _ _
+    c.in_ok-table.ensures.gives c.in_ok-table.ensures.files c.in-Ok.ensures.gives c.in-Ok.ensures.ended
+    (rw c.as_slice.ensures at c.store_folder.ensures.stored)

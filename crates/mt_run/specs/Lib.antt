@@ -1,0 +1,6 @@
+pub mod Status
+pub mod Notes
+pub mod Plans
+pub mod Steps
+pub mod Write
+pub mod Words

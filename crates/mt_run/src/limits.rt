@@ -1,0 +1,13 @@
+//! The limits of a command.
+
+/// The bytes of a table's text, at most.
+pub const MAX_TABLE_TEXT: u64 = 1_048_576;
+
+/// The bytes of the input of `write`, at most.
+pub const MAX_INPUT: usize = 268_435_456;
+
+/// The bytes of all files of a part together, at most.
+pub const MAX_FOLDER: u64 = 536_870_912;
+
+/// The workers of a command, at most; at least 1.
+pub const MAX_WORKERS: u64 = 64;

@@ -1,0 +1,113 @@
+//! What a run returns, and the exit code of each status.
+ghost use Rattle.std.specs.Prelude.{◌≡◌};
+ghost use Rattle.mt_run.specs.Status.{code_of, status_of_shelf, status_of_source, status_of_rows};
+
+use mt_shelf::CallError;
+use mt_table::TableWhy;
+use mt_tsv::{MAX_CELLS, MAX_ROWS, RowError, RowWhy};
+
+/// A quantity that has a limit.
+#[derive(Clone, Copy, Debug, PartialEq, Eq)]
+pub enum What {
+    /// The bytes of the table's text.
+    Table,
+    /// The bytes of the input.
+    Input,
+    /// The rows of a part.
+    Rows,
+    /// The rows times the columns of a part, with all array elements.
+    Cells,
+    /// The bytes of all files of a part.
+    Part,
+}
+
+/// What a run returns.
+#[derive(Debug, PartialEq, Eq, Drop)]
+pub enum Status {
+    /// All that the command says was done.
+    Done,
+    /// The words are no command.
+    BadWords,
+    /// The shelf has no file of the table's path.
+    NoTable,
+    /// The text is no table's, by the first rule that it breaks.
+    BadTable(TableWhy),
+    /// A file stands at the target or below it.
+    Exists,
+    /// The input is empty.
+    NoRows,
+    /// A line of the input is no row: the first one, from 1, and why.
+    BadRows {
+        /// The line's number, from 1.
+        line: u64,
+        /// What is wrong with it.
+        why: RowWhy,
+    },
+    /// A quantity passes its limit.
+    TooMuch {
+        /// The quantity.
+        what: What,
+        /// The most that is allowed.
+        limit: u64,
+    },
+    /// The input failed, and counted a fault.
+    SourceFault,
+    /// The shelf failed, and counted a fault.
+    ShelfFault,
+    /// The output failed, and counted a fault.
+    SinkFault,
+    /// Memory was refused.
+    NoMemory,
+}
+
+impl Status {
+    /// The code that the program ends with. It takes no memory.
+    pub fn code(&self) -> u8
+        ensures { result ≡ code_of self.now }
+    {
+        match self {
+            Status::Done => 0,
+            Status::SourceFault | Status::ShelfFault | Status::SinkFault => 3,
+            Status::NoMemory => 4,
+            _ => 2,
+        }
+    }
+}
+
+/// The status of a shelf's error.
+pub(crate) fn status_of_shelf(error: CallError) -> Status
+    ensures { result ≡ status_of_shelf error }
+{
+    match error {
+        CallError::Failed => Status::ShelfFault,
+        CallError::NoMemory => Status::NoMemory,
+    }
+}
+
+/// The status of a source's error.
+pub(crate) fn status_of_source(error: CallError) -> Status
+    ensures { result ≡ status_of_source error }
+{
+    match error {
+        CallError::Failed => Status::SourceFault,
+        CallError::NoMemory => Status::NoMemory,
+    }
+}
+
+/// The status of lines that aren't read.
+pub(crate) fn status_of_rows(error: RowError) -> Status
+    ensures { result ≡ status_of_rows error }
+{
+    match error {
+        RowError::At { line, why } => Status::BadRows { line, why },
+        RowError::Rows => Status::TooMuch {
+            what: What::Rows,
+            limit: MAX_ROWS as u64,
+        },
+        RowError::Cells => Status::TooMuch {
+            what: What::Cells,
+            limit: MAX_CELLS as u64,
+        },
+        RowError::NoMemory => Status::NoMemory,
+    }
+}

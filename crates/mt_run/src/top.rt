@@ -1,0 +1,111 @@
+//! The top call: the words' command, and then the notes.
+ghost use Rattle.std.specs.Prelude.{◌≡◌, map};
+ghost use Rattle.std.specs.String.{string_bytes};
+ghost use Rattle.mt_shelf.specs.State.{files_of};
+ghost use Rattle.mt_run.specs.Notes.{Noted, IsReported};
+ghost use Rattle.mt_run.specs.Plans.{Performs, world};
+ghost use Rattle.mt_run.specs.Words.{plan_of};
+
+use crate::note::line_of;
+use crate::status::Status;
+use crate::words::workers_in;
+use crate::write::write;
+use mt_shelf::{CallError, Gate, Shelf, Sink, Source, is_path, write_all};
+use std::alloc::Global;
+use std::thread::Threads;
+
+/// Does what the words say, but for the notes.
+fn perform<R: Threads + Sync, S: Source, K: Sink, F: Shelf, G: Gate + Sync>(
+    rt: &R,
+    alloc: Global,
+    words: &[String],
+    input: &mut S,
+    output: &mut K,
+    shelf: &mut F,
+    gate: &G,
+) -> Status
+    ensures { Performs (plan_of (map string_bytes words.now))
+        (world (S.left input.old) (K.written output.old) (files_of (F.state shelf.old))
+        (S.faults input.old) (K.faults output.old) (F.faults shelf.old))
+        (world (S.left input.new) (K.written output.new) (files_of (F.state shelf.new))
+        (S.faults input.new) (K.faults output.new) (F.faults shelf.new)) result }
+{
+    let [name, path, part, workers] = words else {
+        return Status::BadWords;
+    };
+    let Some(workers) = workers_in(workers.as_str().as_bytes()) else {
+        return Status::BadWords;
+    };
+    if name.as_str() == "write" && is_path(path.as_str()) && is_path(part.as_str()) {
+        write(
+            rt,
+            alloc,
+            path.as_str(),
+            part.as_str(),
+            workers,
+            input,
+            output,
+            shelf,
+            gate,
+        )
+    } else {
+        Status::BadWords
+    }
+}
+
+/// Writes the line of a status, and gives the status of the run.
+fn report<N: Sink>(alloc: Global, notes: &mut N, status: Status) -> Status
+    ensures noted { Noted result (N.written notes.old) (N.written notes.new)
+        (N.faults notes.old) (N.faults notes.new) }
+    ensures same { IsReported status result }
+{
+    if let Status::Done = status {
+        return Status::Done;
+    }
+    let Ok(line) = line_of(alloc, &status) else {
+        return report_no_memory(notes);
+    };
+    match write_all(notes, line.as_slice()) {
+        Ok(()) => status,
+        Err(CallError::Failed) => status,
+        Err(CallError::NoMemory) => Status::NoMemory,
+    }
+}
+
+/// Writes the one line that needs no memory to be made.
+fn report_no_memory<N: Sink>(notes: &mut N) -> Status
+    ensures noted { Noted result (N.written notes.old) (N.written notes.new)
+        (N.faults notes.old) (N.faults notes.new) }
+    ensures same { result ≡ Status.NoMemory }
+{
+    match write_all(notes, b"mtpart: no memory\n") {
+        Ok(()) => Status::NoMemory,
+        Err(_) => Status::NoMemory,
+    }
+}
+
+/// Does all that the program does: the words' command, and then the note of a status that isn't `Done`.
+///
+/// The words are those of docs/CLI.md, without the program's name. Where an object doesn't show its
+/// content, what is said of that content says nothing.
+pub fn run<R: Threads + Sync, S: Source, K: Sink, N: Sink, F: Shelf, G: Gate + Sync>(
+    rt: &R,
+    alloc: Global,
+    words: &[String],
+    input: &mut S,
+    output: &mut K,
+    notes: &mut N,
+    shelf: &mut F,
+    gate: &G,
+) -> Status
+    ensures meets { Performs (plan_of (map string_bytes words.now))
+        (world (S.left input.old) (K.written output.old) (files_of (F.state shelf.old))
+        (S.faults input.old) (K.faults output.old) (F.faults shelf.old))
+        (world (S.left input.new) (K.written output.new) (files_of (F.state shelf.new))
+        (S.faults input.new) (K.faults output.new) (F.faults shelf.new)) result }
+    ensures noted { Noted result (N.written notes.old) (N.written notes.new)
+        (N.faults notes.old) (N.faults notes.new) }
+{
+    let status = perform(rt, alloc, words, input, output, shelf, gate);
+    report(alloc, notes, status)
+}
