@@ -1,1 +1,6 @@
 pub mod FrameLemmas
+pub mod StepLemmas
+pub mod BlockLemmas
+pub mod HeaderLemmas
+pub mod LoopLemmas
+pub mod BytesLemmas

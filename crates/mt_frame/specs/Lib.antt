@@ -1,1 +1,4 @@
-
+pub mod Steps
+pub mod EndToEnd
+pub mod FrameReading
+pub mod Results

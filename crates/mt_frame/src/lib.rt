@@ -1,9 +1,17 @@
 //! Frames: the uncompressed blocks that data files are made of.
 //!
-//! Any payload is written: `put_frames` appends exactly the writer's frames of it.
+//! Any payload is written: `put_frames` appends exactly the writer's frames of it. Any bytes are
+//! read: `frames_of` gives the frames of a file, or the first offset where none stands.
 #![tactic(auto)]
 
+mod fault;
+mod frames;
+mod header;
+mod reading;
 mod writing;
 
+pub use fault::{FrameError, FrameWhy};
+pub use frames::Frames;
 pub use mt_defs::Frame;
+pub use reading::frames_of;
 pub use writing::put_frames;

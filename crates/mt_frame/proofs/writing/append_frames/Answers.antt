@@ -1,4 +1,4 @@
-use Rattle.std.proofs.Common.{rules, arith, subst, ◌≡◌, take, length, List, ℕ, sym}
+use Rattle.std.proofs.Common.{rules, subst, ◌≡◌, take, length, List, ℕ, sym}
 use Rattle.mt_frame.proofs.FrameLemmas.{frames_step, prefix_stays}
 use Rattle.mt_frame.proofs.writing.append_frames.Goals as goal
 
