@@ -1,17 +1,20 @@
 //! Frames: the uncompressed blocks that data files are made of.
 //!
 //! Any payload is written: `put_frames` appends exactly the writer's frames of it. Any bytes are
-//! read: `frames_of` gives the frames of a file, or the first offset where none stands.
+//! read: `frames_of` gives the frames of a file, or the first offset where none stands, and `read_frame`
+//! takes one frame of a file on a shelf.
 #![tactic(auto)]
 
 mod fault;
 mod frames;
 mod header;
+mod one_frame;
 mod reading;
 mod writing;
 
 pub use fault::{FrameError, FrameWhy};
 pub use frames::Frames;
 pub use mt_defs::Frame;
+pub use one_frame::read_frame;
 pub use reading::frames_of;
 pub use writing::put_frames;
