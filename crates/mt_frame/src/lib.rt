@@ -8,12 +8,16 @@
 mod fault;
 mod frames;
 mod header;
+mod law;
 mod one_frame;
 mod reading;
+#[cfg(test)]
+mod tests;
 mod writing;
 
 pub use fault::{FrameError, FrameWhy};
 pub use frames::Frames;
+pub use law::{framed_bytes_have_one_payload, frames_are_read_exactly};
 pub use mt_defs::Frame;
 pub use one_frame::read_frame;
 pub use reading::frames_of;
