@@ -17,5 +17,5 @@ pub fn marks_have_one_position()
 pub fn written_marks_are_read()
     ensures { (marks : Marks) → AreMarks marks → HaveWords marks
         → option_map (marks_of marks.per_granule)
-            (entries_reading marks.per_granule (marks_bytes (entry_marks marks) marks.rows)) ≡ Some marks }
+        (entries_reading marks.per_granule (marks_bytes (entry_marks marks) marks.rows)) ≡ Some marks }
 {}

@@ -31,8 +31,8 @@ fn marks_of_a_foreign_cut_are_read_and_written(rt: HostRuntime) -> Result<(), Ma
     let bytes = bytes_of(alloc, &[0, 0, 2, 0, 8, 1, 37, 0, 0])?;
     let marks = read_mrk2(alloc, bytes.as_slice(), &frames)?;
     assert_eq!(rt; marks.rows.as_slice(), [2u64, 1, 0].as_slice());
-    let inner = 8;
-    assert_eq!(rt; marks.places.as_slice()[1..2], [Mark { offset: 0, inner }]);
+    let places = [(0, 0), (0, 8), (37, 0)].map(|(offset, inner)| Mark { offset, inner });
+    assert_eq!(rt; marks.places.as_slice(), places.as_slice());
     assert_eq!(rt; write_marks(alloc, &marks)?.as_slice(), bytes.as_slice());
     assert!(rt; raw_marks(alloc, bytes.as_slice(), 1)?.is_some());
     Ok(())
