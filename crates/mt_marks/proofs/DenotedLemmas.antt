@@ -89,21 +89,21 @@ passes_by : (before end offset : ℕ) (c : Block) (cs : List Block) (m : Mark) �
 passes_by before end offset c cs m other =
     next before end offset c cs m ∙ ap (λ (b : Bool). if b then (if nat_le m.inner (length c.payload) then Some (before + m.inner) else None) else position_from (before + length c.payload) end (layout_from (offset + (25 + length c.payload)) cs) m) (ne_eqb m.offset offset other)
 
-pub found_here : (front : List Block) (here : Block) (after : List Block) (position end offset : ℕ) (m : Mark) → All IsBlock front → m.offset ≡ offset + length (file_of front) → m.inner ≤ length here.payload
-    → position_from position end (layout_from offset (front ++ here ∷ after)) m ≡ Some (position + length (payload_of front) + m.inner)
+pub found_here : (first : List Block) (here : Block) (after : List Block) (position end offset : ℕ) (m : Mark) → All IsBlock first → m.offset ≡ offset + length (file_of first) → m.inner ≤ length here.payload
+    → position_from position end (layout_from offset (first ++ here ∷ after)) m ≡ Some (position + length (payload_of first) + m.inner)
 found_here [] here after position end offset m are at within =
     next position end offset here after m
     ∙ ap (λ (b : Bool). if b then (if nat_le m.inner (length here.payload) then Some (position + m.inner) else None) else position_from (position + length here.payload) end (layout_from (offset + (25 + length here.payload)) after) m) (eq-eqb m.offset offset (omega arith))
     ∙ ap (λ (b : Bool). if b then Some (position + m.inner) else None) (le-leb m.inner (length here.payload) within)
     ∙ ap (λ (k : ℕ). Some k) (omega arith)
-found_here (c ∷ front) here after position end offset m are at within =
-    let is = All-head IsBlock c front are in
-    let long : length (file_of (c ∷ front)) ≡ length (block_bytes c) + length (file_of front) = length-append (block_bytes c) (file_of front) in
-    let paid : length (payload_of (c ∷ front)) ≡ length c.payload + length (payload_of front) = length-append c.payload (payload_of front) in
+found_here (c ∷ first) here after position end offset m are at within =
+    let is = All-head IsBlock c first are in
+    let long : length (file_of (c ∷ first)) ≡ length (block_bytes c) + length (file_of first) = length-append (block_bytes c) (file_of first) in
+    let paid : length (payload_of (c ∷ first)) ≡ length c.payload + length (payload_of first) = length-append c.payload (payload_of first) in
     let size = frame_len c is in
-    let later : m.offset ≡ (offset + (25 + length c.payload)) + length (file_of front) = omega arith in
-    passes_by position end offset c (front ++ here ∷ after) m (λ same. omega arith)
-    ∙ found_here front here after (position + length c.payload) end (offset + (25 + length c.payload)) m (All-tail IsBlock c front are) later within
+    let later : m.offset ≡ (offset + (25 + length c.payload)) + length (file_of first) = omega arith in
+    passes_by position end offset c (first ++ here ∷ after) m (λ same. omega arith)
+    ∙ found_here first here after (position + length c.payload) end (offset + (25 + length c.payload)) m (All-tail IsBlock c first are) later within
     ∙ ap (λ (k : ℕ). Some k) (omega arith)
 
 pub found_end : (blocks : List Block) (position offset : ℕ) (m : Mark) → All IsBlock blocks → m.offset ≡ offset + length (file_of blocks) → m.inner ≡ 0
