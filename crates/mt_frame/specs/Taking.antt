@@ -26,6 +26,7 @@ pub record IsFrameAt (offset end : ℕ) (payload : List ℕ) (reading : Result (
   pub payload_is : payload ≡ block.payload
   pub ends : end ≡ offset + (HEADER_BYTES + length payload)
 
+-- an error names the offset and the condition that the bytes break; failures of the outside aside
 abbrev pub FrameFails : ℕ → FrameError → Result (Block × List ℕ) FrameWhy → Type 0
 FrameFails offset (error.At at why) reading = (at ≡ offset) × (reading ≡ Err why)
 FrameFails offset error.Shelf reading = Unit {0}
@@ -42,11 +43,13 @@ pub record IsAfter (offset size end : ℕ) (payload : List ℕ) : Type 0 where
   pub not_empty : 1 ≤ length payload
   pub inside : end ≤ size
 
+-- the count of faults rose where the shelf failed, and else stayed
 abbrev pub FaultOf : ℕ → ℕ → FrameError → Type 0
 FaultOf before now (error.At offset why) = now ≡ before
 FaultOf before now error.Shelf = Rose before now
 FaultOf before now error.NoMemory = now ≡ before
 
+-- the same of a call that may succeed
 abbrev pub FailsBy : {T : Type 0} → ℕ → ℕ → Result T FrameError → Type 0
 FailsBy before now (Ok x) = now ≡ before
 FailsBy before now (Err e) = FaultOf before now e

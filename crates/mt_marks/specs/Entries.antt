@@ -29,6 +29,7 @@ abbrev pub entries_in : ℕ → List Mark → List ℕ → List Entry
 entries_in per_granule places [] = []
 entries_in per_granule places (rows ∷ more) = record { marks = take per_granule places; rows = rows } ∷ entries_in per_granule (drop per_granule places) more
 
+-- the entries of a marks file
 abbrev pub entries_of : Marks → List Entry
 entries_of marks = entries_in marks.per_granule marks.places marks.rows
 
