@@ -24,8 +24,8 @@ pub all_bytes : (bytes : List ℕ) → BytesAt bytes → AreBytes bytes
 all_bytes [] are = All-nil (λ byte. byte < 256)
 all_bytes (b ∷ bytes) are = All-cons (λ byte. byte < 256) b bytes (are 0) (all_bytes bytes (λ i. are (suc i)))
 
--- what an accepted front fixes
-pub record Fronts (bytes : List ℕ) (c : Block) (rest : List ℕ) : Type 0 where
+-- what an accepted first fixes
+pub record IsHeaderOf (bytes : List ℕ) (c : Block) (rest : List ℕ) : Type 0 where
   pub long : 25 ≤ length bytes
   pub method : slice_index bytes 16 ≡ 2
   pub sizes : u32_at 17 bytes ≡ u32_at 21 bytes + 9
@@ -35,9 +35,9 @@ pub record Fronts (bytes : List ℕ) (c : Block) (rest : List ℕ) : Type 0 wher
   pub block : c ≡ record { checksum = take 16 bytes; payload = take (u32_at 21 bytes) (drop 25 bytes) }
   pub rest_is : rest ≡ drop (25 + u32_at 21 bytes) bytes
 
-pub fronts : (bytes : List ℕ) (c : Block) (rest : List ℕ) → frame_reading bytes ≡ Ok (c, rest) → Fronts bytes c rest
+pub header_facts : (bytes : List ℕ) (c : Block) (rest : List ℕ) → frame_reading bytes ≡ Ok (c, rest) → IsHeaderOf bytes c rest
 unfolding frame_reading
-fronts bytes c rest e =
+header_facts bytes c rest e =
     required _ _ _ _ e (λ a e. required _ _ _ _ e (λ b e. required _ _ _ _ e (λ d e. required _ _ _ _ e (λ f e. required _ _ _ _ e (λ g e.
     let both = both_true _ _ d in let pair = ok_pair _ _ _ _ e in
     record { long = leb-true _ _ a; method = eqb-true _ _ b; sizes = eqb-true _ _ both.0; some = ltb-true _ _ both.1; most = leb-true _ _ f; whole = leb-true _ _ g; block = pair.0; rest_is = pair.1 })))))
@@ -91,10 +91,10 @@ split_up bytes n long =
     let e : drop 25 bytes ≡ take n (drop 25 bytes) ++ drop (25 + n) bytes = cut_at bytes 25 n in
     a ∙ ap (λ (r : List ℕ). take 16 bytes ++ r) (b ∙ ap (λ (r : List ℕ). slice_index bytes 16 ∷ r) (c ∙ ap (λ (r : List ℕ). take 4 (drop 17 bytes) ++ r) (d ∙ ap (λ (r : List ℕ). take 4 (drop 21 bytes) ++ r) e)))
 
--- a front that is read is a frame, and the bytes are its and then the rest
-pub front_sound : (bytes : List ℕ) (c : Block) (rest : List ℕ) → BytesAt bytes → frame_reading bytes ≡ Ok (c, rest) → IsBlock c × (bytes ≡ block_bytes c ++ rest)
-front_sound bytes c rest are e =
-    let f = fronts bytes c rest e in
+-- a first that is read is a frame, and the bytes are its and then the rest
+pub frame_sound : (bytes : List ℕ) (c : Block) (rest : List ℕ) → BytesAt bytes → frame_reading bytes ≡ Ok (c, rest) → IsBlock c × (bytes ≡ block_bytes c ++ rest)
+frame_sound bytes c rest are e =
+    let f = header_facts bytes c rest e in
     let n = u32_at 21 bytes in
     let size : length c.payload ≡ n = ap (λ (c : Block). length c.payload) f.block ∙ omega (arith, f.whole, length-take n (drop 25 bytes), length-drop 25 bytes) in
     let checksum : length c.checksum ≡ 16 = ap (λ (c : Block). length c.checksum) f.block ∙ omega (arith, f.long, length-take 16 bytes) in
@@ -123,22 +123,22 @@ front_sound bytes c rest are e =
         let p : take n (drop 25 bytes) ≡ c.payload = sym (ap (λ (c : Block). c.payload) is) in
         rw (s, p, ← left) (simp append_assoc)
 
--- a front whose parts hold is read
-reads_front : (bytes : List ℕ) → 25 ≤ length bytes → slice_index bytes 16 ≡ 2 → u32_at 17 bytes ≡ u32_at 21 bytes + 9 → 0 < u32_at 21 bytes → u32_at 21 bytes ≤ MAX_PAYLOAD → 25 + u32_at 21 bytes ≤ length bytes →
+-- a first whose parts hold is read
+reads_frame : (bytes : List ℕ) → 25 ≤ length bytes → slice_index bytes 16 ≡ 2 → u32_at 17 bytes ≡ u32_at 21 bytes + 9 → 0 < u32_at 21 bytes → u32_at 21 bytes ≤ MAX_PAYLOAD → 25 + u32_at 21 bytes ≤ length bytes →
     frame_reading bytes ≡ Ok (record { checksum = take 16 bytes; payload = take (u32_at 21 bytes) (drop 25 bytes) }, drop (25 + u32_at 21 bytes) bytes)
 unfolding frame_reading
-reads_front bytes long method sizes some most whole =
+reads_frame bytes long method sizes some most whole =
     passed _ _ _ (le-leb _ _ long) ∙ passed _ _ _ (eq-eqb _ _ method) ∙ passed _ _ _ (both_of _ _ (eq-eqb _ _ sizes) (lt-ltb _ _ some)) ∙ passed _ _ _ (le-leb _ _ most) ∙ passed _ _ _ (le-leb _ _ whole)
 
--- what a frame says at its places is what the reading of a front wants
-pub front_complete : (c : Block) (rest : List ℕ) → IsBlock c → frame_reading (block_bytes c ++ rest) ≡ Ok (c, rest)
-front_complete c rest is =
+-- what a frame says at its places is what the reading of a first wants
+pub frame_complete : (c : Block) (rest : List ℕ) → IsBlock c → frame_reading (block_bytes c ++ rest) ≡ Ok (c, rest)
+frame_complete c rest is =
     let n = length c.payload in
     let fb = frame_bytes c.checksum c.payload rest 2 (n + 9) n in
     let size : u32_at 21 fb ≡ n = ap (λ (r : List ℕ). from_le_bytes w32 (take 4 r)) (at_size c.checksum c.payload rest 2 (n + 9) n is.checksum_length) ∙ from_le_bytes-to_le_bytes_4 n (omega (arith, is.small)) in
     let said : u32_at 17 fb ≡ n + 9 = ap (λ (r : List ℕ). from_le_bytes w32 (take 4 r)) (at_said c.checksum c.payload rest 2 (n + 9) n is.checksum_length) ∙ from_le_bytes-to_le_bytes_4 (n + 9) (omega (arith, is.small)) in
     let long : length fb ≡ 25 + (n + length rest) = length-append c.checksum _ ∙ omega (arith, is.checksum_length, length-append c.payload rest) in
-    let read = reads_front fb (omega arith) (at_method c.checksum c.payload rest 2 (n + 9) n is.checksum_length) (said ∙ ap (λ (k : ℕ). k + 9) (sym size)) (omega (arith, is.not_empty)) (rw size is.small) (omega arith) in
+    let read = reads_frame fb (omega arith) (at_method c.checksum c.payload rest 2 (n + 9) n is.checksum_length) (said ∙ ap (λ (k : ℕ). k + 9) (sym size)) (omega (arith, is.not_empty)) (rw size is.small) (omega arith) in
     let body : drop 25 fb ≡ c.payload ++ rest = at_payload c.checksum c.payload rest 2 (n + 9) n is.checksum_length in
     let left : drop (25 + n) fb ≡ rest = sym (drop-drop n 25 fb) ∙ ap (drop n) body ∙ drop-append_seam c.payload rest in
     let pay : take n (drop 25 fb) ≡ c.payload = ap (take n) body ∙ take-append_seam c.payload rest in
@@ -154,14 +154,14 @@ front_complete c rest is =
 -- ---- the whole file
 
 -- a frame takes a byte
-pub front_shrinks : (bytes : List ℕ) (c : Block) (rest : List ℕ) → frame_reading bytes ≡ Ok (c, rest) → length rest < length bytes
-front_shrinks bytes c rest e =
-    let f = fronts bytes c rest e in
+pub frame_shrinks : (bytes : List ℕ) (c : Block) (rest : List ℕ) → frame_reading bytes ≡ Ok (c, rest) → length rest < length bytes
+frame_shrinks bytes c rest e =
+    let f = header_facts bytes c rest e in
     omega (arith, f.whole, ap (λ (r : List ℕ). length r) f.rest_is, length-drop (25 + u32_at 21 bytes) bytes)
 
--- one step of reading, given what the front is and how the rest is read
+-- one step of reading, given what the first is and how the rest is read
 abbrev frames_step : ℕ → Result (Block × List ℕ) FrameWhy → (ℕ → List ℕ → Result (List Block) (ℕ × FrameWhy)) → Result (List Block) (ℕ × FrameWhy)
-frames_step offset r more = at offset r >>= λ front. onto front.0 (more (offset + (25 + length front.0.payload)) front.1)
+frames_step offset r more = at offset r >>= λ first. onto first.0 (more (offset + (25 + length first.0.payload)) first.1)
 
 pub frames_next : (m offset b : ℕ) (bytes : List ℕ) → frames_from (suc m) offset (b ∷ bytes) ≡ frames_step offset (frame_reading (b ∷ bytes)) (frames_from m)
 unfolding frames_from
@@ -174,7 +174,7 @@ frames_none m offset = refl
 same_step : (offset : ℕ) (whole : List ℕ) (r : Result (Block × List ℕ) FrameWhy) (f g : ℕ → List ℕ → Result (List Block) (ℕ × FrameWhy)) → frame_reading whole ≡ r
     → ((o : ℕ) (rest : List ℕ) → length rest < length whole → f o rest ≡ g o rest) → frames_step offset r f ≡ frames_step offset r g
 same_step offset whole (Err w) f g e same = refl
-same_step offset whole (Ok (c, rest)) f g e same = ap (λ (r : Result (List Block) (ℕ × FrameWhy)). onto c r) (same (offset + (25 + length c.payload)) rest (front_shrinks whole c rest e))
+same_step offset whole (Ok (c, rest)) f g e same = ap (λ (r : Result (List Block) (ℕ × FrameWhy)). onto c r) (same (offset + (25 + length c.payload)) rest (frame_shrinks whole c rest e))
 
 -- more than enough steps change nothing
 pub enough : (m n offset : ℕ) (bytes : List ℕ) → length bytes ≤ m → length bytes ≤ n → frames_from m offset bytes ≡ frames_from n offset bytes
@@ -186,9 +186,9 @@ enough (suc m) (suc n) offset (x ∷ bytes) a b =
     ∙ same_step offset (x ∷ bytes) (frame_reading (x ∷ bytes)) (frames_from m) (frames_from n) refl (λ o rest less. enough m n o rest (omega arith) (omega arith))
     ∙ sym (frames_next n offset x bytes)
 
-pub bytes_after : (bytes front rest : List ℕ) → BytesAt bytes → bytes ≡ front ++ rest → BytesAt rest
-bytes_after bytes front rest are is i =
-    subst (λ (k : ℕ). k < 256) (ap (λ (bs : List ℕ). slice_index bs (length front + i)) is ∙ get_or-append-add front rest i 0) (are (length front + i))
+pub bytes_after : (bytes first rest : List ℕ) → BytesAt bytes → bytes ≡ first ++ rest → BytesAt rest
+bytes_after bytes first rest are is i =
+    subst (λ (k : ℕ). k < 256) (ap (λ (bs : List ℕ). slice_index bs (length first + i)) is ∙ get_or-append-add first rest i 0) (are (length first + i))
 
 out_of_steps : {Z : Type 0} (offset b : ℕ) (bytes : List ℕ) (blocks : List Block) → frames_from zero offset (b ∷ bytes) ≡ Ok blocks → Z
 unfolding frames_from
@@ -198,12 +198,12 @@ pub frames_sound : (m offset : ℕ) (bytes : List ℕ) (blocks : List Block) →
 frames_sound m offset [] blocks are e = subst (λ (cs : List Block). IsFileOf cs []) (sym (ok_one _ _ (sym (frames_none m offset) ∙ e))) (record { each = All-nil IsBlock; bytes = refl })
 frames_sound zero offset (b ∷ bytes) blocks are e = out_of_steps offset b bytes blocks e
 frames_sound (suc m) offset (b ∷ bytes) blocks are e =
-    at_ok_then offset (frame_reading (b ∷ bytes)) (λ front. onto front.0 (frames_from m (offset + (25 + length front.0.payload)) front.1)) blocks (sym (frames_next m offset b bytes) ∙ e) (λ front is e.
-    onto_ok front.0 (frames_from m (offset + (25 + length front.0.payload)) front.1) blocks e (λ others are_others all.
-    let here = front_sound (b ∷ bytes) front.0 front.1 are is in
-    let more = frames_sound m (offset + (25 + length front.0.payload)) front.1 others (bytes_after (b ∷ bytes) (block_bytes front.0) front.1 are here.1) are_others in
+    at_ok_then offset (frame_reading (b ∷ bytes)) (λ first. onto first.0 (frames_from m (offset + (25 + length first.0.payload)) first.1)) blocks (sym (frames_next m offset b bytes) ∙ e) (λ first is e.
+    onto_ok first.0 (frames_from m (offset + (25 + length first.0.payload)) first.1) blocks e (λ others are_others all.
+    let here = frame_sound (b ∷ bytes) first.0 first.1 are is in
+    let more = frames_sound m (offset + (25 + length first.0.payload)) first.1 others (bytes_after (b ∷ bytes) (block_bytes first.0) first.1 are here.1) are_others in
     subst (λ (cs : List Block). IsFileOf cs (b ∷ bytes)) (sym all)
-    (record { each = All-cons IsBlock front.0 others here.0 more.each; bytes = here.1 ∙ ap (λ (r : List ℕ). block_bytes front.0 ++ r) more.bytes })))
+    (record { each = All-cons IsBlock first.0 others here.0 more.each; bytes = here.1 ∙ ap (λ (r : List ℕ). block_bytes first.0 ++ r) more.bytes })))
 
 frame_is : (c : Block) → block_bytes c ≡ c.checksum ++ 2 ∷ (to_le_bytes w32 (length c.payload + 9) ++ (to_le_bytes w32 (length c.payload) ++ c.payload))
 frame_is c = refl
@@ -227,11 +227,11 @@ frames_complete zero offset (c ∷ cs) are long =
 frames_complete (suc m) offset (c ∷ cs) are long =
     let is = All-head IsBlock c cs are in
     let s = frame_starts c (file_of cs) is in
-    let front : frame_reading (s.0 ∷ s.1) ≡ Ok (c, file_of cs) = ap frame_reading (sym s.2) ∙ front_complete c (file_of cs) is in
-    let less = front_shrinks (s.0 ∷ s.1) c (file_of cs) front in
+    let first : frame_reading (s.0 ∷ s.1) ≡ Ok (c, file_of cs) = ap frame_reading (sym s.2) ∙ frame_complete c (file_of cs) is in
+    let less = frame_shrinks (s.0 ∷ s.1) c (file_of cs) first in
     let more = frames_complete m (offset + (25 + length c.payload)) cs (All-tail IsBlock c cs are) (omega (arith, less, long, ap (λ (r : List ℕ). length r) s.2)) in
     ap (λ (bytes : List ℕ). frames_from (suc m) offset bytes) s.2 ∙ frames_next m offset s.0 s.1
-    ∙ ap (λ (r : Result (Block × List ℕ) FrameWhy). frames_step offset r (frames_from m)) front ∙ ap (λ (r : Result (List Block) (ℕ × FrameWhy)). onto c r) more
+    ∙ ap (λ (r : Result (Block × List ℕ) FrameWhy). frames_step offset r (frames_from m)) first ∙ ap (λ (r : Result (List Block) (ℕ × FrameWhy)). onto c r) more
 
 -- the frames of a file are those of which it is made, and no others
 pub frames_exact : (file : List ℕ) (blocks : List Block) → BytesAt file → (frames_reading file ≡ Ok blocks) ↔ (IsFileOf blocks file)

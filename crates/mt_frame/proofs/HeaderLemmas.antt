@@ -1,4 +1,4 @@
--- What the reading of a front answers, test by test.
+-- What the reading of a first answers, test by test.
 use Rattle.std.proofs.Common.{◌≡◌, ℕ, ◌+◌, ◌<◌, ◌≤◌, ◌^◌, List, length, take, drop, refl, ap, sym, ◌∙◌, arith, ◌≢◌}
 use Rattle.std.specs.Prelude.{Ok, Err, slice_index}
 use Rattle.std.specs.Int.{w32, to_le_bytes, from_le_bytes}

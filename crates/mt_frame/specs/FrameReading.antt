@@ -39,5 +39,6 @@ unfoldable pub layout_from : ℕ → List Block → List Frame
 layout_from offset [] = []
 layout_from offset (block ∷ blocks) = record { offset = offset; payload = length block.payload } ∷ layout_from (offset + (HEADER_BYTES + length block.payload)) blocks
 
+-- where the frames of a file stand
 abbrev pub layout : List Block → List Frame
 layout blocks = layout_from 0 blocks

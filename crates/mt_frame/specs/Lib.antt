@@ -2,3 +2,5 @@ pub mod Steps
 pub mod EndToEnd
 pub mod FrameReading
 pub mod Results
+pub mod Taking
+pub mod CallErrors

@@ -1,6 +1,7 @@
 -- Steps that may fail: each is checked only where all earlier ones hold.
 use Rattle.std.specs.Prelude.{Bool, true, false, List, ◌∷◌, Result, Ok, Err}
 
+-- the next step, where the one before is Ok
 infixl 10 ◌>>=◌
 abbrev pub ◌>>=◌ : {A B E : Type 0} → Result A E → (A → Result B E) → Result B E
 (Ok x) >>= f = f x

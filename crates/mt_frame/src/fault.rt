@@ -1,8 +1,10 @@
 //! Why no frame stands at an offset.
 
 ghost use Rattle.std.specs.Prelude.{◌≡◌};
+ghost use Rattle.mt_frame.specs.CallErrors.{of_call};
 ghost use Rattle.mt_frame.specs.declared.fault.FrameError.TheVariants as error;
 
+use mt_shelf::CallError;
 use mt_types::NoMemory;
 use std::error::Error;
 use std::fmt;
@@ -61,5 +63,16 @@ impl From<NoMemory> for FrameError {
 
     fn from(_error: NoMemory) -> FrameError {
         FrameError::NoMemory
+    }
+}
+
+impl From<CallError> for FrameError {
+    ghost from_gives = { λ e r. r ≡ of_call e };
+
+    fn from(error: CallError) -> FrameError {
+        match error {
+            CallError::Failed => FrameError::Shelf,
+            CallError::NoMemory => FrameError::NoMemory,
+        }
     }
 }

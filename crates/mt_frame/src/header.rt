@@ -10,7 +10,9 @@ use mt_defs::{HEADER_BYTES, MAX_PAYLOAD, METHOD_NONE, SIZES_EXTRA};
 
 /// Where the method and the two sizes stand in a header, in bytes.
 const METHOD_OFFSET: usize = 16;
+
 const FRAME_SIZE_OFFSET: usize = 17;
+
 const PAYLOAD_SIZE_OFFSET: usize = 21;
 
 /// The length of the payload of a frame with this header, where `left` bytes of the file remain from

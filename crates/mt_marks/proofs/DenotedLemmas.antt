@@ -1,6 +1,6 @@
 -- The position that is found of a mark is the one that it denotes.
 use Rattle.std.proofs.Common.{◌≡◌, ℕ, ◌+◌, ◌≤◌, ◌≢◌, List, [], ◌∷◌, ◌++◌, length, refl, ap, sym, ◌∙◌, subst, append_assoc, append-nil, arith, Bool, true, false, ◌&&◌, Option, Some, None, length-append}
-use Rattle.std.specs.Prelude.{nat_le, ◌==◌, All, if◌then◌else◌, Ok, ◌↔◌}
+use Rattle.std.specs.Prelude.{nat_le, ◌==◌, All, if◌then◌else◌, ◌↔◌}
 use Rattle.std.proofs.Common.{◌⊎◌, inl, inr}
 use Rattle.std.proofs.lemmas.Bool.{leb-true, eqb-true, le-leb, eq-eqb, ne_eqb, and_from, and_parts}
 use Rattle.std.proofs.lemmas.List.Elements.{All-head, All-tail, All-nil, All-cons}
@@ -8,19 +8,13 @@ use Rattle.std.proofs.lemmas.List.Concat.{flat_map-append}
 use Rattle.mt_defs.specs.declared.frame.Frame.{Frame}
 use Rattle.mt_defs.specs.declared.mark.Mark.{Mark}
 use Rattle.mt_defs.specs.Frames.{Block, IsBlock, IsFileOf, block_bytes, file_of, payload_of}
-use Rattle.mt_frame.specs.FrameReading.{frames_reading, layout_from, layout}
+use Rattle.mt_frame.specs.FrameReading.{layout_from, layout}
 use Rattle.mt_defs.specs.Marks.{MarksPosition, MarksFrame, MarksEnd}
 use Rattle.mt_marks.specs.Positions.{position_from, position_of}
 use Rattle.mt_frame.specs.declared.frames.Frames.{Frames}
 use Rattle.mt_frame.specs.Results.{AreFramesOf}
-use Rattle.mt_frame.proofs.StepLemmas.{ok_one}
-use Rattle.mt_frame.proofs.BlockLemmas.{frame_len, frames_complete}
-
--- a file is made of one list of blocks
-pub one_file : (file : List ℕ) (cs ds : List Block) → IsFileOf cs file → IsFileOf ds file → cs ≡ ds
-one_file file cs ds a b =
-    let read : (es : List Block) → IsFileOf es file → frames_reading file ≡ Ok es = λ es is. subst (λ (bytes : List ℕ). frames_reading bytes ≡ Ok es) (sym is.bytes) (frames_complete (length (file_of es)) 0 es is.each (omega arith)) in
-    ok_one ds cs (sym (read ds b) ∙ read cs a)
+use Rattle.mt_frame.proofs.LawLemmas.{one_file}
+use Rattle.mt_frame.proofs.BlockLemmas.{frame_len}
 
 -- ---- one step of the search
 
@@ -95,21 +89,21 @@ passes_by : (before end offset : ℕ) (c : Block) (cs : List Block) (m : Mark) �
 passes_by before end offset c cs m other =
     next before end offset c cs m ∙ ap (λ (b : Bool). if b then (if nat_le m.inner (length c.payload) then Some (before + m.inner) else None) else position_from (before + length c.payload) end (layout_from (offset + (25 + length c.payload)) cs) m) (ne_eqb m.offset offset other)
 
-pub found_here : (front : List Block) (here : Block) (after : List Block) (position end offset : ℕ) (m : Mark) → All IsBlock front → m.offset ≡ offset + length (file_of front) → m.inner ≤ length here.payload
-    → position_from position end (layout_from offset (front ++ here ∷ after)) m ≡ Some (position + length (payload_of front) + m.inner)
+pub found_here : (first : List Block) (here : Block) (after : List Block) (position end offset : ℕ) (m : Mark) → All IsBlock first → m.offset ≡ offset + length (file_of first) → m.inner ≤ length here.payload
+    → position_from position end (layout_from offset (first ++ here ∷ after)) m ≡ Some (position + length (payload_of first) + m.inner)
 found_here [] here after position end offset m are at within =
     next position end offset here after m
     ∙ ap (λ (b : Bool). if b then (if nat_le m.inner (length here.payload) then Some (position + m.inner) else None) else position_from (position + length here.payload) end (layout_from (offset + (25 + length here.payload)) after) m) (eq-eqb m.offset offset (omega arith))
     ∙ ap (λ (b : Bool). if b then Some (position + m.inner) else None) (le-leb m.inner (length here.payload) within)
     ∙ ap (λ (k : ℕ). Some k) (omega arith)
-found_here (c ∷ front) here after position end offset m are at within =
-    let is = All-head IsBlock c front are in
-    let long : length (file_of (c ∷ front)) ≡ length (block_bytes c) + length (file_of front) = length-append (block_bytes c) (file_of front) in
-    let paid : length (payload_of (c ∷ front)) ≡ length c.payload + length (payload_of front) = length-append c.payload (payload_of front) in
+found_here (c ∷ first) here after position end offset m are at within =
+    let is = All-head IsBlock c first are in
+    let long : length (file_of (c ∷ first)) ≡ length (block_bytes c) + length (file_of first) = length-append (block_bytes c) (file_of first) in
+    let paid : length (payload_of (c ∷ first)) ≡ length c.payload + length (payload_of first) = length-append c.payload (payload_of first) in
     let size = frame_len c is in
-    let later : m.offset ≡ (offset + (25 + length c.payload)) + length (file_of front) = omega arith in
-    passes_by position end offset c (front ++ here ∷ after) m (λ same. omega arith)
-    ∙ found_here front here after (position + length c.payload) end (offset + (25 + length c.payload)) m (All-tail IsBlock c front are) later within
+    let later : m.offset ≡ (offset + (25 + length c.payload)) + length (file_of first) = omega arith in
+    passes_by position end offset c (first ++ here ∷ after) m (λ same. omega arith)
+    ∙ found_here first here after (position + length c.payload) end (offset + (25 + length c.payload)) m (All-tail IsBlock c first are) later within
     ∙ ap (λ (k : ℕ). Some k) (omega arith)
 
 pub found_end : (blocks : List Block) (position offset : ℕ) (m : Mark) → All IsBlock blocks → m.offset ≡ offset + length (file_of blocks) → m.inner ≡ 0
@@ -160,3 +154,10 @@ position_denotes frames m r is file (blocks, of_file, list, end) position =
       (λ e. position_sound file blocks m position of_file (sym same ∙ sym is ∙ e)),
       (λ at. is ∙ same ∙ position_complete file blocks m position of_file at),
     )
+
+some_same : (m n : ℕ) → (let o : Option ℕ = Some m in o) ≡ Some n → m ≡ n
+some_same m n e = cc
+
+pub one_position : (file : List ℕ) (m : Mark) (p q : ℕ) → MarksPosition file m p → MarksPosition file m q → p ≡ q
+one_position file m p q (blocks, is, at) other =
+    some_same p q (sym (position_complete file blocks m p is (blocks, is, at)) ∙ position_complete file blocks m q is other)

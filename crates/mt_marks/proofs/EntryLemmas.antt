@@ -102,11 +102,11 @@ module _ (frames : Frames) (per : ℕ) (places : List Mark) (rows : List ℕ) (i
       → KeepsRules frames per places rows (i + 1) (drop per rest) sum here
   entry_holds sum here some marks = record {
     left = sym (
-      step ∙ ap (λ (b : Bool). rules_step frames i total (record { marks = take per rest; rows = r }) (entries_in per (drop per rest) (drop (i + 1) rows)) (require b why.Rows) (last_reading frames last former (take per rest)))
-      (holds sum (are_rows last r (total + r)) some).0
-      ∙ ap (λ (x : Result (Option Former) Why). rules_step frames i total (record { marks = take per rest; rows = r }) (entries_in per (drop per rest) (drop (i + 1) rows)) (Ok tt) x) marks
-      ∙ ap (λ (k : ℕ). rules_reading frames (i + 1) k here (entries_in per (drop per rest) (drop (i + 1) rows))) (sym (holds sum (are_rows last r (total + r)) some).1)
-    );
+        step ∙ ap (λ (b : Bool). rules_step frames i total (record { marks = take per rest; rows = r }) (entries_in per (drop per rest) (drop (i + 1) rows)) (require b why.Rows) (last_reading frames last former (take per rest)))
+        (holds sum (are_rows last r (total + r)) some).0
+        ∙ ap (λ (x : Result (Option Former) Why). rules_step frames i total (record { marks = take per rest; rows = r }) (entries_in per (drop per rest) (drop (i + 1) rows)) (Ok tt) x) marks
+        ∙ ap (λ (k : ℕ). rules_reading frames (i + 1) k here (entries_in per (drop per rest) (drop (i + 1) rows))) (sym (holds sum (are_rows last r (total + r)) some).1)
+        );
     long = omega (arith, had.long, length-drop per rest, ap (λ (l : List ℕ). length l * per) (drop_more rows i 0 under));
   }
 

@@ -6,3 +6,4 @@ pub mod RawLemmas
 pub mod PayloadLemmas
 pub mod EntryLemmas
 pub mod ReadingLemmas
+pub mod WrittenLemmas

@@ -10,11 +10,11 @@ use Rattle.mt_marks.specs.declared.marks.Marks.{Marks}
 use Rattle.mt_marks.specs.Entries.{Entry, AreMarks}
 use Rattle.mt_marks.specs.MarkReading.{u64_at, entry_len, marks_from, entries_from, entries_reading, marks_of}
 
-marks_none : (bytes : List ℕ) → marks_from 0 bytes ≡ []
+pub marks_none : (bytes : List ℕ) → marks_from 0 bytes ≡ []
 unfolding marks_from
 marks_none bytes = refl
 
-marks_next : (n : ℕ) (bytes : List ℕ) → marks_from (suc n) bytes ≡ record { offset = u64_at 0 bytes; inner = u64_at 8 bytes } ∷ marks_from n (drop 16 bytes)
+pub marks_next : (n : ℕ) (bytes : List ℕ) → marks_from (suc n) bytes ≡ record { offset = u64_at 0 bytes; inner = u64_at 8 bytes } ∷ marks_from n (drop 16 bytes)
 unfolding marks_from
 marks_next n bytes = refl
 

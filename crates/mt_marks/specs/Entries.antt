@@ -1,5 +1,5 @@
 -- The entries of marks that stand one after another in a list: docs/FORMAT.md, "Marks".
-use Rattle.std.specs.Prelude.{◌≡◌, ℕ, zero, suc, ◌*◌, ◌≤◌, List, [], ◌∷◌, length, take, drop}
+use Rattle.std.specs.Prelude.{◌≡◌, ℕ, zero, suc, ◌*◌, ◌^◌, ◌≤◌, ◌<◌, All, List, [], ◌∷◌, length, take, drop}
 use Rattle.mt_defs.specs.declared.mark.Mark.{Mark}
 use Rattle.mt_marks.specs.declared.marks.TheConstants.{MAX_PER_GRANULE}
 use Rattle.mt_marks.specs.declared.marks.Marks.{Marks}
@@ -29,5 +29,12 @@ abbrev pub entries_in : ℕ → List Mark → List ℕ → List Entry
 entries_in per_granule places [] = []
 entries_in per_granule places (rows ∷ more) = record { marks = take per_granule places; rows = rows } ∷ entries_in per_granule (drop per_granule places) more
 
+-- the entries of a marks file
 abbrev pub entries_of : Marks → List Entry
 entries_of marks = entries_in marks.per_granule marks.places marks.rows
+
+-- the numbers fit their eight bytes
+pub record HaveWords (marks : Marks) : Type 0 where
+  pub offsets : All (λ mark. mark.offset < 2 ^ 64) marks.places
+  pub inners : All (λ mark. mark.inner < 2 ^ 64) marks.places
+  pub rows : All (λ count. count < 2 ^ 64) marks.rows

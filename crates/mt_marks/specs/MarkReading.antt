@@ -18,6 +18,7 @@ use Rattle.mt_marks.specs.Positions.{position_of}
 abbrev pub u64_at : ℕ → List ℕ → ℕ
 u64_at offset bytes = from_le_bytes w64 (take 8 (drop offset bytes))
 
+-- the bytes of an entry: two numbers a mark, and one of rows
 abbrev pub entry_len : ℕ → ℕ
 entry_len per_granule = 16 * per_granule + 8
 
@@ -43,10 +44,12 @@ marks_of per_granule entries = record { per_granule = per_granule; places = flat
 
 -- ---- the rules
 
+-- the offset of the mark before, 0 before the first
 abbrev pub offset_before : Option Former → ℕ
 offset_before None = 0
 offset_before (Some former) = former.offset
 
+-- the position of the mark before, 0 before the first
 abbrev pub position_before : Option Former → ℕ
 position_before None = 0
 position_before (Some former) = former.position
@@ -60,6 +63,7 @@ abbrev pub is_placed : Option Former → Bool → ℕ → ℕ → Bool
 is_placed None last end position = (position == 0) && (not last || (position == end))
 is_placed (Some former) last end position = not last || (position == end)
 
+-- the value, or this is wrong
 abbrev pub ok_or : {A E : Type 0} → E → Option A → Result A E
 ok_or e (Some x) = Ok x
 ok_or e None = Err e
@@ -85,6 +89,7 @@ abbrev pub are_rows : Bool → ℕ → ℕ → Bool
 are_rows true rows total = rows == 0
 are_rows false rows total = nat_le 1 rows && nat_lt total (2 ^ 64)
 
+-- whether no entry follows
 abbrev pub is_last : List Entry → Bool
 is_last [] = true
 is_last (entry ∷ entries) = false
@@ -97,6 +102,7 @@ rules_reading frames granule rows former (entry ∷ entries) = do
   here ← at granule (last_reading frames (is_last entries) former entry.marks)
   rules_reading frames (granule + 1) (rows + entry.rows) here entries
 
+-- a fault's granule, as the readers name it
 abbrev pub in_granule : {A : Type 0} → Result A (ℕ × Why) → Result A (Option ℕ × Why)
 in_granule (Ok x) = Ok x
 in_granule (Err (granule, w)) = Err (Some granule, w)

@@ -5,14 +5,18 @@
 
 mod entries;
 mod fault;
+mod law;
 mod marks;
 mod position;
 mod raw;
 mod reading;
 mod rules;
+#[cfg(test)]
+mod tests;
 mod writing;
 
 pub use fault::MarksError;
+pub use law::{marks_have_one_position, written_marks_are_read};
 pub use marks::{MAX_PER_GRANULE, Marks};
 pub use mt_defs::Mark;
 pub use position::resolve;

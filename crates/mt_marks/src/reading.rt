@@ -23,7 +23,12 @@ pub fn read_mrk2(alloc: Global, bytes: &[u8], frames: &Frames) -> Result<Marks, 
 }
 
 /// The marks of a `.mrk3` file: one for each column of each granule, in the order of columns.txt.
-pub fn read_mrk3(alloc: Global, bytes: &[u8], columns: u64, frames: &Frames) -> Result<Marks, MarksError>
+pub fn read_mrk3(
+    alloc: Global,
+    bytes: &[u8],
+    columns: u64,
+    frames: &Frames,
+) -> Result<Marks, MarksError>
     requires some { 1 ≤ columns }
     requires few { columns ≤ MAX_PER_GRANULE }
     ensures reads { GivesMarks result (marks_reading columns frames.now bytes.now) }
@@ -32,7 +37,12 @@ pub fn read_mrk3(alloc: Global, bytes: &[u8], columns: u64, frames: &Frames) -> 
     read_marks(alloc, bytes, columns, frames)
 }
 
-fn read_marks(alloc: Global, bytes: &[u8], per_granule: u64, frames: &Frames) -> Result<Marks, MarksError>
+fn read_marks(
+    alloc: Global,
+    bytes: &[u8],
+    per_granule: u64,
+    frames: &Frames,
+) -> Result<Marks, MarksError>
     requires some { 1 ≤ per_granule }
     requires few { per_granule ≤ MAX_PER_GRANULE }
     ensures reads { GivesMarks result (marks_reading per_granule frames.now bytes.now) }

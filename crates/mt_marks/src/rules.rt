@@ -19,7 +19,12 @@ pub(crate) struct Former {
 
 /// The mark with its position, or the first rule that it breaks; `last` in the last entry.
 #[tactic(auto, unfolding(crate::specs::MarkReading::mark_reading))]
-pub(crate) fn check_mark(frames: &Frames, last: bool, former: Option<Former>, mark: &Mark) -> Result<Former, Why>
+pub(crate) fn check_mark(
+    frames: &Frames,
+    last: bool,
+    former: Option<Former>,
+    mark: &Mark,
+) -> Result<Former, Why>
     ensures { result ≡ mark_reading frames.now last former mark.now }
 {
     let before = former.unwrap_or(Former {

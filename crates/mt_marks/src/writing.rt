@@ -11,6 +11,7 @@ use std::alloc::Global;
 
 /// The bytes of a mark, and of an entry's number of rows.
 const MARK_BYTES: usize = 16;
+
 const ROWS_BYTES: usize = 8;
 
 /// The bytes of the marks file that has these entries.

@@ -21,6 +21,7 @@ is_digit c = nat_le 48 c && nat_le c 57
 abbrev pub is_name_byte : ℕ → Bool
 is_name_byte c = is_lower c || is_digit c || (c == 95)
 
+-- a lower-case letter stands first
 abbrev pub begins_lower : List ℕ → Bool
 begins_lower [] = false
 begins_lower (c ∷ rest) = is_lower c
@@ -52,6 +53,7 @@ pub record IsForm (f : Form) : Type 0 where
   pub key : (f.key ≡ f.first) ⊎ (f.key ≡ f.second)
   pub granule_rows : IfSome f.granule_rows IsGranuleRows
 
+-- index_granularity as it is printed, or nothing
 abbrev pub setting_text : Option ℕ → List ℕ
 setting_text None = []
 setting_text (Some rows) = codes "index_granularity = " ++ (decimal rows ++ codes ", ")
@@ -63,6 +65,7 @@ form_text f =
     ++ (codes " UInt64) ENGINE = MergeTree ORDER BY " ++ (f.key
     ++ (codes " SETTINGS " ++ (setting_text f.granule_rows ++ codes "min_bytes_for_wide_part = 0")))))))))
 
+-- a column of 64-bit numbers
 abbrev pub uint64_column : List ℕ → Column
 uint64_column name = record { name = name; ty = UInt W64 }
 

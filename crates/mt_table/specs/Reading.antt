@@ -11,10 +11,12 @@ use Rattle.mt_table.specs.declared.why.TableError.{TableError}
 use Rattle.mt_table.specs.declared.why.TableError.TheVariants.{Bad, NoMemory}
 use Rattle.mt_table.specs.Form.{Form, is_name_byte, is_name, table_of}
 
+-- the next step, where there is a value
 infixl 10 ◌>>=◌
 abbrev pub ◌>>=◌ : {A B : Type 0} → Option A → (A → Option B) → Option B
 o >>= f = option_and_then f o
 
+-- what comes next, if the test holds
 abbrev pub some_if : {A : Type 0} → Bool → Option A → Option A
 some_if test next = if test then next else None
 
@@ -44,6 +46,7 @@ setting_after (Some value) bytes = do
   rest ← after_word (codes ", ") rows.1
   Some (Some rows.0, rest)
 
+-- index_granularity, if it is given, and what follows it
 unfoldable pub setting_and_rest : List ℕ → Option (Option ℕ × List ℕ)
 setting_and_rest bytes = setting_after (after_word (codes "index_granularity = ") bytes) bytes
 
@@ -61,6 +64,7 @@ pub record Names : Type 0 where
   pub key : List ℕ
   pub rest : List ℕ
 
+-- the names at the start of a text, in the order of the form
 unfoldable pub names_reading : List ℕ → Option Names
 names_reading text = do
   a ← after_word (codes "CREATE TABLE ") text
@@ -78,6 +82,7 @@ names_reading text = do
 abbrev pub has_key : List ℕ → List ℕ → List ℕ → Bool
 has_key first second key = not (bytes_eq first second) && (bytes_eq key first || bytes_eq key second)
 
+-- the parts of a text of the form
 unfoldable pub form_reading : List ℕ → Option Form
 form_reading text = do
   names ← names_reading text
