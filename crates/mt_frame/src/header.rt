@@ -38,7 +38,7 @@ pub(crate) fn payload_len(header: &[u8], left: u64) -> Result<u64, FrameWhy>
     if payload_size > MAX_PAYLOAD {
         return Err(FrameWhy::TooLong);
     }
-    if left < HEADER_BYTES + payload_size {
+    if left < HEADER_BYTES as u64 + payload_size {
         return Err(FrameWhy::Cut);
     }
     Ok(payload_size)

@@ -41,7 +41,7 @@ pub fn read_frame<F: Shelf>(
 {
     *into = List::new(alloc);
     let left = size - at;
-    if left < HEADER_BYTES {
+    if left < HEADER_BYTES as u64 {
         return Err(FrameError::At {
             offset: at,
             why: FrameWhy::Cut,
@@ -52,9 +52,9 @@ pub fn read_frame<F: Shelf>(
     match payload_len(&header, left) {
         Err(why) => Err(FrameError::At { offset: at, why }),
         Ok(payload) => {
-            let bytes = read_bytes(alloc, shelf, path, at + HEADER_BYTES, payload)?;
+            let bytes = read_bytes(alloc, shelf, path, at + HEADER_BYTES as u64, payload)?;
             *into = bytes;
-            Ok(at + HEADER_BYTES + payload)
+            Ok(at + HEADER_BYTES as u64 + payload)
         }
     }
 }

@@ -25,7 +25,7 @@ pub fn frames_of(alloc: Global, file: &[u8]) -> Result<Frames, FrameError>
                     offset: offset as u64,
                     payload,
                 })?;
-                offset += (HEADER_BYTES + payload) as usize;
+                offset += (HEADER_BYTES as u64 + payload) as usize;
             }
             Err(why) => {
                 let offset = offset as u64;

@@ -52,7 +52,7 @@ fn without_headers(offset: u64, frames: usize) -> u64
     requires { HEADER_BYTES * frames ≤ offset }
     ensures { result ≡ offset - HEADER_BYTES * frames }
 {
-    offset - HEADER_BYTES * frames as u64
+    offset - HEADER_BYTES as u64 * frames as u64
 }
 
 /// How many frames begin before an offset: a search by halves.

@@ -57,5 +57,5 @@ fn payload_len(frames: &Frames) -> u64
     ensures { result ≡ payload_len frames.now }
 {
     let end = frames.end;
-    end - HEADER_BYTES * frames.list.len() as u64
+    end - HEADER_BYTES as u64 * frames.list.len() as u64
 }

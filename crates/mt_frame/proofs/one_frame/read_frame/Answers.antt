@@ -8,8 +8,8 @@ use Rattle.mt_frame.proofs.TakingLemmas.{read_twice, read_at_most, known_so, kno
 use Rattle.mt_frame.proofs.OneFrameLemmas.{reading_of, whole_frame, frame_taken}
 use Rattle.mt_frame.proofs.one_frame.read_frame.Goals as goal
 
-pub returns-then-left-lt-HEADER_BYTES-clause-reads : goal.returns-then-left-lt-HEADER_BYTES-clause-reads
-returns-then-left-lt-HEADER_BYTES-clause-reads g c =
+pub returns-then-left-clause-reads : goal.returns-then-left-clause-reads
+returns-then-left-clause-reads g c =
     known_so (files_of (g.F.Shelf.state c.args.shelf.now)) c.args.path.now _ _ (λ bytes size. (refl, is_short (drop c.args.at bytes) (omega (arith, length-drop c.args.at bytes)))) c.requires.size
 
 pub returns-in_ok-bytes-in-Ok-clause-reads : goal.returns-in_ok-bytes-in-Ok-clause-reads
