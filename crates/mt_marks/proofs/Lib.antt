@@ -7,3 +7,4 @@ pub mod PayloadLemmas
 pub mod EntryLemmas
 pub mod ReadingLemmas
 pub mod WrittenLemmas
+pub mod RecutLemmas

@@ -1,4 +1,5 @@
 pub mod Entries
 pub mod Positions
+pub mod Recut
 pub mod MarkReading
 pub mod Results

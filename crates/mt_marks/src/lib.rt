@@ -16,7 +16,7 @@ mod tests;
 mod writing;
 
 pub use fault::MarksError;
-pub use law::{marks_have_one_position, written_marks_are_read};
+pub use law::{frames_may_be_cut_anywhere, marks_have_one_position, written_marks_are_read};
 pub use marks::{MAX_PER_GRANULE, Marks};
 pub use mt_defs::Mark;
 pub use position::resolve;
