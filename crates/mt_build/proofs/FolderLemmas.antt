@@ -84,7 +84,7 @@ none_less n =
 no_more : (files : List FileBytes) → files ++ [] ++ [] ++ [] ≡ files
 no_more files = simp append-nil
 
-numbers_folder : (name first second : List ℕ) (place count : ℕ) (rows : List Row)
+pub numbers_folder : (name first second : List ℕ) (place count : ℕ) (rows : List Row)
     → let table = numbers_table name first second place count in
     let granules = written_granules table.settings table.columns rows in
     written_folder table rows ≡ sorted_by file_cmp (text_files table rows granules ++ wide_files table.columns rows granules)

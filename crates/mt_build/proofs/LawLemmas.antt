@@ -41,18 +41,18 @@ granules_hold settings columns rows = record {
 plain_block : List ℕ → Block
 plain_block payload = record { checksum = replicate CHECKSUM_BYTES 0; payload = payload }
 
-blocks_within : ℕ → List ℕ → List Block
+pub blocks_within : ℕ → List ℕ → List Block
 blocks_within zero payload = []
 blocks_within (suc most) [] = []
 blocks_within (suc most) (b ∷ bytes) = plain_block (take FRAME_PAYLOAD (b ∷ bytes)) ∷ blocks_within most (drop FRAME_PAYLOAD (b ∷ bytes))
 
-file_is : (most : ℕ) (payload : List ℕ) → frames_within most payload ≡ file_of (blocks_within most payload)
+pub file_is : (most : ℕ) (payload : List ℕ) → frames_within most payload ≡ file_of (blocks_within most payload)
 unfolding blocks_within plain_block
 file_is zero payload = refl
 file_is (suc most) [] = refl
 file_is (suc most) (b ∷ bytes) = ap (λ rest. block_bytes (plain_block (take FRAME_PAYLOAD (b ∷ bytes))) ++ rest) (file_is most (drop FRAME_PAYLOAD (b ∷ bytes)))
 
-payload_is : (most : ℕ) (payload : List ℕ) → length payload ≤ most → payload ≡ payload_of (blocks_within most payload)
+pub payload_is : (most : ℕ) (payload : List ℕ) → length payload ≤ most → payload ≡ payload_of (blocks_within most payload)
 unfolding blocks_within plain_block
 payload_is zero [] h = refl
 payload_is zero (b ∷ bytes) h = absurd (omega arith)
@@ -90,7 +90,7 @@ block_is b bytes are =
     block_of (take FRAME_PAYLOAD (b ∷ bytes)) (first_some FRAME_PAYLOAD (b ∷ bytes) (lit≤ tt) (one_or_more b bytes)) (first_few FRAME_PAYLOAD MAX_PAYLOAD (b ∷ bytes) (lit≤ tt))
     (All-take (λ byte. byte < 256) FRAME_PAYLOAD (b ∷ bytes) are)
 
-blocks_are : (most : ℕ) (payload : List ℕ) → AreBytes payload → All IsBlock (blocks_within most payload)
+pub blocks_are : (most : ℕ) (payload : List ℕ) → AreBytes payload → All IsBlock (blocks_within most payload)
 unfolding blocks_within
 blocks_are zero payload are = All-nil IsBlock
 blocks_are (suc most) [] are = All-nil IsBlock

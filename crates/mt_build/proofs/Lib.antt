@@ -1,8 +1,12 @@
+pub mod ColumnLemmas
 pub mod FolderLemmas
 pub mod GranuleLemmas
 pub mod ItemLemmas
 pub mod LawLemmas
+pub mod LookupLemmas
+pub mod MarkLemmas
 pub mod OrderLemmas
 pub mod SizeLemmas
 pub mod StableLemmas
+pub mod StandsLemmas
 pub mod WideLemmas

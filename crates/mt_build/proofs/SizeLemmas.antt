@@ -28,7 +28,7 @@ use Rattle.mt_build.proofs.ItemLemmas.{number_fits, fitting_is_number, number_it
 
 -- ---- one column
 
-roll_UInt : (w : Width) → roll-Ty (Ty-F.UInt w) ≡ UInt w
+pub roll_UInt : (w : Width) → roll-Ty (Ty-F.UInt w) ≡ UInt w
 roll_UInt w = ap roll-Ty (sym (outs-UInt w)) ∙ roll-out-Ty (UInt w)
 
 -- a column of numbers has one substream, of its items

@@ -13,5 +13,7 @@ mod sorting;
 mod wide;
 
 pub use folder::build;
-pub use law::{written_frames_have_their_payload, written_granules_hold_all_rows};
+pub use law::{
+    written_folder_stands, written_frames_have_their_payload, written_granules_hold_all_rows,
+};
 pub use sorting::sort_rows;

@@ -155,7 +155,7 @@ pub record Word (name : List ℕ) : Type 0 where
   pub begins : begins_lower name ≡ true
   pub bytes : list_all is_name_byte name ≡ true
 
-word_of : (name : List ℕ) → IsTrue (is_name name) → Word name
+pub word_of : (name : List ℕ) → IsTrue (is_name name) → Word name
 unfolding is_name
 word_of name e =
     let outer = and_parts (begins_lower name) _ e in
@@ -171,7 +171,7 @@ with_ending name ending bytes word plain =
 suffixes : stream_suffixes (UInt W64) ≡ [] ∷ []
 suffixes = ap (λ (f : ℕ → List (List ℕ)). f 0) (fold_out-Ty (ℕ → List (List ℕ)) suffix_step (UInt W64) ∙ ap (λ l. suffix_step (map-Ty Ty (ℕ → List (List ℕ)) (fold-Ty (ℕ → List (List ℕ)) suffix_step) l)) (outs-UInt W64))
 
-stream_name : (name : List ℕ) → Word name → stream_names (uint64_column name) ≡ name ∷ []
+pub stream_name : (name : List ℕ) → Word name → stream_names (uint64_column name) ≡ name ∷ []
 stream_name name word = ap (map (λ suffix. file_name name ++ suffix)) suffixes ∙ ap (λ bytes. bytes ∷ []) (append-nil (file_name name) ∙ same_name name word.bytes)
 
 abbrev AllNamed : List FileBytes → Type 0
