@@ -1,15 +1,14 @@
 -- The fold of two lists together is the join of their folds.
-use Rattle.std.proofs.Common.{◌≡◌, ℕ, ◌+◌, ◌%◌, ◌^◌, ℤ, List, [], ◌∷◌, ◌++◌, length, Some, None, Option, map, refl, ap, sym, ◌∙◌, arith, length-append, zero-add, lit<}
+use Rattle.std.proofs.Common.{◌≡◌, ℕ, ◌+◌, ◌%◌, ◌^◌, ℤ, List, [], ◌∷◌, ◌++◌, length, Some, None, Option, refl, ap, sym, ◌∙◌, arith, length-append}
 use Rattle.std.specs.List.{sum_by}
 use Rattle.std.proofs.lemmas.List.Sums.{sum_by-append}
 use Rattle.std.specs.Int.{w128, int_min, int_max, cast_unsigned}
 use Rattle.std.proofs.lemmas.Int.{ints, clamps}
 use Rattle.mt_types.specs.declared.ty.Agg.TheVariants.{Sum, Min, Max}
-use Rattle.mt_types.specs.declared.value.AggState.{AggState}
 use Rattle.mt_types.specs.declared.value.AggState.TheVariants as state
 use Rattle.mt_table.specs.declared.projection.Aggregate.{Aggregate}
 use Rattle.mt_table.specs.declared.projection.Aggregate.TheVariants.{Count, Of}
-use Rattle.mt_defs.specs.Folds.{lesser, greater, least, greatest, wrapped_sum, state_of, states_join}
+use Rattle.mt_defs.specs.Folds.{lesser, greater, least, greatest, state_of, states_join}
 use Rattle.mt_agg.specs.States.{state_with}
 
 min_assoc : (a b c : ℤ) → int_min (int_min a b) c ≡ int_min a (int_min b c)

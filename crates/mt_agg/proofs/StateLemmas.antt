@@ -13,12 +13,12 @@ use Rattle.mt_types.specs.declared.ty.Ty.TheVariants.{CountState, outs-UInt, out
 use Rattle.mt_types.specs.declared.ty.Ty.TheFolds.{fold_out-Ty}
 use Rattle.mt_types.specs.declared.value.AggState.{AggState}
 use Rattle.mt_types.specs.declared.value.AggState.TheVariants as state
-use Rattle.mt_types.specs.declared.value.Value.{Value, out-Value}
+use Rattle.mt_types.specs.declared.value.Value.{Value}
 use Rattle.mt_types.specs.declared.value.Value.TheVariants.{Num, outs-Num, State, outs-State}
 use Rattle.mt_types.specs.Leb128.{leb128}
-use Rattle.mt_types.specs.Fits.{state_at, fits_of, fits_step, is_state_of, is_count, is_least_of, is_unsigned, is_signed, num_at, bits}
+use Rattle.mt_types.specs.Fits.{state_at, fits_of, fits_step, is_state_of, is_count, is_least_of, is_unsigned, is_signed, bits}
 use Rattle.mt_types.specs.Items.{state_at as state_of_level, item_bytes, item_step, held, state_bytes, whole, width}
-use Rattle.mt_types.specs.Profile.{Kind, Whole, Day, Stored, kind_of, kind_step, state_kind, is_known, is_profile}
+use Rattle.mt_types.specs.Profile.{Kind, Whole, Day, Stored, kind_of, state_kind, is_known, is_profile}
 use Rattle.mt_types.proofs.Levels.{kind-State}
 use Rattle.mt_types.proofs.KindLemmas.{IsNumber, Known, unsigned, signed, day, text, fixed, optional, nested, stored, counted, outside, known, least_argument, greatest_argument}
 use Rattle.std.specs.Prelude.{IsSome, option_copied}
@@ -103,10 +103,10 @@ held_number t held_one n low size eight is fits some l e s =
 
 -- ---- states as values
 
-fits_state : (agg : Agg) (t : Ty) (s : AggState) → fits_of (StateOf agg t) (State s) ≡ is_state_of agg (fits_of t) s
+pub fits_state : (agg : Agg) (t : Ty) (s : AggState) → fits_of (StateOf agg t) (State s) ≡ is_state_of agg (fits_of t) s
 fits_state agg t s = ap (λ f. f (State s)) (fits_at (StateOf agg t) (Ty-F.State agg t) (outs-StateOf agg t)) ∙ ap (state_at (is_state_of agg (fits_of t))) (outs-State s)
 
-fits_count : (s : AggState) → fits_of CountState (State s) ≡ is_count s
+pub fits_count : (s : AggState) → fits_of CountState (State s) ≡ is_count s
 fits_count s = ap (λ f. f (State s)) (fits_at CountState Ty-F.CountState outs-CountState) ∙ ap (state_at is_count) (outs-State s)
 
 item_state : (agg : Agg) (t : Ty) (s : AggState) → item_bytes (StateOf agg t) (State s) ≡ state_bytes (item_bytes t) s

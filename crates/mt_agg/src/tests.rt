@@ -2,16 +2,8 @@
 
 use crate::Folding;
 use mt_table::Aggregate;
-use mt_types::{Agg, AggState, List, NoMemory, Ty, Width};
-use std::alloc::Global;
+use mt_types::{Agg, AggState, List, Ty, Width};
 use std::test::Fail;
-
-fn stored(alloc: Global, state: &AggState, arg: Option<&Ty>) -> Result<List<u8>, NoMemory> {
-    let mut bytes = List::new(alloc);
-    bytes.append(b"before ")?;
-    state.put(arg, &mut bytes)?;
-    Ok(bytes)
-}
 
 /// The state over some numbers.
 fn fold(a: &Aggregate, numbers: &[i128]) -> AggState {
@@ -23,31 +15,18 @@ fn fold(a: &Aggregate, numbers: &[i128]) -> AggState {
 }
 
 #[test]
+#[tactic(auto, using(crate::proofs::Examples::count_profile, crate::proofs::Examples::count_fits, crate::proofs::Examples::sum_profile, crate::proofs::Examples::sum_fits, crate::proofs::Examples::day_profile, crate::proofs::Examples::day_fits))]
 fn states_are_stored(rt: HostRuntime) -> Result<(), Fail> {
-    let alloc = rt.alloc();
-    let small = Ty::Int(Width::W16);
-    let least = Aggregate::Of(Agg::Min, 0);
-    for (state, arg, bytes) in [
-        (AggState::Count(300), None, b"before \xac\x02".as_slice()),
-        (
-            AggState::Sum(1),
-            Some(&small),
-            b"before \x01\0\0\0\0\0\0\0".as_slice(),
-        ),
-        (fold(&least, &[]), Some(&small), b"before \0".as_slice()),
-        (
-            fold(&least, &[7, 5]),
-            Some(&small),
-            b"before \x01\x05\0".as_slice(),
-        ),
-        (
-            AggState::Greatest(Some(258)),
-            Some(&Ty::Date),
-            b"before \x01\x02\x01".as_slice(),
-        ),
-    ] {
-        assert_eq!(rt; stored(alloc, &state, arg)?.as_slice(), bytes);
-    }
+    let mut bytes = List::new(rt.alloc());
+    AggState::Count(300).put(None, &mut bytes)?;
+    assert_eq!(rt; bytes.as_slice(), b"\xac\x02".as_slice());
+    AggState::Sum(1).put(Some(&Ty::UInt(Width::W8)), &mut bytes)?;
+    assert_eq!(rt; bytes.as_slice(), b"\xac\x02\x01\0\0\0\0\0\0\0".as_slice());
+    AggState::Least(Some(258)).put(Some(&Ty::Date), &mut bytes)?;
+    assert_eq!(rt;
+        bytes.as_slice(),
+        b"\xac\x02\x01\0\0\0\0\0\0\0\x01\x02\x01".as_slice()
+    );
     Ok(())
 }
 

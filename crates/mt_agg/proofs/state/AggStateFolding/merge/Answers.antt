@@ -1,4 +1,4 @@
-use Rattle.std.proofs.Common.{◌∙◌, ap, subst, ◌≡◌, Some, ◌++◌}
+use Rattle.std.proofs.Common.{◌∙◌, ap, ◌≡◌, Some, ◌++◌}
 use Rattle.mt_defs.specs.Folds.{states_join, state_of}
 use Rattle.mt_agg.proofs.FoldLemmas.{joins}
 use Rattle.mt_agg.proofs.state.AggStateFolding.merge.Goals as goal
