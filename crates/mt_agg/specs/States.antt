@@ -1,0 +1,75 @@
+-- What states are worth and how they are stored: docs/FORMAT.md, "States"
+-- (ClickHouse: IAggregateFunction).
+use Rattle.std.specs.Prelude.{ℕ, ◌+◌, ◌%◌, ◌^◌, ℤ, pos, Bool, true, false, if◌then◌else◌, Option, Some, None, unwrap_or}
+use Rattle.std.specs.Int.{w64, w128, cast_signed, cast_unsigned}
+use Rattle.mt_types.specs.declared.ty.Agg.TheVariants.{Sum, Min, Max}
+use Rattle.mt_types.specs.declared.ty.Width.{Width}
+use Rattle.mt_types.specs.declared.ty.Width.TheVariants.{W8, W16, W32, W64}
+use Rattle.mt_types.specs.declared.ty.Ty.{Ty, out-Ty}
+use Rattle.mt_types.specs.declared.ty.Ty.TheOpen.{Ty-F}
+use Rattle.mt_types.specs.declared.ty.Ty.TheVariants.{State, CountState}
+use Rattle.mt_types.specs.declared.value.AggState.{AggState}
+use Rattle.mt_types.specs.declared.value.AggState.TheVariants as state
+use Rattle.mt_defs.specs.Folds.{lesser, greater}
+
+-- a state with one number more
+abbrev pub state_with : AggState → ℤ → AggState
+state_with (state.Count rows) n = state.Count ((rows + 1) % 2 ^ 64)
+state_with (state.Sum sum) n = state.Sum ((sum + cast_unsigned w128 n % 2 ^ 64) % 2 ^ 64)
+state_with (state.Least least) n = state.Least (lesser least (Some n))
+state_with (state.Greatest greatest) n = state.Greatest (greater greatest (Some n))
+
+-- the type of a state over an argument of a type; a count takes any argument and needs none, and
+-- without an argument no other state has a type, so that it does not fit the one given here
+abbrev pub state_type : AggState → Option Ty → Ty
+state_type (state.Sum sum) (Some argument) = State Sum argument
+state_type (state.Least least) (Some argument) = State Min argument
+state_type (state.Greatest greatest) (Some argument) = State Max argument
+state_type _ _ = CountState
+
+-- ---- the number that is printed
+
+abbrev pub is_signed_at : {X : Type 0} → Ty-F X → Bool
+is_signed_at (Ty-F.Int width) = true
+is_signed_at _ = false
+
+-- the argument is of a signed type
+abbrev pub is_signed_argument : Option Ty → Bool
+is_signed_argument None = false
+is_signed_argument (Some argument) = is_signed_at (out-Ty argument)
+
+-- the number of a state: a sum over a signed type is in two's complement, and 0 stands for nothing
+abbrev pub finished : Option Ty → AggState → ℤ
+finished argument (state.Count rows) = pos rows
+finished argument (state.Sum sum) = if is_signed_argument argument then cast_signed w64 sum else pos sum
+finished argument (state.Least least) = unwrap_or least (pos 0)
+finished argument (state.Greatest greatest) = unwrap_or greatest (pos 0)
+
+-- ---- integers and dates, which min and max are over
+
+abbrev pub is_number_at : {X : Type 0} → Ty-F X → Bool
+is_number_at (Ty-F.UInt width) = true
+is_number_at (Ty-F.Int width) = true
+is_number_at Ty-F.Date = true
+is_number_at _ = false
+
+-- a type of integers or dates
+abbrev pub is_number_type : Ty → Bool
+is_number_type ty = is_number_at (out-Ty ty)
+
+-- the bytes of an integer
+abbrev pub width_size : Width → ℕ
+width_size W8 = 1
+width_size W16 = 2
+width_size W32 = 4
+width_size W64 = 8
+
+abbrev pub number_size_at : {X : Type 0} → Ty-F X → ℕ
+number_size_at (Ty-F.UInt width) = width_size width
+number_size_at (Ty-F.Int width) = width_size width
+number_size_at Ty-F.Date = 2
+number_size_at _ = 0
+
+-- the bytes of an item of integers or dates
+abbrev pub number_size : Ty → ℕ
+number_size ty = number_size_at (out-Ty ty)
