@@ -1,0 +1,5 @@
+pub mod Steps
+pub mod Splitting
+pub mod CountReading
+pub mod ColumnsReading
+pub mod Results

@@ -1,13 +1,22 @@
 //! columns.txt: the columns of a folder, with their types.
 
-ghost use Rattle.std.specs.Prelude.{◌≡◌, ◌++◌, IfOk, OnOk};
-ghost use Rattle.mt_defs.specs.Metadata.{column_line};
+ghost use Rattle.std.specs.Prelude.{◌≡◌, ◌++◌, ◌≤◌, length, map, IfOk, OnOk};
+ghost use Rattle.mt_table.specs.declared.limits.TheConstants.{MAX_COLUMNS};
+ghost use Rattle.mt_defs.specs.Metadata.{column_line, columns_name};
 ghost use Rattle.mt_defs.specs.Metadata as defined;
+ghost use Rattle.mt_meta.specs.ColumnsReading.{columns_reading};
+ghost use Rattle.mt_meta.specs.Results.{Gives, GivesEachOnce, in_file};
 
+use crate::fault::at_fault;
+use crate::listing::listing;
+use crate::order::{is_each_once, order_of};
 use itoa::Buffer;
+use mt_shelf::{ReadError, Why};
 use mt_table::Column;
 use mt_types::{List, NoMemory};
 use std::alloc::Global;
+
+const COLUMNS_FILE: &[u8] = b"columns.txt";
 
 /// The bytes of columns.txt (docs/FORMAT.md, "Metadata"; ClickHouse: `NamesAndTypesList::writeText`).
 pub fn columns_text(alloc: Global, columns: &[Column]) -> Result<List<u8>, NoMemory>
@@ -30,4 +39,56 @@ fn append_line(alloc: Global, column: &Column, text: &mut List<u8>) -> Result<()
     text.append(b"` ")?;
     text.append(column.ty.write_name(alloc)?.as_slice())?;
     text.append(b"\n")
+}
+
+/// The columns that a columns.txt lists, in its order, by their places in the definition. `Syntax` is a
+/// text of another form, `Columns` one that doesn't list each column once. It never returns `Shelf`.
+pub fn read_columns(alloc: Global, columns: &[Column], text: &[u8]) -> Result<List<u32>, ReadError>
+    requires { length columns.now ≤ MAX_COLUMNS }
+    ensures { Gives result (in_file columns_name (columns_reading columns.now text.now)) }
+{
+    let Some((lines, count)) = listing(text) else {
+        return Err(at_fault(alloc, COLUMNS_FILE, None, Why::Syntax));
+    };
+    if count != columns.len() {
+        return Err(at_fault(alloc, COLUMNS_FILE, None, Why::Columns));
+    }
+    match listed_order(alloc, columns, lines) {
+        Ok(Some(order)) => Ok(order),
+        Ok(None) => Err(at_fault(alloc, COLUMNS_FILE, None, Why::Columns)),
+        Err(_) => Err(ReadError::NoMemory),
+    }
+}
+
+/// Which columns the column lines of a text are, if each is there once.
+fn listed_order(
+    alloc: Global,
+    columns: &[Column],
+    text: &[u8],
+) -> Result<Option<List<u32>>, NoMemory>
+    requires { length columns.now ≤ MAX_COLUMNS }
+    ensures { IfOk result (λ found. GivesEachOnce (map column_line columns.now) text.now found) }
+{
+    let lines = column_lines(alloc, columns)?;
+    let Some(order) = order_of(alloc, lines.as_slice(), text)? else {
+        return Ok(None);
+    };
+    if is_each_once(order.as_slice(), columns.len()) {
+        Ok(Some(order))
+    } else {
+        Ok(None)
+    }
+}
+
+/// The line of each column, its end included.
+fn column_lines(alloc: Global, columns: &[Column]) -> Result<List<List<u8>>, NoMemory>
+    ensures { IfOk result (λ lines. lines ≡ map column_line columns.now) }
+{
+    let mut lines = List::with_capacity(alloc, columns.len())?;
+    for column in columns {
+        let mut line = List::new(alloc);
+        append_line(alloc, column, &mut line)?;
+        lines.push(line)?;
+    }
+    Ok(lines)
 }
