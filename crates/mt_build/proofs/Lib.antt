@@ -1,4 +1,5 @@
 pub mod ColumnLemmas
+pub mod ExampleLemmas
 pub mod FolderLemmas
 pub mod GranuleLemmas
 pub mod HeldLemmas

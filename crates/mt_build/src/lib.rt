@@ -15,7 +15,8 @@ mod wide;
 
 pub use folder::build;
 pub use law::{
-    written_folder_stands, written_frames_have_their_payload, written_granules_hold_all_rows,
+    worked_folder_stands, written_folder_stands, written_frames_have_their_payload,
+    written_granules_hold_all_rows,
 };
 pub use no_rows::{
     mark_off_by_one_stands_for_no_rows, rows_out_of_order_stand_for_no_rows,
