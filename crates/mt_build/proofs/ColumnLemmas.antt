@@ -60,7 +60,7 @@ items_bytes w (value ∷ values) =
 
 -- ---- the substream encodes the values
 
-encoding_UInt : (w : Width) → EncodesAs (UInt w) ≡ EncodesItems (item_bytes (UInt w))
+pub encoding_UInt : (w : Width) → EncodesAs (UInt w) ≡ EncodesItems (item_bytes (UInt w))
 encoding_UInt w = EncodesAs_out (UInt w) ∙ ap (λ l. encoding_step Ty (λ u. u) EncodesAs l) (outs-UInt w) ∙ ap (λ ty. EncodesItems (item_bytes ty)) (roll_UInt w)
 
 encodes : (w : Width) (values : List Value) → IsTrue (list_all (fits_of (UInt w)) values) → Encodes (UInt w) values (written_streams (UInt w) values)

@@ -1,10 +1,13 @@
 pub mod ColumnLemmas
+pub mod ExampleLemmas
 pub mod FolderLemmas
 pub mod GranuleLemmas
+pub mod HeldLemmas
 pub mod ItemLemmas
 pub mod LawLemmas
 pub mod LookupLemmas
 pub mod MarkLemmas
+pub mod NoRowsLemmas
 pub mod OrderLemmas
 pub mod SizeLemmas
 pub mod StableLemmas

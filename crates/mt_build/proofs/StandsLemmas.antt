@@ -24,7 +24,7 @@ use Rattle.mt_defs.specs.Wide.{IsWide, HasColumn}
 use Rattle.mt_defs.specs.Compact.{compact_data_name, compact_marks_name}
 use Rattle.mt_defs.specs.Metadata.{columns_name, count_name, columns_text, column_at}
 use Rattle.mt_defs.specs.PrimaryIndex.{index_name, primary_index_of}
-use Rattle.mt_defs.specs.Partition.{partition_name}
+use Rattle.mt_defs.specs.Partition.{partition_name, HasMinmax}
 use Rattle.mt_defs.specs.Projections.{base_of}
 use Rattle.mt_defs.specs.Part.{StandsFor, HasProjection, HoldsRows, is_compact, wide_names, side_names, partition_names, known_names, marks_ending}
 use Rattle.mt_defs.specs.SkipIndexes.{HasSkipIndex}
@@ -186,7 +186,7 @@ seven_found first second c differ =
 
 -- ---- the rows
 
-abbrev both : List ℕ → List ℕ → List Column
+abbrev pub both : List ℕ → List ℕ → List Column
 both first second = uint64_column first ∷ uint64_column second ∷ []
 
 same_row : (first second : List ℕ) (row : Row) → RowFits (both first second) row → key_of (0 ∷ 1 ∷ []) row ≡ row
@@ -195,7 +195,7 @@ same_row first second (x ∷ []) fits = absurd fits.1
 same_row first second (x ∷ y ∷ []) fits = refl
 same_row first second (x ∷ y ∷ z ∷ row) fits = absurd fits.1.1
 
-same_rows : (first second : List ℕ) (rows : List Row) → All (RowFits (both first second)) rows → map (key_of (0 ∷ 1 ∷ [])) rows ≡ rows
+pub same_rows : (first second : List ℕ) (rows : List Row) → All (RowFits (both first second)) rows → map (key_of (0 ∷ 1 ∷ [])) rows ≡ rows
 same_rows first second [] fit = refl
 same_rows first second (row ∷ rows) fit =
     ap (λ r. r ∷ map (key_of (0 ∷ 1 ∷ [])) rows) (same_row first second row (All-head (RowFits (both first second)) row rows fit))
@@ -270,7 +270,7 @@ numbers_stand name first second place count rows folder one two found listed wri
         index = found.index;
       };
       one_partition = writable.one_partition;
-      partition = record { values = found.no_partition; minmax = All-nil _ };
+      partition = record { values = found.no_partition; minmax = All-nil (HasMinmax table rows folder) };
       skips = All-nil _;
       projections = All-nil _;
       known = λ sought there. names_known name first second place count (contents_of table rows granules) folder sought one two not_compact (listed sought there);

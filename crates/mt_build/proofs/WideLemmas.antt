@@ -71,7 +71,7 @@ cut_step granules later count rest after here back cut =
 
 -- ---- how many marks
 
-length-granule_rows : (granules : List ℕ) (rows : List Row) → length (granule_rows granules rows) ≡ length granules
+pub length-granule_rows : (granules : List ℕ) (rows : List Row) → length (granule_rows granules rows) ≡ length granules
 length-granule_rows [] rows = refl
 length-granule_rows (count ∷ granules) rows = ap suc (length-granule_rows granules (drop count rows))
 

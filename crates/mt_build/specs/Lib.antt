@@ -1,2 +1,3 @@
 pub mod NumberColumns
 pub mod TextFiles
+pub mod WrongFolders

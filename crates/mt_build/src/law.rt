@@ -12,6 +12,7 @@ ghost use Rattle.mt_defs.specs.Lists.{AreBytes};
 ghost use Rattle.mt_defs.specs.Part.{StandsFor};
 ghost use Rattle.mt_defs.specs.Rows.{Row};
 ghost use Rattle.mt_defs.specs.Writer.{IsWritable, written_folder};
+ghost use Rattle.mt_defs.specs.WorkedExample as example;
 ghost use Rattle.mt_defs.specs.WrittenFrames.{written_frames};
 ghost use Rattle.mt_defs.specs.WrittenGranules.{written_granules};
 
@@ -30,4 +31,9 @@ pub fn written_frames_have_their_payload()
 pub fn written_folder_stands()
     ensures { (table : Table) (rows : List Row) → IsNumbersTable table → IsWritable table rows
         → StandsFor table (folder_of (written_folder table rows)) rows }
+{}
+
+/// The seven files of the worked example stand for its three rows.
+pub fn worked_folder_stands()
+    ensures { StandsFor example.table (folder_of example.seven_files) example.rows }
 {}

@@ -9,11 +9,18 @@ mod index;
 mod items;
 mod law;
 mod names;
+mod no_rows;
 mod sorting;
 mod wide;
 
 pub use folder::build;
 pub use law::{
-    written_folder_stands, written_frames_have_their_payload, written_granules_hold_all_rows,
+    worked_folder_stands, written_folder_stands, written_frames_have_their_payload,
+    written_granules_hold_all_rows,
+};
+pub use no_rows::{
+    mark_off_by_one_stands_for_no_rows, rows_out_of_order_stand_for_no_rows,
+    short_index_stands_for_no_rows, sizes_that_disagree_stand_for_no_rows,
+    stray_file_stands_for_no_rows,
 };
 pub use sorting::sort_rows;

@@ -30,7 +30,7 @@ name_u64 : type_name (UInt W64) ≡ codes "UInt64"
 unfolding digits
 name_u64 = fold_out-Ty (List ℕ) name_step (UInt W64) ∙ ap (λ l. name_step (map-Ty Ty (List ℕ) type_name l)) (outs-UInt W64)
 
-value_order : (m n : ℤ) → value_cmp (Num m) (Num n) ≡ int_cmp m n
+pub value_order : (m n : ℤ) → value_cmp (Num m) (Num n) ≡ int_cmp m n
 value_order m n =
     ap (λ (f : Value → Ordering). f (Num n)) (fold_out-Value (Value → Ordering) cmp_step (Num m) ∙ ap (λ l. cmp_step (map-Value Value (Value → Ordering) value_cmp l)) (outs-Num m))
     ∙ ap (λ l. ordering_then (nat_cmp 0 (rank l)) (same_kind_cmp (Value-F.Num m) l)) (outs-Num n)
