@@ -7,6 +7,7 @@ pub mod Lines
 pub mod Elements
 pub mod Items
 pub mod Joins
+pub mod Kept
 pub mod Casts
 pub mod Walk
 pub mod RowLimits

@@ -1,6 +1,6 @@
 //! Dates, written.
 
-ghost use Rattle.std.specs.Prelude.{◌≡◌, ◌++◌, ◌<◌, OnOk};
+ghost use Rattle.std.specs.Prelude.{◌≡◌, ◌++◌, ◌<◌, OnOk, OnErr};
 ghost use Rattle.mt_tsv.specs.Dates.{civil_of, date_text, two_digits};
 ghost use Rattle.mt_tsv.specs.Printing.{day_text};
 
@@ -32,7 +32,8 @@ fn two_digits(n: u8) -> [u8; 2]
 
 /// Appends the date of a day since 1970-01-01.
 fn append_date(out: &mut List<u8>, day: u16) -> Result<(), NoMemory>
-    ensures { OnOk result (out.new ≡ out.old ++ date_text day) }
+    ensures ok { OnOk result (out.new ≡ out.old ++ date_text day) }
+    ensures kept { OnErr result (out.new ≡ out.old) }
 {
     let (year, month, day) = civil_of(day);
     let [a, b] = two_digits((year / 100) as u8);
@@ -45,7 +46,8 @@ fn append_date(out: &mut List<u8>, day: u16) -> Result<(), NoMemory>
 
 /// Appends the date of a value, if it is a day of the type.
 pub fn append_day(out: &mut List<u8>, day: i128) -> Result<(), NoMemory>
-    ensures { OnOk result (out.new ≡ out.old ++ day_text day) }
+    ensures ok { OnOk result (out.new ≡ out.old ++ day_text day) }
+    ensures kept { OnErr result (out.new ≡ out.old) }
 {
     if 0 <= day && day < 65536 {
         append_date(out, day as u16)

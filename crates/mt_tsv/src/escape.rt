@@ -1,6 +1,6 @@
 //! Texts with escapes, written.
 
-ghost use Rattle.std.specs.Prelude.{◌≡◌, ◌++◌, OnOk};
+ghost use Rattle.std.specs.Prelude.{◌≡◌, ◌++◌, take, length, OnOk, OnErr};
 ghost use Rattle.mt_tsv.specs.Printing.{letter_of, escaped_text};
 
 use crate::ascii::BACKSLASH;
@@ -23,9 +23,10 @@ fn letter(byte: u8) -> Option<u8>
     }
 }
 
-/// Appends a text with its escapes, runs of other bytes at once.
+/// Appends a text with its escapes, runs of other bytes at once; on `NoMemory` perhaps a part of it.
 pub fn append_text(out: &mut List<u8>, text: &[u8]) -> Result<(), NoMemory>
-    ensures { OnOk result (out.new ≡ out.old ++ escaped_text text.now) }
+    ensures ok { OnOk result (out.new ≡ out.old ++ escaped_text text.now) }
+    ensures kept { OnErr result (take (length out.old) out.new ≡ out.old) }
 {
     let mut run_start = 0;
     for (i, byte) in text.iter().enumerate() {

@@ -1,6 +1,6 @@
-//! Values as text.
+//! Values as text; on `NoMemory` a part of it may have been appended.
 
-ghost use Rattle.std.specs.Prelude.{◌≡◌, ◌++◌, [], ◌∷◌, map, OnOk};
+ghost use Rattle.std.specs.Prelude.{◌≡◌, ◌++◌, [], ◌∷◌, map, take, length, OnOk, OnErr};
 ghost use Rattle.std.specs.List.{join_with_byte};
 ghost use Rattle.mt_types.specs.declared.value.Value.{out-Value};
 ghost use Rattle.mt_tsv.specs.Printing.{separator, scalar_text, array_text_at, element_text, field_text};
@@ -13,7 +13,8 @@ use mt_types::{List, NoMemory, Ty, Value};
 
 /// Appends a separator, unless nothing stands before it.
 pub fn append_separator(out: &mut List<u8>, index: usize, byte: u8) -> Result<(), NoMemory>
-    ensures { OnOk result (out.new ≡ out.old ++ separator index byte) }
+    ensures ok { OnOk result (out.new ≡ out.old ++ separator index byte) }
+    ensures kept { OnErr result (take (length out.old) out.new ≡ out.old) }
 {
     if index > 0 {
         out.append(&[byte])
@@ -25,7 +26,8 @@ pub fn append_separator(out: &mut List<u8>, index: usize, byte: u8) -> Result<()
 /// Appends a value that is no NULL and no array.
 #[tactic(auto, unfolding(crate::specs::Printing::scalar_text))]
 fn append_scalar(out: &mut List<u8>, ty: &Ty, value: &Value) -> Result<(), NoMemory>
-    ensures { OnOk result (out.new ≡ out.old ++ scalar_text ty.now value.now) }
+    ensures ok { OnOk result (out.new ≡ out.old ++ scalar_text ty.now value.now) }
+    ensures kept { OnErr result (take (length out.old) out.new ≡ out.old) }
 {
     match (ty, value) {
         (Ty::UInt(_) | Ty::Int(_), Value::Num(n)) => out.append(
@@ -38,8 +40,9 @@ fn append_scalar(out: &mut List<u8>, ty: &Ty, value: &Value) -> Result<(), NoMem
 }
 
 fn append_quoted(out: &mut List<u8>, ty: &Ty, value: &Value) -> Result<(), NoMemory>
-    ensures { OnOk result
+    ensures ok { OnOk result
         (out.new ≡ out.old ++ (QUOTE ∷ (scalar_text ty.now value.now ++ QUOTE ∷ []))) }
+    ensures kept { OnErr result (take (length out.old) out.new ≡ out.old) }
 {
     out.append(&[QUOTE])?;
     append_scalar(out, ty, value)?;
@@ -50,7 +53,8 @@ fn append_quoted(out: &mut List<u8>, ty: &Ty, value: &Value) -> Result<(), NoMem
 #[cycle(print)]
 #[tactic(auto, unfolding(crate::specs::Printing::scalar_text))]
 fn append_element(out: &mut List<u8>, ty: &Ty, value: &Value) -> Result<(), NoMemory>
-    ensures { OnOk result (out.new ≡ out.old ++ element_text ty.now value.now) }
+    ensures ok { OnOk result (out.new ≡ out.old ++ element_text ty.now value.now) }
+    ensures kept { OnErr result (take (length out.old) out.new ≡ out.old) }
 {
     match ty {
         Ty::Nullable(inner) => match value {
@@ -69,8 +73,9 @@ fn append_element(out: &mut List<u8>, ty: &Ty, value: &Value) -> Result<(), NoMe
 /// Appends elements between brackets.
 #[cycle(print)]
 fn append_array(out: &mut List<u8>, inner: &Ty, items: &[Value]) -> Result<(), NoMemory>
-    ensures { let texts = map (element_text inner.now) items.now in OnOk result
+    ensures ok { let texts = map (element_text inner.now) items.now in OnOk result
         (out.new ≡ out.old ++ (OPEN ∷ (join_with_byte COMMA texts ++ CLOSE ∷ []))) }
+    ensures kept { OnErr result (take (length out.old) out.new ≡ out.old) }
 {
     out.append(&[OPEN])?;
     for (i, item) in items.iter().enumerate() {
@@ -83,7 +88,8 @@ fn append_array(out: &mut List<u8>, inner: &Ty, items: &[Value]) -> Result<(), N
 /// Appends the value of a column of this type.
 #[tactic(auto, unfolding(crate::specs::Printing::field_text, crate::specs::Printing::scalar_text))]
 pub fn append_field(out: &mut List<u8>, ty: &Ty, value: &Value) -> Result<(), NoMemory>
-    ensures { OnOk result (out.new ≡ out.old ++ field_text ty.now value.now) }
+    ensures ok { OnOk result (out.new ≡ out.old ++ field_text ty.now value.now) }
+    ensures kept { OnErr result (take (length out.old) out.new ≡ out.old) }
 {
     match ty {
         Ty::Nullable(inner) => match value {

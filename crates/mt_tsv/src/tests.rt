@@ -45,7 +45,7 @@ fn read_and_written(alloc: Global, table: &Table, text: &[u8]) -> Result<List<u8
     let mut lines = List::new(alloc);
     for row in read_rows(alloc, table, text)?.as_slice() {
         if row.len() == table.columns.len() {
-            write_row(table.columns.as_slice(), row, &mut lines)?;
+            write_row(alloc, table.columns.as_slice(), row, &mut lines)?;
         }
     }
     Ok(lines)
