@@ -1,6 +1,7 @@
 pub mod Prefixes
 pub mod Parts
 pub mod DigitRuns
+pub mod Magnitudes
 pub mod Days
 pub mod Escapes
 pub mod Lines

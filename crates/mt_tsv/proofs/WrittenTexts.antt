@@ -21,7 +21,7 @@ use Rattle.mt_tsv.specs.Scalars.{magnitude_of, integer_of, number_of}
 use Rattle.mt_tsv.specs.Nesting.{after, is_comma, closes_last}
 use Rattle.mt_tsv.specs.Printing.{letter_of, with_letter, byte_text, escaped_text}
 use Rattle.mt_tsv.specs.Fields.{is_null}
-use Rattle.mt_tsv.proofs.DigitRuns.{own, digit_here}
+use Rattle.mt_table.proofs.DigitLemmas.{decimal_model, digit_here}
 use Rattle.mt_tsv.proofs.Walks.{IsWalk, walk_byte, walk_nil, walk_append, walk_all, other_no_comma}
 
 -- neither a tab nor a line end is in it
@@ -158,8 +158,8 @@ signed_small width (pos n) h = omega (arith, small_signed width n h)
 signed_small width (negsuc n) h = small_signed width n h
 
 number_bytes : (n : ℤ) → IsSmall n → AreNumberBytes (signed_decimal n)
-number_bytes (pos n) h = digit_bytes (decimal n) (digits_decimal own n h)
-number_bytes (negsuc n) h = ((omega arith, omega arith), digit_bytes (decimal (suc n)) (digits_decimal own (suc n) h))
+number_bytes (pos n) h = digit_bytes (decimal n) (digits_decimal decimal_model n h)
+number_bytes (negsuc n) h = ((omega arith, omega arith), digit_bytes (decimal (suc n)) (digits_decimal decimal_model (suc n) h))
 
 number_nonempty : (n : ℤ) → IsSmall n → 0 < length (signed_decimal n)
 number_nonempty (pos n) h = decimal_nonempty n h
@@ -178,8 +178,8 @@ plain_again (c ∷ ds) n all some_digit value h =
 
 integer_again : (n : ℤ) → IsSmall n → integer_of (signed_decimal n) ≡ Ok n
 unfolding integer_of
-integer_again (pos n) h = plain_again (decimal n) n (digits_decimal own n h) (decimal_nonempty n h) (digits_value-decimal own n h) h
-integer_again (negsuc n) h = rw (magnitude_again (decimal (suc n)) (suc n) (digits_decimal own (suc n) h) (decimal_nonempty (suc n) h) (digits_value-decimal own (suc n) h) h) refl
+integer_again (pos n) h = plain_again (decimal n) n (digits_decimal decimal_model n h) (decimal_nonempty n h) (digits_value-decimal decimal_model n h) h
+integer_again (negsuc n) h = rw (magnitude_again (decimal (suc n)) (suc n) (digits_decimal decimal_model (suc n) h) (decimal_nonempty (suc n) h) (digits_value-decimal decimal_model (suc n) h) h) refl
 
 -- a number of a type, written
 pub record IsNumber (is_in_type : ℤ → Bool) (n : ℤ) : Type 0 where

@@ -1,12 +1,16 @@
 //! Digits as numbers.
 
-ghost use Rattle.std.specs.Prelude.{◌≡◌, ◌<◌, ◌^◌, IsTrue};
+ghost use Rattle.std.specs.Prelude.{◌≡◌, ◌<◌, ◌≤◌, ◌^◌, length, Some, None, IsTrue, if◌then◌else◌};
 ghost use Rattle.std.specs.Option.{SomeIff};
 ghost use Rattle.std.specs.Str.{all_ascii_digits};
-ghost use Rattle.std.specs.Str.Parse.{digits_value};
+ghost use Rattle.std.specs.Str.Parse.{digits_value, digits_value_after};
+ghost use Rattle.mt_tsv.specs.declared.digits.TheConstants.{SHORT_DIGITS};
 ghost use Rattle.mt_tsv.specs.Scalars.{magnitude_of};
 
 use crate::fault::RowWhy;
+
+/// So many digits are always a number below 2^64.
+const SHORT_DIGITS: usize = 19;
 
 fn all_digits(text: &[u8]) -> bool
     ensures { result ≡ all_ascii_digits text.now }
@@ -19,16 +23,32 @@ fn all_digits(text: &[u8]) -> bool
     true
 }
 
-/// The number of the digits, if it is below 2^64.
-fn value_of_digits(text: &[u8]) -> Option<u64>
-    requires { IsTrue (all_ascii_digits text.now) }
-    ensures { SomeIff result (digits_value 10 text.now < 2 ^ 64) (digits_value 10 text.now) }
+/// The number of a few digits, if all are digits.
+fn short_number(text: &[u8]) -> Option<u64>
+    requires { length text.now ≤ SHORT_DIGITS }
+    ensures { result
+        ≡ (if all_ascii_digits text.now then Some (digits_value 10 text.now) else None) }
 {
-    let mut n = 0u64;
+    let mut number = 0u64;
     for c in text {
-        n = n.checked_mul(10)?.checked_add((*c - b'0') as u64)?;
+        if !c.is_ascii_digit() {
+            return None;
+        }
+        number = number * 10 + (*c - b'0') as u64;
     }
-    Some(n)
+    Some(number)
+}
+
+/// The number of more digits behind those of another number, if it is below 2^64.
+fn number_after(first: u64, text: &[u8]) -> Option<u64>
+    requires { IsTrue (all_ascii_digits text.now) }
+    ensures { SomeIff result (digits_value_after 10 first text.now < 2 ^ 64) (digits_value_after 10 first text.now) }
+{
+    let mut number = first;
+    for c in text {
+        number = number.checked_mul(10)?.checked_add((*c - b'0') as u64)?;
+    }
+    Some(number)
 }
 
 /// The number of a text of digits alone. None of a type has 2^64 or more.
@@ -36,10 +56,17 @@ fn value_of_digits(text: &[u8]) -> Option<u64>
 pub fn read_magnitude(text: &[u8]) -> Result<u64, RowWhy>
     ensures { result ≡ magnitude_of text.now }
 {
-    if text.is_empty() || !all_digits(text) {
+    if text.is_empty() {
         return Err(RowWhy::Number);
     }
-    match value_of_digits(text) {
+    let (first, rest) = text.split_at(text.len().min(SHORT_DIGITS));
+    let Some(number) = short_number(first) else {
+        return Err(RowWhy::Number);
+    };
+    if !all_digits(rest) {
+        return Err(RowWhy::Number);
+    }
+    match number_after(number, rest) {
         Some(n) => Ok(n),
         None => Err(RowWhy::Range),
     }
