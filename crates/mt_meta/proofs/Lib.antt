@@ -1,4 +1,8 @@
 mod DigitLemmas
+mod PlainLemmas
+mod ListedLemmas
+mod EachOnce
+mod ColumnsLaw
 mod ColumnsLemmas
 mod OrderLemmas
 mod LineLemmas
