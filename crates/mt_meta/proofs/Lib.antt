@@ -1,4 +1,6 @@
 mod DigitLemmas
+mod ItemLemmas
+mod KeyLemmas
 mod PlainLemmas
 mod ListedLemmas
 mod EachOnce
