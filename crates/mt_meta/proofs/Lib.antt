@@ -1,4 +1,10 @@
 mod DigitLemmas
+mod ItemLemmas
+mod KeyLemmas
+mod PlainLemmas
+mod ListedLemmas
+mod EachOnce
+mod ColumnsLaw
 mod ColumnsLemmas
 mod OrderLemmas
 mod LineLemmas

@@ -1,9 +1,11 @@
 -- columns.txt, read: docs/FORMAT.md, "Metadata" (ClickHouse: NamesAndTypesList::readText).
-use Rattle.std.specs.Prelude.{◌≡◌, ◌≢◌, ℕ, ◌<◌, ◌==◌, ◌&&◌, Bool, false, if◌then◌else◌, List, [], ◌∷◌, ◌++◌, length, map, codes, position, Option, Some, None, option_map, option_and_then, Result, IsPermutation, Contains}
+use Rattle.std.specs.Prelude.{◌≡◌, ◌≢◌, ℕ, ◌<◌, ◌≤◌, ◌==◌, ◌&&◌, not, Bool, true, false, if◌then◌else◌, List, [], ◌∷◌, ◌++◌, length, map, codes, position, Option, Some, None, option_map, option_and_then, Result, IsPermutation}
 use Rattle.std.specs.List.{slice_split, list_any, list_all, range_with_len}
 use Rattle.std.specs.Fmt.{decimal}
 use Rattle.std.specs.Str.{bytes_eq}
+use Rattle.mt_types.specs.Profile.{is_profile}
 use Rattle.mt_table.specs.declared.column.Column.{Column}
+use Rattle.mt_table.specs.declared.limits.TheConstants.{MAX_COLUMNS}
 use Rattle.mt_shelf.specs.declared.fault.Why.{Why}
 use Rattle.mt_shelf.specs.declared.fault.Why.TheVariants.{Syntax, Columns}
 use Rattle.mt_defs.specs.Metadata.{column_at, column_line, columns_text}
@@ -80,10 +82,17 @@ columns_reading columns text = do
 
 -- ---- what is read
 
--- names that a columns.txt can have, and that differ
-pub record HaveNames (columns : List Column) : Type 0 where
+-- no byte is this one
+abbrev pub lacks : ℕ → List ℕ → Bool
+lacks separator bytes = list_all (λ byte. not (byte == separator)) bytes
+
+-- columns that a columns.txt can list: of the profile's types, with different names
+pub record CanBeListed (columns : List Column) : Type 0 where
+  pub few : length columns ≤ MAX_COLUMNS
+  pub types : (i : ℕ) → i < length columns → is_profile (column_at columns i).ty ≡ true
   pub some : (i : ℕ) → i < length columns → (column_at columns i).name ≢ []
-  pub plain : (i byte : ℕ) → i < length columns → Contains (column_at columns i).name byte → (byte ≢ BACKQUOTE) × (byte ≢ LINE_END)
+  pub one_line : (i : ℕ) → i < length columns → lacks LINE_END (column_at columns i).name ≡ true
+  pub unquoted : (i : ℕ) → i < length columns → lacks BACKQUOTE (column_at columns i).name ≡ true
   pub differ : (i j : ℕ) → i < length columns → j < length columns → (column_at columns i).name ≡ (column_at columns j).name → i ≡ j
 
 -- a text lists each of the columns once, in this order

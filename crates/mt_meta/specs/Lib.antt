@@ -3,3 +3,4 @@ pub mod Splitting
 pub mod CountReading
 pub mod ColumnsReading
 pub mod Results
+pub mod Keys
