@@ -1,0 +1,5 @@
+use Rattle.mt_codec.specs.StreamOrder.{array_levels}
+use Rattle.mt_codec.proofs.encoding.+append_streams.Given as goal
+
+abbrev pub decreases-append_streams : goal.decreases-append_streams
+decreases-append_streams l = array_levels l.ty.now
