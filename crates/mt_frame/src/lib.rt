@@ -11,8 +11,6 @@ mod header;
 mod law;
 mod one_frame;
 mod reading;
-#[cfg(test)]
-mod tests;
 mod writing;
 
 pub use fault::{FrameError, FrameWhy};

@@ -11,8 +11,6 @@ mod position;
 mod raw;
 mod reading;
 mod rules;
-#[cfg(test)]
-mod tests;
 mod writing;
 
 pub use fault::MarksError;
