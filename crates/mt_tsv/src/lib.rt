@@ -23,8 +23,6 @@ mod rows;
 mod scalar;
 mod space;
 mod split;
-#[cfg(test)]
-mod tests;
 mod text;
 mod writing;
 
