@@ -18,5 +18,5 @@ mod split;
 
 pub use columns::{columns_text, read_columns};
 pub use count::{CountWhy, count_text, read_count};
-pub use primary::primary_bytes;
 pub use law::{counts_are_read, listed_columns_are_read, only_lists_are_read};
+pub use primary::primary_bytes;
