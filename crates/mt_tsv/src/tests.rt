@@ -6,17 +6,17 @@ mod values;
 
 use crate::{RowError, read_rows, write_row};
 use mt_table::{Column, Settings, Table};
-use mt_types::{Boxed, List, Ty};
-use std::alloc::{AllocError, Global};
+use mt_types::{List, Ty};
+use std::alloc::Global;
 use std::test::Fail;
 
-/// A table of the columns `types`.
-fn table(alloc: Global, types: [Ty; 2]) -> Result<Table, Fail> {
+/// A table of columns of these types.
+fn table_of(alloc: Global, types: &[&str]) -> Result<Table, Fail> {
     let mut columns = List::new(alloc);
-    for ty in types {
+    for name in types {
         columns.push(Column {
             name: List::new(alloc),
-            ty,
+            ty: Ty::read_name(alloc, name.as_bytes())?,
         })?;
     }
     Ok(Table {
@@ -34,14 +34,6 @@ fn table(alloc: Global, types: [Ty; 2]) -> Result<Table, Fail> {
             wide_rows: 0,
         },
     })
-}
-
-fn array(alloc: Global, inner: Ty) -> Result<Ty, AllocError> {
-    Ok(Ty::Array(Boxed::new(alloc, inner)?))
-}
-
-fn nullable(alloc: Global, inner: Ty) -> Result<Ty, AllocError> {
-    Ok(Ty::Nullable(Boxed::new(alloc, inner)?))
 }
 
 /// The lines of the rows of the text.

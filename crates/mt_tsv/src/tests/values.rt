@@ -1,12 +1,13 @@
 //! Every byte, dates at both ends and around leap days, arrays of every type.
 
-use super::{array, nullable, read_and_written, table};
-use crate::read_rows;
-use mt_types::{List, NoMemory, Ty, Value, Width};
+use super::{read_and_written, table_of};
+use crate::{RowError, read_rows};
+use mt_table::Table;
+use mt_types::{List, NoMemory, Value};
 use std::alloc::Global;
 use std::test::Fail;
 
-/// The bytes that are written with a backslash, and the letters behind it.
+/// The bytes that are written with a backslash, and the letters after it.
 const ESCAPES: [(u8, u8); 8] = [
     (0, b'0'),
     (8, b'b'),
@@ -41,11 +42,12 @@ fn lines_of_bytes(alloc: Global) -> Result<List<u8>, NoMemory> {
     Ok(text)
 }
 
+/// The bytes of a text, or of the first text of an array.
 fn text_of(value: &Value) -> &[u8] {
     match value {
         Value::Text(bytes) => bytes.as_slice(),
         Value::List(items) => match items.as_slice() {
-            [first, ..] => text_of(first),
+            [Value::Text(bytes), ..] => bytes.as_slice(),
             _ => &[],
         },
         _ => &[],
@@ -55,7 +57,7 @@ fn text_of(value: &Value) -> &[u8] {
 #[test]
 fn every_byte_is_read_and_written(rt: HostRuntime) -> Result<(), Fail> {
     let alloc = rt.alloc();
-    let table = table(alloc, [Ty::Str, array(alloc, Ty::Str)?])?;
+    let table = table_of(alloc, &["String", "Array(String)"])?;
     let text = lines_of_bytes(alloc)?;
     let rows = read_rows(alloc, &table, text.as_slice())?;
     assert_eq!(rt; rows.len(), 256);
@@ -69,27 +71,36 @@ fn every_byte_is_read_and_written(rt: HostRuntime) -> Result<(), Fail> {
     Ok(())
 }
 
+/// Dates, in days since 1970-01-01.
+const DAYS: [(&str, i128); 8] = [
+    ("1970-01-01", 0),
+    ("1970-12-31", 364),
+    ("1972-02-29", 789),
+    ("2000-02-29", 11_016),
+    ("2000-03-01", 11_017),
+    ("2100-02-28", 47_540),
+    ("2100-03-01", 47_541),
+    ("2149-06-06", 65_535),
+];
+
+fn first_number(alloc: Global, table: &Table, text: &[u8]) -> Result<Option<i128>, RowError> {
+    match read_rows(alloc, table, text)?.as_slice() {
+        [row] => match row.as_slice() {
+            [Value::Num(number), ..] => Ok(Some(*number)),
+            _ => Ok(None),
+        },
+        _ => Ok(None),
+    }
+}
+
 #[test]
 fn dates_are_days_since_1970(rt: HostRuntime) -> Result<(), Fail> {
     let alloc = rt.alloc();
-    let table = table(alloc, [Ty::Date, Ty::Str])?;
-    for (line, day) in [
-        ("1970-01-01\t\n", 0),
-        ("1970-12-31\t\n", 364),
-        ("1972-02-29\t\n", 789),
-        ("2000-02-29\t\n", 11_016),
-        ("2000-03-01\t\n", 11_017),
-        ("2100-02-28\t\n", 47_540),
-        ("2100-03-01\t\n", 47_541),
-        ("2149-06-06\t\n", 65_535),
-    ] {
-        for row in read_rows(alloc, &table, line.as_bytes())?.as_slice() {
-            let read = match row.as_slice() {
-                [Value::Num(number), ..] => Some(*number),
-                _ => None,
-            };
-            assert_eq!(rt; read, Some(day), "at {line}");
-        }
+    let table = table_of(alloc, &["Date"])?;
+    for (date, day) in DAYS {
+        let line = format!(in alloc; "{date}\n")?;
+        let number = first_number(alloc, &table, line.as_bytes())?;
+        assert_eq!(rt; number, Some(day), "at {date}");
         let written = read_and_written(alloc, &table, line.as_bytes())?;
         assert_eq!(rt; written.as_slice(), line.as_bytes(), "at {line}");
     }
@@ -97,36 +108,34 @@ fn dates_are_days_since_1970(rt: HostRuntime) -> Result<(), Fail> {
 }
 
 /// The types of elements, and an element of each.
-fn elements(alloc: Global) -> Result<[(Ty, &'static str); 16], Fail> {
-    Ok([
-        (Ty::UInt(Width::W8), "255"),
-        (Ty::UInt(Width::W16), "65535"),
-        (Ty::UInt(Width::W32), "4294967295"),
-        (Ty::UInt(Width::W64), "18446744073709551615"),
-        (Ty::Int(Width::W8), "-128"),
-        (Ty::Int(Width::W16), "-32768"),
-        (Ty::Int(Width::W32), "-2147483648"),
-        (Ty::Int(Width::W64), "-9223372036854775808"),
-        (Ty::FixedString(2), "'a,'"),
-        (Ty::Str, "'[\\'\\\\,\\n'"),
-        (Ty::Date, "'2024-02-29'"),
-        (nullable(alloc, Ty::UInt(Width::W64))?, "NULL"),
-        (nullable(alloc, Ty::Int(Width::W8))?, "127"),
-        (nullable(alloc, Ty::Str)?, "'NULL'"),
-        (nullable(alloc, Ty::Str)?, "NULL"),
-        (nullable(alloc, Ty::Date)?, "NULL"),
-    ])
-}
+const ELEMENTS: [(&str, &str); 16] = [
+    ("UInt8", "255"),
+    ("UInt16", "65535"),
+    ("UInt32", "4294967295"),
+    ("UInt64", "18446744073709551615"),
+    ("Int8", "-128"),
+    ("Int16", "-32768"),
+    ("Int32", "-2147483648"),
+    ("Int64", "-9223372036854775808"),
+    ("FixedString(2)", "'a,'"),
+    ("String", "'[\\'\\\\,\\n'"),
+    ("Date", "'2024-02-29'"),
+    ("Nullable(UInt64)", "NULL"),
+    ("Nullable(Int8)", "127"),
+    ("Nullable(String)", "'NULL'"),
+    ("Nullable(FixedString(1))", "NULL"),
+    ("Nullable(Date)", "NULL"),
+];
 
 #[test]
 fn arrays_of_every_type_are_read_and_written(rt: HostRuntime) -> Result<(), Fail> {
     let alloc = rt.alloc();
-    for (ty, element) in elements(alloc)? {
-        let deep = array(alloc, array(alloc, array(alloc, ty)?)?)?;
-        let table = table(alloc, [deep, Ty::Str])?;
-        let line = format!(in alloc; "[[[{element},{element}],[]],[],[[{element}]]]\t\n")?;
+    for (name, element) in ELEMENTS {
+        let deep = format!(in alloc; "Array(Array(Array({name})))")?;
+        let table = table_of(alloc, &[deep.as_str()])?;
+        let line = format!(in alloc; "[[[{element},{element}],[]],[],[[{element}]]]\n")?;
         let written = read_and_written(alloc, &table, line.as_bytes())?;
-        assert_eq!(rt; written.as_slice(), line.as_bytes(), "at {line}");
+        assert_eq!(rt; written.as_slice(), line.as_bytes(), "at {name}");
     }
     Ok(())
 }
