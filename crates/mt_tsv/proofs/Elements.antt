@@ -47,7 +47,7 @@ glued_more bytes i b nesting whole lt is other h =
     let longer : take (i + 1) bytes ≡ take i bytes ++ b ∷ [] = take_more bytes i 0 lt ∙ ap (λ (y : ℕ). take i bytes ++ y ∷ []) (sym is) in
     rw longer (sym (glued-onto (take i bytes) b (elements_from (after nesting b) (drop (i + 1) bytes))) ∙ sym (ap (glued (take i bytes)) one) ∙ h)
 
--- the comma behind the first element
+-- the comma after the first element
 pub glued_stop : (bytes : List ℕ) (i b : ℕ) (nesting : Nesting) (whole : List (List ℕ)) → i < length bytes → b ≡ get_or bytes i 0 → is_comma nesting b ≡ true
     → glued (take i bytes) (elements_from nesting (drop i bytes)) ≡ whole → whole ≡ take i bytes ∷ elements_from (Outside 0) (drop (i + 1) bytes)
 unfolding elements_from

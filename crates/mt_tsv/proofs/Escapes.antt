@@ -60,26 +60,26 @@ text_run (x ∷ bytes) run rest cut =
           rw (not, b.0, more) (onto_prefix x part.0 (text_from rest))
     ]
 
-pub escape_more : (front bytes run rest : List ℕ) (letter : ℕ) (after : List ℕ) (x : ℕ) (whole : Result (List ℕ) RowWhy) → Cut bytes run (Some rest) → rest ≡ letter ∷ after → escaped_byte letter ≡ Some x
-    → with_prefix front (text_of bytes) ≡ whole → with_prefix ((front ++ run) ++ x ∷ []) (text_of after) ≡ whole
+pub escape_more : (prefix bytes run rest : List ℕ) (letter : ℕ) (after : List ℕ) (x : ℕ) (whole : Result (List ℕ) RowWhy) → Cut bytes run (Some rest) → rest ≡ letter ∷ after → escaped_byte letter ≡ Some x
+    → with_prefix prefix (text_of bytes) ≡ whole → with_prefix ((prefix ++ run) ++ x ∷ []) (text_of after) ≡ whole
 unfolding text_after_backslash
-escape_more front bytes run rest letter after x whole cut f g h =
+escape_more prefix bytes run rest letter after x whole cut f g h =
     let one : text_after_backslash rest ≡ onto x (text_of after) = ap text_after_backslash f ∙ rw g refl in
-    sym (with_prefix-onto (front ++ run) x (text_of after)) ∙ ap (with_prefix (front ++ run)) (sym one) ∙ sym (with_prefix-append front run (text_after_backslash rest)) ∙ ap (with_prefix front) (sym (text_run bytes run (Some rest) cut)) ∙ h
+    sym (with_prefix-onto (prefix ++ run) x (text_of after)) ∙ ap (with_prefix (prefix ++ run)) (sym one) ∙ sym (with_prefix-append prefix run (text_after_backslash rest)) ∙ ap (with_prefix prefix) (sym (text_run bytes run (Some rest) cut)) ∙ h
 
-pub escape_cut : (front bytes run rest : List ℕ) (whole : Result (List ℕ) RowWhy) → Cut bytes run (Some rest) → rest ≡ [] → with_prefix front (text_of bytes) ≡ whole → whole ≡ Err Escape
+pub escape_cut : (prefix bytes run rest : List ℕ) (whole : Result (List ℕ) RowWhy) → Cut bytes run (Some rest) → rest ≡ [] → with_prefix prefix (text_of bytes) ≡ whole → whole ≡ Err Escape
 unfolding text_after_backslash
-escape_cut front bytes run rest whole cut f h =
+escape_cut prefix bytes run rest whole cut f h =
     let one : text_after_backslash rest ≡ Err Escape = ap text_after_backslash f in
-    sym h ∙ ap (with_prefix front) (text_run bytes run (Some rest) cut ∙ ap (with_prefix run) one)
+    sym h ∙ ap (with_prefix prefix) (text_run bytes run (Some rest) cut ∙ ap (with_prefix run) one)
 
-pub escape_bad : (front bytes run rest : List ℕ) (letter : ℕ) (after : List ℕ) (whole : Result (List ℕ) RowWhy) → Cut bytes run (Some rest) → rest ≡ letter ∷ after → escaped_byte letter ≡ None
-    → with_prefix front (text_of bytes) ≡ whole → whole ≡ Err Escape
+pub escape_bad : (prefix bytes run rest : List ℕ) (letter : ℕ) (after : List ℕ) (whole : Result (List ℕ) RowWhy) → Cut bytes run (Some rest) → rest ≡ letter ∷ after → escaped_byte letter ≡ None
+    → with_prefix prefix (text_of bytes) ≡ whole → whole ≡ Err Escape
 unfolding text_after_backslash
-escape_bad front bytes run rest letter after whole cut f g h =
+escape_bad prefix bytes run rest letter after whole cut f g h =
     let one : text_after_backslash rest ≡ Err Escape = ap text_after_backslash f ∙ rw g refl in
-    sym h ∙ ap (with_prefix front) (text_run bytes run (Some rest) cut ∙ ap (with_prefix run) one)
+    sym h ∙ ap (with_prefix prefix) (text_run bytes run (Some rest) cut ∙ ap (with_prefix run) one)
 
-pub text_done : (front bytes run : List ℕ) (whole : Result (List ℕ) RowWhy) → Cut bytes run None → with_prefix front (text_of bytes) ≡ whole → whole ≡ Ok (front ++ run)
-text_done front bytes run whole cut h =
-    sym h ∙ ap (with_prefix front) (text_run bytes run None cut) ∙ ap (λ (t : List ℕ). let r : Result (List ℕ) RowWhy = Ok (front ++ t) in r) (append-nil run)
+pub text_done : (prefix bytes run : List ℕ) (whole : Result (List ℕ) RowWhy) → Cut bytes run None → with_prefix prefix (text_of bytes) ≡ whole → whole ≡ Ok (prefix ++ run)
+text_done prefix bytes run whole cut h =
+    sym h ∙ ap (with_prefix prefix) (text_run bytes run None cut) ∙ ap (λ (t : List ℕ). let r : Result (List ℕ) RowWhy = Ok (prefix ++ t) in r) (append-nil run)

@@ -38,9 +38,9 @@ unfolding magnitude_of
 empty [] is = refl
 empty (c ∷ text) is = absurd (omega (arith, eqb-true (length (c ∷ text)) 0 is))
 
-module _ (text first rest : List ℕ) (count : ℕ) (front : first ≡ take count text) (back : rest ≡ drop count text) where
+module _ (text first rest : List ℕ) (count : ℕ) (is_first : first ≡ take count text) (is_rest : rest ≡ drop count text) where
   whole : first ++ rest ≡ text
-  whole = rw (front, back) (take-append-drop count text)
+  whole = rw (is_first, is_rest) (take-append-drop count text)
 
   digits : all_ascii_digits text ≡ (all_ascii_digits first && all_ascii_digits rest)
   digits = ap all_ascii_digits (sym whole) ∙ digits_of_parts first rest

@@ -9,7 +9,7 @@ use Rattle.mt_tsv.specs.declared.nesting.Nesting.TheVariants.{Outside, InQuotes}
 use Rattle.mt_tsv.specs.Nesting.{after, is_comma, elements_from, is_matched_from}
 use Rattle.mt_tsv.proofs.Elements.{glued, glued-nil}
 
--- from one place to another, within one element
+-- from one byte to another, within one element
 pub record IsWalk (start : Nesting) (bytes : List ℕ) (end : Nesting) : Type 0 where
   pub elements : (rest : List ℕ) → elements_from start (bytes ++ rest) ≡ glued bytes (elements_from end rest)
   pub matched : (rest : List ℕ) → is_matched_from start (bytes ++ rest) ≡ is_matched_from end rest

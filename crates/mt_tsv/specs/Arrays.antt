@@ -17,12 +17,15 @@ use Rattle.mt_tsv.specs.Scalars.{scalar_at}
 
 -- ---- the texts of the elements
 
+-- byte 20
 abbrev pub is_space : ℕ → Bool
 is_space b = b == SPACE
 
+-- the text from its first other byte on
 abbrev pub without_first_spaces : List ℕ → List ℕ
 without_first_spaces text = drop (prefix_len is_space text) text
 
+-- the text up to its last other byte
 abbrev pub without_last_spaces : List ℕ → List ℕ
 without_last_spaces text = take (length text - suffix_len is_space text) text
 
@@ -45,7 +48,9 @@ middle text = slice_range text 1 (length text - 1)
 
 -- an array begins and ends with its brackets
 abbrev pub is_bracketed : List ℕ → Bool
-is_bracketed text = if nat_le 2 (length text) then (if slice_index text 0 == OPEN then slice_index text (length text - 1) == CLOSE else false) else false
+is_bracketed text =
+    if nat_le 2 (length text) then (if slice_index text 0 == OPEN then slice_index text (length text - 1) == CLOSE else false)
+    else false
 
 -- ---- one level
 
@@ -68,7 +73,8 @@ unfoldable pub level_of : Bool → List ℕ → Result (List (List ℕ)) RowWhy
 level_of in_quotes text =
     unless_bad (is_bracketed text) BadList
     (unless_bad (is_matched (middle text)) BadList
-    (unless_bad (have_quotes in_quotes (elements_after (unless_blank (middle text)))) BadList (Ok (elements_after (unless_blank (middle text))))))
+    (unless_bad (have_quotes in_quotes (elements_after (unless_blank (middle text)))) BadList
+    (Ok (elements_after (unless_blank (middle text))))))
 
 -- the values of elements, up to the first that is bad
 unfoldable pub items_of : (List ℕ → Result Value RowWhy) → List (List ℕ) → Result (List Value) RowWhy
@@ -91,6 +97,7 @@ array_of element text = do
 
 -- ---- elements by type
 
+-- texts and dates stand in quotes
 abbrev pub needs_quotes : {X : Type 0} → Ty-F X → Bool
 needs_quotes (Ty-F.FixedString size) = true
 needs_quotes Ty-F.Str = true
@@ -101,6 +108,7 @@ needs_quotes _ = false
 abbrev pub scalar_element : {X : Type 0} → Ty-F X → List ℕ → Result Value RowWhy
 scalar_element ty text = if is_null_word text then Err Null else scalar_at ty (if needs_quotes ty then middle text else text)
 
+-- how elements of a type are written, where those of the inner type are known
 abbrev pub element_step : Ty-F Element → Element
 element_step (Ty-F.Nullable inner) = record { in_quotes = inner.in_quotes; read = λ text. if is_null_word text then Ok NullValue else inner.read text }
 element_step (Ty-F.Array inner) = record { in_quotes = false; read = λ text. if is_null_word text then Err Null else array_of inner text }

@@ -48,6 +48,7 @@ month_of_days zero year month days = (month, days)
 month_of_days (suc months) year month days =
     if nat_lt days (days_in_month (pos year) month) then (month, days) else month_of_days months year (month + 1) (days - days_in_month (pos year) month)
 
+-- the year, month and day of a year and the days since its beginning
 abbrev pub date_in_year : ℕ × ℕ → ℕ × (ℕ × ℕ)
 date_in_year (year, days) = let month = month_of_days 12 year 1 days in (year, (month.0, month.1 + 1))
 
@@ -55,6 +56,7 @@ date_in_year (year, days) = let month = month_of_days 12 year 1 days in (year, (
 unfoldable pub civil_of : ℕ → ℕ × (ℕ × ℕ)
 civil_of day = date_in_year (year_of_days 180 1970 day)
 
+-- a number below 100 as two digits
 abbrev pub two_digits : ℕ → List ℕ
 two_digits n = (48 + n / 10) ∷ (48 + n % 10) ∷ []
 

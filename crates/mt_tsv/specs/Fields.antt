@@ -19,6 +19,7 @@ is_null _ = false
 abbrev pub unless_null : List ℕ → Result Value RowWhy → Result Value RowWhy
 unless_null field reading = if is_null field then Err Null else reading
 
+-- the value of a field: NULL only in a Nullable column; an array has NULL in its brackets alone
 abbrev pub field_at : Ty-F Ty → List ℕ → Result Value RowWhy
 field_at (Ty-F.Nullable inner) field = if is_null field then Ok NullValue else scalar_of inner field
 field_at (Ty-F.Array inner) field = array_of (element_of inner) field

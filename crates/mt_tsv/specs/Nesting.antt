@@ -21,10 +21,12 @@ after (InQuotes depth) b = if b == QUOTE then Outside depth else if b == BACKSLA
 after (Escaped depth) b = InQuotes depth
 after Unmatched b = Unmatched
 
+-- all quotes are closed
 abbrev pub is_outside : Nesting → Bool
 is_outside (Outside depth) = true
 is_outside _ = false
 
+-- all quotes and inner brackets are closed
 abbrev pub is_level : Nesting → Bool
 is_level (Outside depth) = depth == 0
 is_level _ = false
@@ -39,6 +41,7 @@ unfoldable pub is_matched_from : Nesting → List ℕ → Bool
 is_matched_from nesting [] = is_level nesting
 is_matched_from nesting (b ∷ rest) = is_matched_from (after nesting b) rest
 
+-- the same of what stands between the brackets of an array
 abbrev pub is_matched : List ℕ → Bool
 is_matched content = is_matched_from (Outside 0) content
 

@@ -13,12 +13,13 @@ use Rattle.mt_tsv.specs.declared.ascii.TheConstants.{TAB, LINE_END, BACKSLASH, Q
 use Rattle.mt_tsv.specs.Dates.{date_text}
 use Rattle.mt_tsv.specs.Arrays.{needs_quotes}
 
--- the letter behind a backslash that stands for this byte: b, f, r, n, t, 0, ' or \
+-- the letter that stands for this byte after a backslash: b, f, r, n, t, 0, ' or \
 abbrev pub letter_of : ℕ → Option ℕ
 letter_of b =
     if b == 8 then Some 98 else if b == 12 then Some 102 else if b == 13 then Some 114 else if b == 10 then Some 110
     else if b == 9 then Some 116 else if b == 0 then Some 48 else if b == 39 then Some 39 else if b == 92 then Some 92 else None
 
+-- a backslash and the letter, where there is one, or the byte itself
 abbrev pub with_letter : ℕ → Option ℕ → List ℕ
 with_letter b (Some letter) = BACKSLASH ∷ letter ∷ []
 with_letter b None = b ∷ []
@@ -36,7 +37,7 @@ abbrev pub day_text : ℤ → List ℕ
 day_text (pos day) = if nat_lt day (2 ^ 16) then date_text day else []
 day_text (negsuc n) = []
 
--- a value that is no NULL and no array; nothing where it isn't one of the type
+-- a value of a type that is no Nullable and no array; nothing where it isn't of the type
 abbrev pub scalar_text_at : {X Y : Type 0} → Ty-F X → Value-F Y → List ℕ
 scalar_text_at (Ty-F.UInt width) (Value-F.Num n) = signed_decimal n
 scalar_text_at (Ty-F.Int width) (Value-F.Num n) = signed_decimal n
@@ -45,6 +46,7 @@ scalar_text_at (Ty-F.FixedString size) (Value-F.Text bytes) = escaped_text bytes
 scalar_text_at Ty-F.Str (Value-F.Text bytes) = escaped_text bytes
 scalar_text_at _ _ = []
 
+-- the same of a written-out type and value
 unfoldable pub scalar_text : Ty → Value → List ℕ
 scalar_text ty value = scalar_text_at (out-Ty ty) (out-Value value)
 
@@ -63,15 +65,17 @@ abbrev pub quoted_if : Bool → List ℕ → List ℕ
 quoted_if true text = QUOTE ∷ (text ++ QUOTE ∷ [])
 quoted_if false text = text
 
+-- an element of an array, where elements of the inner type are known
 abbrev pub element_text_step : Ty-F (Value → List ℕ) → Value → List ℕ
 element_text_step (Ty-F.Nullable inner) value = if null_at (out-Value value) then codes "NULL" else inner value
 element_text_step (Ty-F.Array inner) value = array_text_at inner (out-Value value)
 element_text_step ty value = quoted_if (needs_quotes ty) (scalar_text_at ty (out-Value value))
 
--- an element of an array
+-- an element of an array of this type
 abbrev pub element_text : Ty → Value → List ℕ
 element_text = fold-Ty (Value → List ℕ) element_text_step
 
+-- NULL is \N in a column and NULL in an array
 abbrev pub field_text_at : Ty-F Ty → Value → List ℕ
 field_text_at (Ty-F.Nullable inner) value = if null_at (out-Value value) then codes "\\N" else scalar_text inner value
 field_text_at (Ty-F.Array inner) value = array_text_at (element_text inner) (out-Value value)
@@ -81,6 +85,7 @@ field_text_at ty value = scalar_text_at ty (out-Value value)
 unfoldable pub field_text : Ty → Value → List ℕ
 field_text ty value = field_text_at (out-Ty ty) value
 
+-- the fields of a row
 unfoldable pub field_texts : List Column → List Value → List (List ℕ)
 field_texts (column ∷ columns) (value ∷ row) = field_text column.ty value ∷ field_texts columns row
 field_texts _ _ = []

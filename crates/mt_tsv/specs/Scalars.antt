@@ -28,7 +28,7 @@ integer_of (c ∷ text) =
     if c == MINUS then (magnitude_of text >>= λ n. Ok (neg_ℤ (pos n)))
     else (magnitude_of (c ∷ text) >>= λ n. Ok (pos n))
 
--- an integer of a type, which the test is
+-- an integer of the type that has this test
 unfoldable pub number_of : (ℤ → Bool) → List ℕ → Result ℤ RowWhy
 number_of is_in_type text = do
   n ← integer_of text
@@ -52,5 +52,6 @@ scalar_at Ty-F.Str text = bounded_text MAX_TEXT text >>= λ bytes. Ok (Text byte
 scalar_at Ty-F.Date text = day_of (date_of text)
 scalar_at _ text = Err BadList
 
+-- the same of a written-out type
 unfoldable pub scalar_of : Ty → List ℕ → Result Value RowWhy
 scalar_of ty text = scalar_at (out-Ty ty) text

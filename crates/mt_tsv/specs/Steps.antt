@@ -16,11 +16,11 @@ abbrev pub ◌>>=◌ : {A B E : Type 0} → Result A E → (A → Result B E) �
 abbrev pub unless_bad : {B E : Type 0} → Bool → E → Result B E → Result B E
 unless_bad ok why next = if ok then next else Err why
 
--- one more item in front
+-- one more item before the others
 abbrev pub onto : {A E : Type 0} → A → Result (List A) E → Result (List A) E
 onto x read = read >>= λ xs. Ok (x ∷ xs)
 
--- a field that was refused for a reason of its own, or for memory
+-- what is wrong with the field, unless memory was refused
 abbrev pub Fails : {A : Type 0} → FieldError → Result A RowWhy → Type 0
 Fails (field.Bad why) reading = reading ≡ Err why
 Fails field.NoMemory reading = Unit {0}
@@ -30,7 +30,7 @@ abbrev pub Gives : {A : Type 0} → Result A FieldError → Result A RowWhy → 
 Gives (Ok x) reading = reading ≡ Ok x
 Gives (Err e) reading = Fails e reading
 
--- a text that was refused for a reason of its own, or for memory
+-- what is wrong with the text, unless memory was refused
 abbrev pub RowsFail : {A : Type 0} → RowError → Result A RowError → Type 0
 RowsFail row.NoMemory reading = Unit {0}
 RowsFail error reading = reading ≡ Err error

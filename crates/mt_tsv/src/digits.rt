@@ -39,10 +39,11 @@ fn short_number(text: &[u8]) -> Option<u64>
     Some(number)
 }
 
-/// The number of more digits behind those of another number, if it is below 2^64.
+/// The number of the digits of another number and these, if it is below 2^64.
 fn number_after(first: u64, text: &[u8]) -> Option<u64>
     requires { IsTrue (all_ascii_digits text.now) }
-    ensures { SomeIff result (digits_value_after 10 first text.now < 2 ^ 64) (digits_value_after 10 first text.now) }
+    ensures { let number = digits_value_after 10 first text.now in
+        SomeIff result (number < 2 ^ 64) number }
 {
     let mut number = first;
     for c in text {

@@ -6,7 +6,7 @@ ghost use Rattle.mt_tsv.specs.Printing.{letter_of, escaped_text};
 use crate::ascii::BACKSLASH;
 use mt_types::{List, NoMemory};
 
-/// The letter that stands behind a backslash for this byte, if it wants one.
+/// The letter that stands for this byte after a backslash, if it is written so.
 fn letter(byte: u8) -> Option<u8>
     ensures { result ≡ letter_of byte }
 {

@@ -13,7 +13,7 @@ use crate::nesting::{element_end, is_matched};
 use crate::quote::is_text_element;
 use crate::space::{trimmed, unless_blank};
 
-/// The first element, and what follows the comma behind it, if there is one.
+/// The first element, and what follows its comma, if there is one.
 pub fn cut_element(content: &[u8]) -> (&[u8], Option<&[u8]>)
     ensures elements { elements_after (Some content.now)
         ≡ result.0.now ∷ elements_after (option_copied result.1) }

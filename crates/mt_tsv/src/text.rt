@@ -74,7 +74,7 @@ fn pad(alloc: Global, size: usize, text: List<u8>) -> Result<List<u8>, NoMemory>
     Ok(padded)
 }
 
-/// The text of a `FixedString` of so many bytes, with zero bytes behind a shorter one.
+/// The text of a `FixedString` of so many bytes, a shorter one padded with zero bytes.
 #[tactic(auto, unfolding(crate::specs::Texts::bounded_text, crate::specs::Texts::padded_text))]
 pub fn read_fixed(alloc: Global, size: u32, field: &[u8]) -> Result<List<u8>, FieldError>
     ensures { Gives result (padded_text size field.now) }
