@@ -1,6 +1,7 @@
 //! Lines that are refused, with their first why.
 
-use super::table_of;
+use crate::tables::table_of;
+use mt_tsv::{RowError, RowWhy, read_rows};
 use std::alloc::Global;
 use std::test::Fail;
 

@@ -7,7 +7,7 @@ use std::alloc::Global;
 use std::test::Fail;
 
 /// A table of columns of these types.
-fn table_of(alloc: Global, types: &[&str]) -> Result<Table, Fail> {
+pub fn table_of(alloc: Global, types: &[&str]) -> Result<Table, Fail> {
     let mut columns = List::new(alloc);
     for name in types {
         columns.push(Column {
