@@ -151,17 +151,17 @@ single_of t not_nullable not_array = single_at t (out-Ty t) refl (level_single (
     level_single Ty-F.CountState is = tt
 
 -- a type that may stand in Nullable
-scalar_single : (t : Ty) → Known t → IsScalar (kind_of t) → IsSingle t
-scalar_single t (unsigned w is k) scalar = single_at t (Ty-F.UInt w) (ap out-Ty is ∙ outs-UInt w) tt
-scalar_single t (signed w is k) scalar = single_at t (Ty-F.Int w) (ap out-Ty is ∙ outs-Int w) tt
-scalar_single t (day is k) scalar = single_at t Ty-F.Date (ap out-Ty is ∙ outs-Date) tt
-scalar_single t (text is k) scalar = single_at t Ty-F.Str (ap out-Ty is ∙ outs-Str) tt
-scalar_single t (fixed n is low high k) scalar = single_at t (Ty-F.FixedString n) (ap out-Ty is ∙ outs-FixedString n) tt
-scalar_single t (optional inner is s k) scalar = absurd (subst IsScalar k scalar)
-scalar_single t (nested inner depth is e k) scalar = absurd (subst IsScalar k scalar)
-scalar_single t (stored agg inner is e k) scalar = absurd (subst IsScalar k scalar)
-scalar_single t (counted is k) scalar = absurd (subst IsScalar k scalar)
-scalar_single t (outside k) scalar = absurd (subst IsScalar k scalar)
+scalar_level : (t : Ty) → Known t → IsScalar (kind_of t) → IsSingleLevel (out-Ty t)
+scalar_level t (unsigned w is k) scalar = subst IsSingleLevel (sym (ap out-Ty is ∙ outs-UInt w)) tt
+scalar_level t (signed w is k) scalar = subst IsSingleLevel (sym (ap out-Ty is ∙ outs-Int w)) tt
+scalar_level t (day is k) scalar = subst IsSingleLevel (sym (ap out-Ty is ∙ outs-Date)) tt
+scalar_level t (text is k) scalar = subst IsSingleLevel (sym (ap out-Ty is ∙ outs-Str)) tt
+scalar_level t (fixed n is low high k) scalar = subst IsSingleLevel (sym (ap out-Ty is ∙ outs-FixedString n)) tt
+scalar_level t (optional inner is s k) scalar = absurd (subst IsScalar k scalar)
+scalar_level t (nested inner depth is e k) scalar = absurd (subst IsScalar k scalar)
+scalar_level t (stored agg inner is e k) scalar = absurd (subst IsScalar k scalar)
+scalar_level t (counted is k) scalar = absurd (subst IsScalar k scalar)
+scalar_level t (outside k) scalar = absurd (subst IsScalar k scalar)
 
 optional_scalar : (k : Kind) → is_known (optional_kind k) ≡ true → IsScalar k
 optional_scalar Whole e = tt
@@ -173,8 +173,11 @@ optional_scalar Stored e = cc
 optional_scalar Unknown e = cc
 
 -- what stands in a Nullable type of the profile
+pub nullable_level : (t : Ty) → is_profile (Nullable t) ≡ true → IsSingleLevel (out-Ty t)
+nullable_level t profile = scalar_level t (known t) (optional_scalar (kind_of t) (ap is_known (sym (kind-Nullable t)) ∙ profile))
+
 pub nullable_single : (t : Ty) → is_profile (Nullable t) ≡ true → IsSingle t
-nullable_single t profile = scalar_single t (known t) (optional_scalar (kind_of t) (ap is_known (sym (kind-Nullable t)) ∙ profile))
+nullable_single t profile = single_at t (out-Ty t) refl (nullable_level t profile)
 
 -- the kinds of what stands in an array
 array_of_kind : (k : Kind) → is_known (array_kind k) ≡ true → (is_known k ≡ true) × (levels_of_kind (array_kind k) ≡ suc (levels_of_kind k))

@@ -5,7 +5,11 @@
 
 mod encoding;
 mod item;
+mod law;
 mod stream;
+#[cfg(test)]
+mod tests;
 
 pub use encoding::encode;
+pub use law::written_streams_encode_their_values;
 pub use stream::{Stream, streams_of};
