@@ -18,7 +18,12 @@ const VALUE_BYTES: usize = 8;
 
 /// The bytes of primary.idx (docs/FORMAT.md, "Primary index"; ClickHouse:
 /// `MergeTreeDataPartWriterOnDisk`), of rows that are cut into granules of so many rows each.
-pub fn primary_bytes(alloc: Global, def: &PartDef, rows: &[Row], granules: &[u64]) -> Result<List<u8>, NoMemory>
+pub fn primary_bytes(
+    alloc: Global,
+    def: &PartDef,
+    rows: &[Row],
+    granules: &[u64],
+) -> Result<List<u8>, NoMemory>
     requires keys { AreKeys def.now.columns def.now.sort }
     requires primary { def.now.primary ≤ length def.now.sort }
     requires fit { All (RowFits def.now.columns) rows.now }
@@ -42,7 +47,12 @@ pub fn primary_bytes(alloc: Global, def: &PartDef, rows: &[Row], granules: &[u64
 }
 
 /// Appends the keys of some rows.
-fn append_keys(columns: &[Column], keys: &[u32], rows: &[Row], out: &mut Vec<u8>) -> Result<(), NoMemory>
+fn append_keys(
+    columns: &[Column],
+    keys: &[u32],
+    rows: &[Row],
+    out: &mut Vec<u8>,
+) -> Result<(), NoMemory>
     requires keys { AreKeys columns.now keys.now }
     requires fit { All (RowFits columns.now) rows.now }
     ensures { OnOk result (out.new.items ≡
@@ -55,7 +65,12 @@ fn append_keys(columns: &[Column], keys: &[u32], rows: &[Row], out: &mut Vec<u8>
 }
 
 /// Appends a row's values of the key's columns.
-fn append_key(columns: &[Column], keys: &[u32], row: &Row, out: &mut Vec<u8>) -> Result<(), NoMemory>
+fn append_key(
+    columns: &[Column],
+    keys: &[u32],
+    row: &Row,
+    out: &mut Vec<u8>,
+) -> Result<(), NoMemory>
     requires keys { AreKeys columns.now keys.now }
     requires fits { RowFits columns.now row.now }
     ensures { OnOk result (out.new.items ≡ out.old.items ++ key_bytes columns.now keys.now row.now) }
