@@ -1,4 +1,7 @@
 mod DigitLemmas
+mod NumberLemmas
+mod ItemReading
+mod KeyReadingLemmas
 mod ItemLemmas
 mod KeyLemmas
 mod PlainLemmas

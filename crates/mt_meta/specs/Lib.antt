@@ -4,3 +4,4 @@ pub mod CountReading
 pub mod ColumnsReading
 pub mod Results
 pub mod Keys
+pub mod KeyReading

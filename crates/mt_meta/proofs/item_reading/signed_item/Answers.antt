@@ -1,0 +1,21 @@
+use Rattle.std.proofs.Common.{ℤ, Some, sym, subst, ◌∙◌}
+use Rattle.std.specs.Int.{cast_signed}
+use Rattle.mt_types.specs.Items.{width}
+use Rattle.std.specs.Int.{w128}
+use Rattle.std.proofs.lemmas.Int.{to_z-of_z}
+use Rattle.mt_types.specs.declared.ty.Ty.TheVariants.{Int}
+use Rattle.mt_types.specs.declared.value.Value.TheVariants.{Num}
+use Rattle.mt_types.specs.Fits.{fits_of}
+use Rattle.mt_types.specs.Items.{item_bytes}
+use Rattle.mt_meta.specs.KeyReading.{IsFirst}
+use Rattle.mt_meta.proofs.ItemReading.{first_number, no_number, numbers_Int}
+use Rattle.mt_meta.proofs.item_reading.signed_item.Goals as goal
+
+pub returns-in-Some : goal.returns-in-Some
+returns-in-Some c =
+    let number = to_z-of_z w128 c.signed.result (record { sfits = c.signed.type_inv }) ∙ c.signed.ensures in
+    let first = first_number (Int c.args.width) c.args.width (cast_signed (width c.args.width)) (numbers_Int c.args.width) c.in-Some.number c.args.bytes.now c.in-Some.rest.now c.in-Some.ensures.0 c.in-Some.ensures.1 in
+    subst (λ (n : ℤ). IsFirst (fits_of (Int c.args.width)) (item_bytes (Int c.args.width)) c.args.bytes.now (Some (Num n, c.in-Some.rest.now))) (sym number) first
+
+pub returns-in-None : goal.returns-in-None
+returns-in-None c = no_number (Int c.args.width) c.args.width (cast_signed (width c.args.width)) (numbers_Int c.args.width) c.args.bytes.now c.in-None.ensures
