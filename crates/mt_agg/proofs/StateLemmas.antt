@@ -148,7 +148,7 @@ stored_kind Min _ is = cc
 stored_kind Max _ is = cc
 
 -- the types of a number's kind
-number_known : (t : Ty) → Known t → IsNumber (kind_of t) → is_number_type t ≡ true
+pub number_known : (t : Ty) → Known t → IsNumber (kind_of t) → is_number_type t ≡ true
 number_known t (unsigned w is k) number = ap is_number_type is ∙ ap is_number_at (outs-UInt w)
 number_known t (signed w is k) number = ap is_number_type is ∙ ap is_number_at (outs-Int w)
 number_known t (day is k) number = ap is_number_type is ∙ ap is_number_at outs-Date
