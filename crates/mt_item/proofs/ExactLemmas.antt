@@ -5,6 +5,8 @@ use Rattle.std.specs.Borrow.{Bor}
 use Rattle.std.proofs.lemmas.Bool.{leb-true, le-leb, lt-leb, eqb-true, eq-eqb, lt-ltb, ltb-true}
 use Rattle.std.proofs.lemmas.List.{length-append, length-take, take-append-drop}
 use Rattle.std.proofs.Math.Seq.{take-append_seam, drop-append_seam}
+use Rattle.std.proofs.lemmas.List.Elements.{All-head, All-tail}
+use Rattle.mt_defs.specs.Lists.{AreBytes}
 use Rattle.mt_types.specs.declared.limits.TheConstants.{MAX_TEXT}
 use Rattle.mt_types.specs.declared.ty.Ty.{Ty}
 use Rattle.mt_types.specs.declared.value.Value.{Value}
@@ -55,7 +57,7 @@ first_item t read exact bytes small (Err NoMemory) reads = tt
 pub record IsImage {A B : Type 0} (f : A → B) (fits : A → Bool) (item : A → List ℕ) (fits' : B → Bool) (item' : B → List ℕ) : Type 0 where
   pub values : (v : B) → fits' v ≡ true → (a : A) × (v ≡ f a) × (fits a ≡ true)
   pub fit : (a : A) → fits a ≡ true → fits' (f a) ≡ true
-  pub item : (a : A) → fits a ≡ true → item' (f a) ≡ item a
+  pub items : (a : A) → fits a ≡ true → item' (f a) ≡ item a
 
 pub as_exact : {A B : Type 0} (f : A → B) (read : List ℕ → First A) (fits : A → Bool) (item : A → List ℕ) (fits' : B → Bool) (item' : B → List ℕ)
     → IsImage f fits item fits' item' → IsExact read fits item → IsExact (λ bytes. read_as f (read bytes)) fits' item'
@@ -64,10 +66,10 @@ as_exact {A} {B} f read fits item fits' item' image exact = record {
       ok_then (read bytes) (λ first. Ok (f first.0, first.1)) (v, rest) e (λ first is e.
       let p = ok_pair _ _ _ _ e in
       let s = exact.sound bytes first.0 first.1 small is in
-      (ap fits' p.0 ∙ image.fit first.0 s.0, s.1 ∙ ap (λ (bs : List ℕ). bs ++ first.1) (sym (image.item first.0 s.0)) ∙ ap (λ (x : B). item' x ++ first.1) (sym p.0) ∙ ap (λ (bs : List ℕ). item' v ++ bs) (sym p.1)));
-  complete = λ v rest fits'.
-      let u = image.values v fits' in
-      let same = ap read (ap (λ (x : B). item' x ++ rest) u.1 ∙ ap (λ (bs : List ℕ). bs ++ rest) (image.item u.0 u.2)) in
+      (ap fits' p.0 ∙ image.fit first.0 s.0, s.1 ∙ ap (λ (bs : List ℕ). bs ++ first.1) (sym (image.items first.0 s.0)) ∙ ap (λ (x : B). item' x ++ first.1) (sym p.0) ∙ ap (λ (bs : List ℕ). item' v ++ bs) (sym p.1)));
+  complete = λ v rest fit.
+      let u = image.values v fit in
+      let same = ap read (ap (λ (x : B). item' x ++ rest) u.1 ∙ ap (λ (bs : List ℕ). bs ++ rest) (image.items u.0 u.2)) in
       ap (read_as f) (same ∙ exact.complete u.0 rest u.2) ∙ ap (λ (x : B). let r : First B = Ok (x, rest) in r) (sym u.1);
 }
 
@@ -219,3 +221,9 @@ held_exact number fits item exact = record { sound = sound; complete = complete 
 pub no_bytes : (bytes : List ℕ) → length bytes ≡ 0 → bytes ≡ []
 no_bytes [] e = refl
 no_bytes (byte ∷ bytes) e = absurd (omega arith)
+
+-- numbers that are bytes
+pub small_of : (bytes : List ℕ) → AreBytes bytes → Small bytes
+small_of [] are i = lit< tt
+small_of (byte ∷ bytes) are zero = All-head (λ byte. byte < 256) byte bytes are
+small_of (byte ∷ bytes) are (suc i) = small_of bytes (All-tail (λ byte. byte < 256) byte bytes are) i

@@ -5,6 +5,7 @@
 #![tactic(auto)]
 
 mod fault;
+mod law;
 mod number;
 mod reading;
 mod state;
@@ -14,5 +15,6 @@ mod text;
 mod writing;
 
 pub use fault::{CodecWhy, ItemError};
+pub use law::{only_items_are_read, written_items_are_read};
 pub use reading::read_item;
 pub use writing::put_item;

@@ -51,11 +51,13 @@ fn read_held<'a>(ty: &Ty, bytes: &'a [u8]) -> Result<(Option<i128>, &'a [u8]), C
     let Some((first, rest)) = bytes.split_first() else {
         return Err(CodecWhy::Short);
     };
-    match *first {
-        0 => Ok((None, rest)),
-        1 => read_some(ty, rest),
-        _ => Err(CodecWhy::HasByte),
+    if *first > 1 {
+        return Err(CodecWhy::HasByte);
     }
+    if *first == 0 {
+        return Ok((None, rest));
+    }
+    read_some(ty, rest)
 }
 
 fn read_some<'a>(ty: &Ty, bytes: &'a [u8]) -> Result<(Option<i128>, &'a [u8]), CodecWhy>
