@@ -1,0 +1,1 @@
+//! Tokens of texts, and the calls that take memory with ample memory.
