@@ -1,0 +1,4 @@
+pub mod TextLemmas
+pub mod NumberLemmas
+pub mod TokenRuns
+pub mod TokenLemmas
