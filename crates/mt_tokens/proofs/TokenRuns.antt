@@ -1,5 +1,5 @@
 -- The tokens of a text, one after the other.
-use Rattle.std.proofs.Common.{◌≡◌, ℕ, suc, ◌+◌, ◌<◌, ◌≤◌, Bool, true, List, [], ◌∷◌, ◌++◌, length, take, drop, eqb, Option, Some, None, option_map, refl, sym, ap, subst, ◌∙◌, append_assoc, length-drop, arith}
+use Rattle.std.proofs.Common.{◌≡◌, ℕ, ◌+◌, ◌<◌, ◌≤◌, Bool, true, List, [], ◌∷◌, ◌++◌, length, take, drop, eqb, Option, Some, None, option_map, refl, sym, ap, subst, ◌∙◌, append_assoc, length-drop, arith}
 use Rattle.std.specs.List.{prefix_len}
 use Rattle.std.specs.Char.{is_ascii_digit}
 use Rattle.std.proofs.lemmas.Bool.{cond_both, or_left}
@@ -8,11 +8,11 @@ use Rattle.std.specs.Prelude.{position, ◌==◌}
 use Rattle.mt_tokens.specs.declared.ascii.TheConstants.{QUOTE, BACKQUOTE}
 use Rattle.mt_tokens.specs.declared.sign.Sign.{Sign}
 use Rattle.mt_tokens.specs.Bytes.{is_blank, is_word_start, is_word_byte}
-use Rattle.mt_tokens.specs.Tokens.{Tok, Word, Quoted, Text, Digits, OfSign}
+use Rattle.mt_tokens.specs.Tokens.{Tok, Word, Quoted, Digits, OfSign}
 use Rattle.mt_tokens.specs.Words.{is_name}
 use Rattle.mt_tokens.specs.Texts.{text_len}
 use Rattle.mt_tokens.specs.Signs.{double_sign, single_sign, sign_or, sign_at}
-use Rattle.mt_tokens.specs.Lexis.{run_of, text_of_len, text_at, name_of_len, quoted_at, token_at, skip_blanks, AreTokens, IsTokens}
+use Rattle.mt_tokens.specs.Lexis.{run_of, text_of_len, name_of_len, token_at, skip_blanks, AreTokens, IsTokens}
 
 -- what was read of a text, and what is left of it: any tokens of the rest complete it, and any
 -- tokens of the text go on from it
@@ -72,7 +72,7 @@ sign_shorter : (c : ℕ) (rest : List ℕ) → AtMost (length rest) (sign_at (c 
 sign_shorter c [] = sign_or_at_most (length (let none : List ℕ = [] in none)) (single_sign c) [] None (omega arith) tt
 sign_shorter c (d ∷ rest) =
     sign_or_at_most (length (d ∷ rest)) (double_sign c d) rest (sign_or (single_sign c) (d ∷ rest) None) (omega arith)
-      (sign_or_at_most (length (d ∷ rest)) (single_sign c) (d ∷ rest) None (omega arith) tt)
+    (sign_or_at_most (length (d ∷ rest)) (single_sign c) (d ∷ rest) None (omega arith) tt)
 
 of_sign_shorter : (most : ℕ) (o : Option (Sign × List ℕ)) → AtMost most o → AtMost most (option_map (λ x. (let t : Tok = OfSign x.0 in t, x.1)) o)
 of_sign_shorter most None h = tt

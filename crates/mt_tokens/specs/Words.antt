@@ -7,7 +7,7 @@ use Rattle.mt_tokens.specs.declared.limits.TheConstants.{MAX_NAME}
 use Rattle.mt_tokens.specs.declared.sign.Sign.{Sign}
 use Rattle.mt_tokens.specs.declared.sign.Sign.TheVariants.{Open, Close, Comma, Dot, Semicolon, Star, Minus, Equal, NotEqual, Less, LessEqual, Greater, GreaterEqual}
 use Rattle.mt_tokens.specs.Bytes.{is_word_start, is_word_byte}
-use Rattle.mt_tokens.specs.Tokens.{Tok, Word, Quoted, Text, Digits, OfSign}
+use Rattle.mt_tokens.specs.Tokens.{Tok, Word, Quoted, OfSign}
 
 -- a word of 1 to 64 bytes
 abbrev pub is_name : List ℕ → Bool

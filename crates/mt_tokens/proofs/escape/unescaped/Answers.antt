@@ -1,4 +1,4 @@
-use Rattle.std.proofs.Common.{◌≡◌, ◌<◌, ◌∷◌, ◌++◌, [], length, sym, ap, ◌∙◌, arith}
+use Rattle.std.proofs.Common.{sym, ◌∙◌}
 use Rattle.mt_tokens.specs.Texts.{unescaped}
 use Rattle.mt_tokens.proofs.TextLemmas.{unescaped_ends, unescaped_is_cut, unescaped_goes_on}
 use Rattle.mt_tokens.proofs.escape.unescaped.Goals as goal
