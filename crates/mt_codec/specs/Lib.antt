@@ -1,2 +1,4 @@
 pub mod StreamOrder
 pub mod Runs
+pub mod ColumnReading
+pub mod Results

@@ -3,13 +3,17 @@
 //! `encode` gives exactly the writer's substreams.
 #![tactic(auto)]
 
+mod decoding;
 mod encoding;
+mod fault;
 mod law;
 mod stream;
 #[cfg(test)]
 mod tests;
 
+pub use decoding::{decode, decode_front};
 pub use encoding::encode;
+pub use fault::CodecError;
 pub use law::written_streams_encode_their_values;
 pub use mt_item::CodecWhy;
 pub use stream::{Stream, streams_of};
