@@ -2,3 +2,4 @@ pub mod StreamOrder
 pub mod Runs
 pub mod ColumnReading
 pub mod Results
+pub mod Cursor

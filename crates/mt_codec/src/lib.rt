@@ -3,11 +3,15 @@
 //! `encode` gives exactly the writer's substreams.
 #![tactic(auto)]
 
+mod arrays;
 mod decoding;
 mod encoding;
 mod fault;
+mod items;
 mod law;
+mod nulls;
 mod stream;
+mod streams;
 #[cfg(test)]
 mod tests;
 
