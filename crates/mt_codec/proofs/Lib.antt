@@ -7,3 +7,6 @@ pub mod CursorLemmas
 pub mod NullLemmas
 pub mod ArrayLemmas
 pub mod ColumnLemmas
+pub mod ExactLemmas
+pub mod TypeLemmas
+pub mod DecodedLemmas

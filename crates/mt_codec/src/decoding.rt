@@ -1,10 +1,11 @@
 //! Reading a column: its substreams as values.
 
-ghost use Rattle.std.specs.Prelude.{◌≡◌, ◌+◌, ◌≤◌, IfOk, IsTrue, List as Seq, length, ℕ};
+ghost use Rattle.std.specs.Prelude.{◌≡◌, ◌+◌, ◌≤◌, All, IfOk, IsTrue, List as Seq, length, ℕ};
 ghost use Rattle.mt_types.specs.declared.limits.TheConstants.{MAX_ARRAY_DEPTH};
 ghost use Rattle.mt_types.specs.declared.value.Value.{Value as Entry};
 ghost use Rattle.mt_types.specs.Profile.{is_profile};
 ghost use Rattle.mt_table.specs.declared.limits.TheConstants.{MAX_ROWS};
+ghost use Rattle.mt_defs.specs.Lists.{AreBytes};
 ghost use Rattle.mt_item.specs.ItemReading.{item_front};
 ghost use Rattle.mt_item.specs.ItemTypes.{has_items};
 ghost use Rattle.mt_codec.specs.ColumnReading.{column_from, decode_reading, front_reading, nullable_from, stream_from};
@@ -39,8 +40,19 @@ pub fn decode(
     ensures only { (values : Seq Entry) → AreValues ty.now rows streams.now values
         → Returns values result }
 {
+    know_bytes(streams);
     let (values, _) = read_column(alloc, ty, 0, u128::from(rows), Streams::Apart(streams))?;
     Ok(values)
+}
+
+/// Does nothing but know that the numbers of each list are bytes, as those of any slice of `u8`
+/// are; a contract sees of a list its elements alone.
+fn know_bytes(streams: &[List<u8>])
+    ensures { All AreBytes streams.now }
+{
+    for stream in streams {
+        let _ = stream.as_slice();
+    }
 }
 
 /// The values, so many, that the substreams at the start of some bytes serialize, one after another,
