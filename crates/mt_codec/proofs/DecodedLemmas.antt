@@ -1,5 +1,5 @@
 -- What `decode` and `decode_front` return.
-use Rattle.std.proofs.Common.{◌≡◌, ℕ, zero, suc, ◌+◌, ◌-◌, ◌<◌, ◌≤◌, true, get_or, List, [], ◌∷◌, ◌++◌, length, take, drop, Result, Ok, Err, refl, ap, sym, ◌∙◌, subst, arith}
+use Rattle.std.proofs.Common.{◌≡◌, ℕ, zero, suc, ◌+◌, ◌-◌, ◌<◌, ◌≤◌, true, get_or, List, [], ◌∷◌, ◌++◌, length, take, drop, Result, Ok, Err, refl, ap, sym, ◌∙◌, subst, arith, ◌⊎◌, inl, inr}
 use Rattle.std.specs.Prelude.{All}
 use Rattle.std.specs.List.{flat_map}
 use Rattle.std.proofs.lemmas.List.{get_or_default}
@@ -79,9 +79,24 @@ returns_front bytes reading values used (Err NoMemory) gives few is = tt
 
 pub all_bytes : (streams : List (List ℕ)) (i : ℕ) → length streams ≤ i → ((k j : ℕ) → k < i → get_or (get_or streams k []) j 0 < 256) → All AreBytes streams
 all_bytes streams i done are k d less j e inside =
-    let here = are k j (omega (arith, less, done)) in
-    rw (get_or_default streams k d [] less) at inside |> λ inside'. rw (get_or_default streams k d [] less, get_or_default (get_or streams k []) j e 0 inside') here
+    let row : get_or streams k d ≡ get_or streams k [] = get_or_default streams k d [] less in
+    let inside' : j < length (get_or streams k []) = subst (λ (r : List ℕ). j < length r) row inside in
+    let here : get_or (get_or streams k []) j 0 < 256 = are k j (omega (arith, less, done)) in
+    subst (λ (r : List ℕ). get_or r j e < 256) (sym row) (subst (λ (n : ℕ). n < 256) (sym (get_or_default (get_or streams k []) j e 0 inside')) here)
 
 pub small_lists : (streams : List (List ℕ)) → All AreBytes streams → AreSmall streams
 small_lists [] are = tt
 small_lists (bytes ∷ streams) are = (small_of bytes (All-head AreBytes bytes streams are), small_lists streams (All-tail AreBytes bytes streams are))
+
+pub all_small : (bytes : List ℕ) → ((j : ℕ) → get_or bytes j 0 < 256) → AreBytes bytes
+all_small bytes small j e inside = subst (λ (n : ℕ). n < 256) (sym (get_or_default bytes j e 0 inside)) (small j)
+
+-- one list more
+pub one_list : (streams : List (List ℕ)) (i : ℕ) (d bytes : List ℕ) → i < length streams → d ≡ get_or streams i d → bytes ≡ d → AreBytes bytes → ((k j : ℕ) → k < i → get_or (get_or streams k []) j 0 < 256) → (k j : ℕ) → k < i + 1 → get_or (get_or streams k []) j 0 < 256
+one_list streams i d bytes inside is same small are k j less = elim (before_or k i less) [
+    | inl below ↦ are k j below
+    | inr here ↦ subst (λ (n : ℕ). get_or (get_or streams n []) j 0 < 256) (sym here) (subst (λ (b : List ℕ). get_or b j 0 < 256) (same ∙ is ∙ get_or_default streams i d [] inside) (small_of bytes small j))
+  ]
+  where
+    before_or : (k i : ℕ) → k < i + 1 → (k < i) ⊎ (k ≡ i)
+    before_or k i less = grind (arith, less)

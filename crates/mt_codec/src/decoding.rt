@@ -40,19 +40,25 @@ pub fn decode(
     ensures only { (values : Seq Entry) → AreValues ty.now rows streams.now values
         → Returns values result }
 {
-    know_bytes(streams);
+    know_lists(streams);
     let (values, _) = read_column(alloc, ty, 0, u128::from(rows), Streams::Apart(streams))?;
     Ok(values)
 }
 
-/// Does nothing but know that the numbers of each list are bytes, as those of any slice of `u8`
-/// are; a contract sees of a list its elements alone.
-fn know_bytes(streams: &[List<u8>])
+/// Does nothing: the numbers of each list are bytes, which the type of a slice says and that of a
+/// list does not.
+fn know_lists(streams: &[List<u8>])
     ensures { All AreBytes streams.now }
 {
     for stream in streams {
-        let _ = stream.as_slice();
+        know_bytes(stream.as_slice());
     }
+}
+
+/// Does nothing: the numbers of a slice are bytes.
+fn know_bytes(bytes: &[u8])
+    ensures { AreBytes bytes.now }
+{
 }
 
 /// The values, so many, that the substreams at the start of some bytes serialize, one after another,

@@ -18,7 +18,7 @@ pub returns-clause-found : goal.returns-clause-found
 returns-clause-found c =
     let ty = c.args.ty.now in
     let read = ap (λ (r : Read (List Value × List (List ℕ))). r >>= λ read. Ok read.0) (rw c.from.ensures at c.in_ok-values.ensures.1) in
-    decoded_encodes ty c.requires.profile c.args.rows c.args.streams.now c.in_ok-values.values (small_lists c.args.streams.now c.know_bytes.ensures) c.requires.each read
+    decoded_encodes ty c.requires.profile c.args.rows c.args.streams.now c.in_ok-values.values (small_lists c.args.streams.now c.know_lists.ensures) c.requires.each read
 
 pub returns-clause-only : goal.returns-clause-only
 returns-clause-only c = λ values are.
