@@ -100,3 +100,11 @@ one_list streams i d bytes inside is same small are k j less = elim (before_or k
   where
     before_or : (k i : ℕ) → k < i + 1 → (k < i) ⊎ (k ≡ i)
     before_or k i less = grind (arith, less)
+
+-- some bytes begin with the values in one way
+pub unique_front : (t : Ty) (rows : ℕ) (bytes : List ℕ) (values values' : List Value) (used used' : ℕ) → is_profile t ≡ true → AreFirstValues t rows bytes values used → AreFirstValues t rows bytes values' used' → (values ≡ values') × (used ≡ used')
+unique_front t rows bytes values values' used used' profile first second =
+    let r = front_read t profile rows bytes values used first in
+    let s = front_read t profile rows bytes values' used' second in
+    let p = ok_pair values' values (drop used' bytes) (drop used bytes) (sym s.1 ∙ r.1) in
+    (p.0, same_place used used' bytes r.0 s.0 p.1)

@@ -10,3 +10,4 @@ pub mod ColumnLemmas
 pub mod ExactLemmas
 pub mod TypeLemmas
 pub mod DecodedLemmas
+pub mod UnderNullLemmas

@@ -3,3 +3,4 @@ pub mod Runs
 pub mod ColumnReading
 pub mod Results
 pub mod Cursor
+pub mod UnderNull

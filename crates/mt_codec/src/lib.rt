@@ -18,6 +18,9 @@ mod tests;
 pub use decoding::{decode, decode_front};
 pub use encoding::encode;
 pub use fault::CodecError;
-pub use law::written_streams_encode_their_values;
+pub use law::{
+    first_values_are_unique, serializations_differ_only_under_null, written_streams_are_decoded,
+    written_streams_are_decoded_in_front, written_streams_encode_their_values,
+};
 pub use mt_item::CodecWhy;
 pub use stream::{Stream, streams_of};
