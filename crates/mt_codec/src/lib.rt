@@ -1,6 +1,7 @@
 //! The serialization of columns: the values of a type as substreams of bytes.
 //!
-//! `encode` gives exactly the writer's substreams.
+//! `encode` gives exactly the writer's substreams of values. `decode` and `decode_front` give the values
+//! that any substreams serialize, or the first fault: its substream, its item and what is wrong.
 #![tactic(auto)]
 
 mod arrays;
@@ -12,8 +13,6 @@ mod law;
 mod nulls;
 mod stream;
 mod streams;
-#[cfg(test)]
-mod tests;
 
 pub use decoding::{decode, decode_front};
 pub use encoding::encode;
