@@ -35,7 +35,8 @@ pub(crate) fn append_column(
     ensures { OnOk result (files.new.items ≡
         files.old.items ++ wide_column rows.now granules.now (column_index, uint64_column name.now)) }
 {
-    let Stream { data, marks } = stream_of(alloc, column_index, rows, granules)?;
+    let stream = stream_of(alloc, column_index, rows, granules)?;
+    let Stream { data, marks } = stream;
     append_file(alloc, name, b".bin", data, files)?;
     append_file(alloc, name, b".mrk2", marks, files)
 }

@@ -42,7 +42,7 @@ fn append_first_keys(
     let mut rest = rows;
     for count in granules {
         let (granule, after) = rest.split_at((*count as usize).min(rest.len()));
-        let (first, _) = granule.split_at(1.min(granule.len()));
+        let (first, _) = granule.split_at(granule.len().min(1));
         append_items(key, first, out)?;
         rest = after;
     }
