@@ -1,5 +1,5 @@
 -- The two files of a column of numbers.
-use Rattle.std.proofs.Common.{◌≡◌, ℕ, ◌+◌, min, List, [], ◌∷◌, ◌++◌, length, map, take, drop, refl, ap, sym, ◌∙◌, arith, append_assoc, add-zero}
+use Rattle.std.proofs.Common.{◌≡◌, ℕ, ◌+◌, min, List, [], ◌∷◌, ◌++◌, length, map, take, drop, refl, ap, sym, ◌∙◌, arith, append_assoc}
 use Rattle.std.specs.Prelude.{codes, sum, IsTrue}
 use Rattle.std.specs.List.{flat_map, concat, enumerate_from}
 use Rattle.std.proofs.lemmas.List.{append-nil, length-append, take_min, drop_min}
@@ -17,7 +17,7 @@ use Rattle.mt_defs.specs.WrittenFrames.{written_frames, written_marks_bytes, mar
 use Rattle.mt_defs.specs.WrittenColumns.{file, stream_files, granule_streams, wide_column}
 use Rattle.mt_defs.proofs.Numbers.{written_streams_UInt}
 use Rattle.mt_defs.proofs.WrittenNames.{Word, word_of, stream_name}
-use Rattle.mt_plain.specs.NumberRows.{IsStream, data_of, granule_frames, items_of, marks_from}
+use Rattle.mt_plain.specs.NumberRows.{IsStream, data_of, granule_frames, marks_from}
 
 -- ---- a granule of the loop
 

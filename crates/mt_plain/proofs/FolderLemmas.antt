@@ -1,6 +1,6 @@
 -- The folder of rows of two columns of numbers, file by file.
-use Rattle.std.proofs.Common.{◌≡◌, ℕ, ◌<◌, Bool, true, false, List, [], ◌∷◌, ◌++◌, length, ap, sym, ◌∙◌, subst, arith, append_assoc, inl, inr}
-use Rattle.std.specs.Prelude.{IsTrue, nat_lt, decimal, codes, ◌||◌, if◌then◌else◌}
+use Rattle.std.proofs.Common.{◌≡◌, ℕ, ◌<◌, false, List, [], ◌∷◌, ◌++◌, length, ap, sym, ◌∙◌, subst, arith, append_assoc, inl, inr}
+use Rattle.std.specs.Prelude.{IsTrue, nat_lt, decimal, codes, ◌||◌}
 use Rattle.std.proofs.lemmas.Bool.{cases_Bool, ltb-true}
 use Rattle.std.proofs.lemmas.List.{append-nil}
 use Rattle.mt_shelf.specs.declared.file.FileBytes.{FileBytes}
@@ -10,7 +10,7 @@ use Rattle.mt_table.specs.Form.{IsNumbersTable, is_name, numbers_table, uint64_c
 use Rattle.mt_defs.specs.Rows.{Row}
 use Rattle.mt_defs.specs.Sorting.{sorted_by}
 use Rattle.mt_defs.specs.Metadata.{column_at, columns_text}
-use Rattle.mt_defs.specs.PrimaryIndex.{index_rows, primary_index_of}
+use Rattle.mt_defs.specs.PrimaryIndex.{index_rows}
 use Rattle.mt_defs.specs.Projections.{base_of}
 use Rattle.mt_defs.specs.WrittenGranules.{written_granules, is_small, payload_size}
 use Rattle.mt_defs.specs.WrittenColumns.{file, wide_column, wide_files}

@@ -13,7 +13,7 @@ use Rattle.mt_defs.specs.Granules.{granule_rows}
 use Rattle.mt_defs.specs.PrimaryIndex.{key_bytes, index_rows, primary_index_of}
 use Rattle.mt_defs.specs.Projections.{base_of}
 use Rattle.mt_plain.specs.NumberRows.{AreNumberRows, HasNumbers, items_of}
-use Rattle.mt_plain.proofs.ItemLemmas.{columns_are, first_numbers, second_numbers, items_append}
+use Rattle.mt_plain.proofs.ItemLemmas.{first_numbers, second_numbers, items_append}
 
 -- ---- the first row of each granule
 
