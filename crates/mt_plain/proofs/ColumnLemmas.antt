@@ -49,14 +49,6 @@ marks_step k offset bytes new data_bytes more all granules later count rest gran
     ∙ ap (λ n. bytes ++ (entry ++ marks_from k n later (drop count rest))) size
     ∙ ap (λ g. bytes ++ marks_from k (length data_bytes) g rest) (sym here) ∙ ahead
 
--- after the last granule
-pub stream_is : (k offset : ℕ) (granules left : List ℕ) (rows rest : List Row) (bytes marks_before marks : List ℕ) → left ≡ [] → offset ≡ length bytes → marks ≡ marks_before ++ entry_bytes (mark_at offset ∷ []) 0
-    → bytes ++ data_of k left rest ≡ data_of k granules rows → marks_before ++ marks_from k (length bytes) left rest ≡ marks_from k 0 granules rows → IsStream k granules rows bytes marks
-stream_is k offset granules left rows rest bytes marks_before marks none at push framed marked = record {
-  framed = sym (append-nil bytes) ∙ sym (ap (λ g. bytes ++ data_of k g rest) none) ∙ framed;
-  marked = push ∙ ap (λ o. marks_before ++ entry_bytes (mark_at o ∷ []) 0) at ∙ sym (ap (λ g. marks_before ++ marks_from k (length bytes) g rest) none) ∙ marked;
-}
-
 -- three appends are one
 pub three_appends : (out a b c x y : List ℕ) → x ≡ out ++ a → y ≡ x ++ b → y ++ c ≡ out ++ ((a ++ b) ++ c)
 three_appends out a b c x y p q = rw (q, p) (simp append_assoc)

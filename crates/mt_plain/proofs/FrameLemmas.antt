@@ -24,12 +24,6 @@ frames_next (b ∷ bytes) h =
     ap (λ rest. written_frame (take FRAME_PAYLOAD (b ∷ bytes)) ++ rest)
     (enough_room (length bytes) (length (drop FRAME_PAYLOAD (b ∷ bytes))) (drop FRAME_PAYLOAD (b ∷ bytes)) (omega arith) (omega arith))
 
--- a piece is small enough for a frame
-pub piece_small : (rest piece : List ℕ) (n : ℕ) → n ≡ min FRAME_PAYLOAD (length rest) → piece ≡ take n rest → length piece ≤ FRAME_PAYLOAD
-piece_small rest piece n least front =
-    let size : length piece ≡ min n (length rest) = ap length front ∙ length-take n rest in
-    omega (arith, least, size)
-
 -- a step of the loop
 pub frames_step : (all out more rest piece after : List ℕ) (n : ℕ) → n ≡ min FRAME_PAYLOAD (length rest) → piece ≡ take n rest → after ≡ drop n rest
     → 1 ≤ length rest → more ≡ out ++ written_frame piece → out ++ written_frames rest ≡ all → more ++ written_frames after ≡ all
@@ -39,10 +33,3 @@ frames_step all out more rest piece after n least front back some one ahead =
     ap (λ l. l ++ written_frames after) one ∙ append_assoc out (written_frame piece) (written_frames after)
     ∙ ap (λ p. out ++ (written_frame p ++ written_frames after)) piece_is ∙ ap (λ a. out ++ (written_frame (take FRAME_PAYLOAD rest) ++ written_frames a)) after_is
     ∙ ap (λ l. out ++ l) (sym (frames_next rest some)) ∙ ahead
-
-pub frames_end : (all out rest : List ℕ) → rest ≡ [] → out ++ written_frames rest ≡ all → out ≡ all
-frames_end all out rest none ahead = sym (append-nil out) ∙ sym (ap (λ r. out ++ written_frames r) none) ∙ ahead
-
--- five appends are one
-pub five_appends : (out a b c d e c' d' v w x y z : List ℕ) → c' ≡ c → d' ≡ d → v ≡ out ++ a → w ≡ v ++ b → x ≡ w ++ c' → y ≡ x ++ d' → z ≡ y ++ e → z ≡ out ++ (a ++ (b ++ (c ++ (d ++ e))))
-five_appends out a b c d e c' d' v w x y z f g p q r s t = rw (t, s, r, q, p, f, g) (simp append_assoc)

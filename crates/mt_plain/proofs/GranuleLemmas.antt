@@ -69,26 +69,6 @@ pub ends_here : (full : List Row → Bool) (rows begun : List Row) (before count
 ends_here full rows begun before count all next within is on ahead =
     ahead ∙ joins full rows before count next within ∙ chosen (full (take count rows)) true _ _ (ap full (sym is) ∙ on)
 
-some_last : (rows : List Row) → 1 ≤ length rows → last_granule rows ≡ length rows ∷ []
-some_last [] some = absurd (omega (arith, some))
-some_last (row ∷ rows) some = refl
-
-either_way : (b : Bool) (x y z : List ℕ) → x ≡ z → y ≡ z → (if b then x else y) ≡ z
-either_way true x y z p q = p
-either_way false x y z p q = q
-
--- all rows together are the last granule
-pub ends_last : (full : List Row → Bool) (rows : List Row) (before count : ℕ) (all : List ℕ) → before + 1 ≡ count → count ≡ length rows
-    → all ≡ granules_from full (take before rows) (drop before rows) → all ≡ count ∷ granules_from full [] (drop count rows)
-ends_last full rows before count all next last ahead =
-    let nothing : drop count rows ≡ [] = drop_of_length-le rows (omega (arith, last)) in
-    let whole : take count rows ≡ rows = take_all count rows (omega (arith, last)) in
-    let left : count ∷ granules_from full [] (drop count rows) ≡ count ∷ [] = ap (λ rest. count ∷ granules_from full [] rest) nothing in
-    let ended : granules_from full (take count rows) (drop count rows) ≡ count ∷ [] =
-    ap (λ rest. granules_from full (take count rows) rest) nothing ∙ ap last_granule whole ∙ some_last rows (omega (arith, next, last)) ∙ ap (λ n. n ∷ []) (sym last) in
-    ahead ∙ joins full rows before count next (omega (arith, last))
-    ∙ either_way (full (take count rows)) (count ∷ granules_from full [] (drop count rows)) (granules_from full (take count rows) (drop count rows)) (count ∷ []) left ended ∙ sym left
-
 -- ---- all granules
 
 -- a granule more
@@ -99,8 +79,3 @@ granule_step table rest after granules more all count is back push ahead =
     ∙ append_assoc granules (count ∷ []) (written_granules table.settings table.columns after)
     ∙ ap (λ rows. granules ++ count ∷ written_granules table.settings table.columns rows) back
     ∙ ap (λ l. granules ++ l) (sym is.cut) ∙ ahead
-
--- no row is left
-pub granules_end : (table : Table) (rest : List Row) (granules all : List ℕ) → rest ≡ [] → granules ++ written_granules table.settings table.columns rest ≡ all → granules ≡ all
-granules_end table rest granules all none ahead =
-    sym (append-nil granules) ∙ sym (ap (λ rows. granules ++ written_granules table.settings table.columns rows) none) ∙ ahead

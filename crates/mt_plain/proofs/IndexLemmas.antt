@@ -31,17 +31,6 @@ first_step k bytes new all granules later count n rest granule first after here 
     ∙ ap (λ l. bytes ++ l) (sym (items_append k (take 1 (take count rest)) (first_rows later (drop count rest))))
     ∙ ap (λ g. bytes ++ items_of k (first_rows g rest)) (sym here) ∙ ahead
 
-pub first_end : (k : ℕ) (bytes all left : List ℕ) (rest : List Row) → left ≡ [] → bytes ++ items_of k (first_rows left rest) ≡ all → bytes ≡ all
-first_end k bytes all left rest none ahead = sym (append-nil bytes) ∙ sym (ap (λ g. bytes ++ items_of k (first_rows g rest)) none) ∙ ahead
-
--- and then the last row
-pub index_is : (k n : ℕ) (none some all granules : List ℕ) (rows last : List Row) → none ≡ [] → some ≡ none ++ items_of k (first_rows granules rows) → n ≡ length rows - 1 → last ≡ drop n rows
-    → all ≡ some ++ items_of k last → all ≡ items_of k (index_rows rows granules)
-index_is k n none some all granules rows last empty one back is two =
-    two ∙ ap (λ l. l ++ items_of k last) (one ∙ ap (λ l. l ++ items_of k (first_rows granules rows)) empty)
-    ∙ ap (λ l. items_of k (first_rows granules rows) ++ items_of k l) (is ∙ ap (λ m. drop m rows) back)
-    ∙ sym (items_append k (first_rows granules rows) (drop (length rows - 1) rows))
-
 -- ---- the definition's keys
 
 key_is : (first second : List ℕ) (place : ℕ) (row : Row) → place < 2 → key_bytes (uint64_column first ∷ uint64_column second ∷ []) (place ∷ []) row ≡ item_bytes (UInt W64) (cell row place)

@@ -38,14 +38,8 @@ first_numbers table rows are = All-weaker IsNumberRow (λ row. IsTrue (fits_of (
 pub second_numbers : (table : Table) (rows : List Row) → AreNumberRows table rows → HasNumbers 1 rows
 second_numbers table rows are = All-weaker IsNumberRow (λ row. IsTrue (fits_of (UInt W64) (cell row 1))) (λ row is. is.at_second) rows (number_rows table rows are)
 
-pub rows_taken : (table : Table) (rows some : List Row) (n : ℕ) → AreNumberRows table rows → some ≡ take n rows → AreNumberRows table some
-rows_taken table rows some n are is = subst (AreNumberRows table) (sym is) (record { form = are.form; fit = All-take (RowFits table.columns) n rows are.fit })
-
 pub rows_dropped : (table : Table) (rows some : List Row) (n : ℕ) → AreNumberRows table rows → some ≡ drop n rows → AreNumberRows table some
 rows_dropped table rows some n are is = subst (AreNumberRows table) (sym is) (record { form = are.form; fit = All-drop (RowFits table.columns) n rows are.fit })
-
-pub numbers_taken : (k : ℕ) (rows some : List Row) (n : ℕ) → HasNumbers k rows → some ≡ take n rows → HasNumbers k some
-numbers_taken k rows some n are is = subst (HasNumbers k) (sym is) (All-take (λ row. IsTrue (fits_of (UInt W64) (cell row k))) n rows are)
 
 pub numbers_dropped : (k : ℕ) (rows some : List Row) (n : ℕ) → HasNumbers k rows → some ≡ drop n rows → HasNumbers k some
 numbers_dropped k rows some n are is = subst (HasNumbers k) (sym is) (All-drop (λ row. IsTrue (fits_of (UInt W64) (cell row k))) n rows are)

@@ -20,11 +20,7 @@ use std::alloc::Global;
 /// The files of the writer's folder of these rows, in the byte order of their names (docs/FORMAT.md,
 /// "The writer's folder"), for tables of two `UInt64` columns. The rows are taken as they stand, so
 /// they should be in key order. Time grows with the square of the rows of a granule.
-pub fn plain_folder(
-    alloc: Global,
-    table: &Table,
-    rows: &[Row],
-) -> Result<List<FileBytes>, NoMemory>
+pub fn plain_folder(alloc: Global, table: &Table, rows: &[Row]) -> Result<List<FileBytes>, NoMemory>
     requires form { IsNumbersTable table.now }
     requires fit { All (RowFits table.now.columns) rows.now }
     ensures { IfOk result (λ files. files ≡ written_folder table.now rows.now) }

@@ -11,11 +11,7 @@ use mt_types::{List, NoMemory, Row};
 use std::alloc::Global;
 
 /// How many rows each granule has (docs/FORMAT.md, "The writer's folder").
-pub(crate) fn granules_of(
-    alloc: Global,
-    table: &Table,
-    rows: &[Row],
-) -> Result<List<u64>, NoMemory>
+pub(crate) fn granules_of(alloc: Global, table: &Table, rows: &[Row]) -> Result<List<u64>, NoMemory>
     requires { AreNumberRows table.now rows.now }
     ensures { IfOk result (λ granules.
         granules ≡ written_granules table.now.settings table.now.columns rows.now) }

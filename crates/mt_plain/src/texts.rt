@@ -9,11 +9,7 @@ use mt_types::{List, NoMemory};
 use std::alloc::Global;
 
 /// The columns.txt of two `UInt64` columns (docs/FORMAT.md, "Metadata").
-pub(crate) fn columns_text(
-    alloc: Global,
-    first: &[u8],
-    second: &[u8],
-) -> Result<List<u8>, NoMemory>
+pub(crate) fn columns_text(alloc: Global, first: &[u8], second: &[u8]) -> Result<List<u8>, NoMemory>
     ensures { IfOk result (λ text. text ≡
         defined.columns_text (uint64_column first.now ∷ uint64_column second.now ∷ [])) }
 {
