@@ -13,5 +13,4 @@ mod OrderLemmas
 mod LineLemmas
 mod ListingLemmas
 mod SplitLemmas
-mod StepLemmas
 mod CountLemmas

@@ -1,7 +1,7 @@
 -- What a chain of steps says where it is Ok.
 use Rattle.std.proofs.Common.{◌≡◌, Bool, true, false, List, ◌∷◌, refl, ap, ◌&&◌}
 use Rattle.std.specs.Prelude.{Result, Ok, Err}
-use Rattle.mt_frame.specs.Steps.{◌>>=◌, require, at, onto}
+use Rattle.mt_types.specs.Steps.{◌>>=◌, require, at, onto}
 
 -- the first step is Ok, and so is what follows it
 pub ok_then : {A B E Z : Type 0} (r : Result A E) (f : A → Result B E) (y : B) → (r >>= f) ≡ Ok y → ((x : A) → r ≡ Ok x → f x ≡ Ok y → Z) → Z

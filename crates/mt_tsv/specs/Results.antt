@@ -1,24 +1,14 @@
--- Readings that may fail, step by step, and what code returns of them.
-use Rattle.std.specs.Prelude.{◌≡◌, List, ◌∷◌, Result, Ok, Err, Bool, if◌then◌else◌}
+-- What code returns of a reading that may fail.
+use Rattle.std.specs.Prelude.{◌≡◌, Result, Ok, Err, Bool, if◌then◌else◌}
 use Rattle.mt_tsv.specs.declared.fault.RowWhy.{RowWhy}
 use Rattle.mt_tsv.specs.declared.fault.FieldError.{FieldError}
 use Rattle.mt_tsv.specs.declared.fault.FieldError.TheVariants as field
 use Rattle.mt_tsv.specs.declared.fault.RowError.{RowError}
 use Rattle.mt_tsv.specs.declared.fault.RowError.TheVariants as row
 
-infixl 10 ◌>>=◌
--- the next step, if this one has a value
-abbrev pub ◌>>=◌ : {A B E : Type 0} → Result A E → (A → Result B E) → Result B E
-(Ok x) >>= f = f x
-(Err e) >>= f = Err e
-
 -- what follows, if the test holds
 abbrev pub unless_bad : {B E : Type 0} → Bool → E → Result B E → Result B E
 unless_bad ok why next = if ok then next else Err why
-
--- one more item before the others
-abbrev pub onto : {A E : Type 0} → A → Result (List A) E → Result (List A) E
-onto x read = read >>= λ xs. Ok (x ∷ xs)
 
 -- what is wrong with the field, unless memory was refused
 abbrev pub Fails : {A : Type 0} → FieldError → Result A RowWhy → Type 0

@@ -1,5 +1,5 @@
 -- Steps that may fail: each is checked only where all earlier ones hold.
-use Rattle.std.specs.Prelude.{Bool, true, false, List, ◌∷◌, Result, Ok, Err}
+use Rattle.std.specs.Prelude.{Bool, true, false, List, ◌∷◌, Option, Some, None, Result, Ok, Err}
 
 -- the next step, where the one before is Ok
 infixl 10 ◌>>=◌
@@ -11,6 +11,11 @@ abbrev pub ◌>>=◌ : {A B E : Type 0} → Result A E → (A → Result B E) �
 abbrev pub require : {E : Type 0} → Bool → E → Result (Unit {0}) E
 require true why = Ok tt
 require false why = Err why
+
+-- what was found, or this is wrong
+abbrev pub ok_or : {A E : Type 0} → E → Option A → Result A E
+ok_or why (Some x) = Ok x
+ok_or why None = Err why
 
 -- what is wrong, and where
 abbrev pub at : {A X E : Type 0} → X → Result A E → Result A (X × E)
