@@ -1,20 +1,13 @@
 -- columns.txt, count.txt and primary.idx are the definition's.
-use Rattle.std.proofs.Common.{◌≡◌, ℕ, ◌<◌, false, List, [], ◌∷◌, ◌++◌, length, ap, sym, ◌∙◌, subst, arith, append_assoc, inl, inr}
-use Rattle.std.specs.Prelude.{IsTrue, nat_lt, decimal, codes, ◌||◌}
-use Rattle.std.proofs.lemmas.Bool.{cases_Bool, ltb-true}
-use Rattle.std.proofs.lemmas.List.{append-nil}
+use Rattle.std.proofs.Common.{◌≡◌, ℕ, List, [], ◌∷◌, ◌++◌, length, ap, sym, ◌∙◌, append_assoc}
+use Rattle.std.specs.Prelude.{decimal, codes}
 use Rattle.mt_shelf.specs.declared.file.FileBytes.{FileBytes}
-use Rattle.mt_table.specs.declared.column.Column.{Column}
 use Rattle.mt_table.specs.declared.definition.Table.{Table}
-use Rattle.mt_table.specs.Form.{IsNumbersTable, is_name, numbers_table, uint64_column}
+use Rattle.mt_table.specs.Form.{IsNumbersTable, uint64_column}
 use Rattle.mt_defs.specs.Rows.{Row}
-use Rattle.mt_defs.specs.Sorting.{sorted_by}
-use Rattle.mt_defs.specs.Metadata.{column_at, columns_text}
+use Rattle.mt_defs.specs.Metadata.{columns_text}
 use Rattle.mt_defs.specs.PrimaryIndex.{index_rows}
-use Rattle.mt_defs.specs.Projections.{base_of}
-use Rattle.mt_defs.specs.WrittenGranules.{written_granules, is_small, payload_size}
-use Rattle.mt_defs.specs.WrittenColumns.{file, wide_column, wide_files}
-use Rattle.mt_defs.specs.Writer.{written_folder, files_with, file_cmp}
+use Rattle.mt_defs.specs.WrittenColumns.{file}
 use Rattle.mt_plain.specs.NumberRows.{items_of, text_files}
 use Rattle.mt_plain.proofs.IndexLemmas.{primary_is}
 

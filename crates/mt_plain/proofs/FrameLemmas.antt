@@ -1,6 +1,6 @@
 -- The writer's frames, one at a time.
 use Rattle.std.proofs.Common.{◌≡◌, ℕ, zero, suc, ◌-◌, ◌≤◌, min, List, [], ◌∷◌, ◌++◌, length, take, drop, refl, ap, sym, ◌∙◌, arith, append_assoc}
-use Rattle.std.proofs.lemmas.List.{append-nil, length-drop, length-take, take_min, drop_min}
+use Rattle.std.proofs.lemmas.List.{length-drop, take_min, drop_min}
 use Rattle.mt_defs.specs.declared.frame.TheConstants.{FRAME_PAYLOAD}
 use Rattle.mt_defs.specs.WrittenFrames.{written_frame, written_frames, frames_within}
 

@@ -1,13 +1,12 @@
 -- The granules of rows of two columns of numbers.
-use Rattle.std.proofs.Common.{◌≡◌, ℕ, ◌+◌, ◌<◌, ◌≤◌, Bool, true, false, List, [], ◌∷◌, ◌++◌, length, map, take, drop, get_or, refl, ap, sym, ◌∙◌, arith, append_assoc}
+use Rattle.std.proofs.Common.{◌≡◌, ℕ, ◌+◌, ◌<◌, ◌≤◌, Bool, true, false, List, [], ◌∷◌, ◌++◌, length, map, take, drop, get_or, ap, sym, ◌∙◌, arith, append_assoc}
 use Rattle.std.specs.Prelude.{nat_le, ◌||◌, if◌then◌else◌, sum}
-use Rattle.std.proofs.lemmas.List.{append-nil, drop_more, take_more, take_all, length-append, length-take-le}
-use Rattle.std.proofs.Math.ListN.{drop_of_length-le}
+use Rattle.std.proofs.lemmas.List.{drop_more, take_more, length-append, length-take-le}
 use Rattle.mt_types.specs.declared.ty.Width.TheVariants.{W64}
 use Rattle.mt_table.specs.declared.definition.Table.{Table}
 use Rattle.mt_table.specs.Form.{IsNumbersTable, uint64_column}
 use Rattle.mt_defs.specs.Rows.{Row, column_values}
-use Rattle.mt_defs.specs.WrittenGranules.{granules_from, last_granule, is_full, column_size, payload_size, written_granules}
+use Rattle.mt_defs.specs.WrittenGranules.{granules_from, is_full, column_size, payload_size, written_granules}
 use Rattle.mt_defs.proofs.Numbers.{written_streams_UInt}
 use Rattle.mt_plain.specs.NumberRows.{IsFirstGranule, items_of, payload_of}
 use Rattle.mt_plain.proofs.ItemLemmas.{columns_are}

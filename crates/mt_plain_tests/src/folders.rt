@@ -1,6 +1,6 @@
 //! The folders that the writer and the plain program make of the same rows.
 
-ghost use Rattle.std.specs.Prelude.{◌≢◌, [], All, IfOk};
+ghost use Rattle.std.specs.Prelude.{◌≡◌, ◌≢◌, [], All, IfOk};
 ghost use Rattle.mt_table.specs.Form.{IsNumbersTable};
 ghost use Rattle.mt_plain_tests.specs.Pairs.{IsPair};
 
@@ -55,6 +55,7 @@ pub fn folders_of<R: Threads + Sync>(
     requires form { IsNumbersTable table.now }
     requires some { rows ≢ [] }
     requires pairs { All IsPair rows }
+    ensures { IfOk result (λ folders. folders.built ≡ folders.plain) }
 {
     let sorted = sort_rows(alloc, table, rows)?;
     let built = build(rt, alloc, table, sorted.as_slice(), 1, &NoGate)?;

@@ -1,41 +1,55 @@
 //! Small cases: the worked row of docs/FORMAT.md, few rows, equal keys, granules and extreme keys.
 
-use crate::folders::{Pair, folders_of, rows_of};
+use crate::folders::{Folders, Pair, folders_of, rows_of};
 use mt_shelf::FileBytes;
 use mt_table::Table;
 use std::test::Fail;
 
 const MAX: u64 = 18_446_744_073_709_551_615;
 
-/// A table text with the names of the columns, of the key and of the setting that ends granules.
-const WORKED: &str = "CREATE TABLE t (k UInt64, v UInt64) ENGINE = MergeTree ORDER BY k SETTINGS index_granularity = 2, min_bytes_for_wide_part = 0";
-const ONE: &str = "CREATE TABLE t (k UInt64, v UInt64) ENGINE = MergeTree ORDER BY k SETTINGS index_granularity = 1, min_bytes_for_wide_part = 0";
-const ALL: &str = "CREATE TABLE t (k UInt64, v UInt64) ENGINE = MergeTree ORDER BY k SETTINGS min_bytes_for_wide_part = 0";
-const BY_VALUE: &str = "CREATE TABLE t (zz UInt64, a UInt64) ENGINE = MergeTree ORDER BY a SETTINGS index_granularity = 2, min_bytes_for_wide_part = 0";
+/// Two rows a granule.
+const TWO: &str =
+    "CREATE TABLE t (k UInt64, v UInt64) ENGINE = MergeTree ORDER BY k SETTINGS index_granularity = 2, min_bytes_for_wide_part = 0";
 
-/// The names of the files of the worked row, in order.
-const WORKED_NAMES: [&str; 7] = [
-    "columns.txt",
-    "count.txt",
-    "k.bin",
-    "k.mrk2",
-    "primary.idx",
-    "v.bin",
-    "v.mrk2",
+/// One row a granule.
+const ONE: &str =
+    "CREATE TABLE t (k UInt64, v UInt64) ENGINE = MergeTree ORDER BY k SETTINGS index_granularity = 1, min_bytes_for_wide_part = 0";
+
+/// All rows in one granule.
+const ALL: &str =
+    "CREATE TABLE t (k UInt64, v UInt64) ENGINE = MergeTree ORDER BY k SETTINGS min_bytes_for_wide_part = 0";
+
+/// The second column is the key, and its files are the first of all.
+const SECOND: &str =
+    "CREATE TABLE t (zz UInt64, a UInt64) ENGINE = MergeTree ORDER BY a SETTINGS index_granularity = 2, min_bytes_for_wide_part = 0";
+
+/// The files of the worked row, and their sizes in bytes.
+const WORKED: [(&str, usize); 7] = [
+    ("columns.txt", 59),
+    ("count.txt", 1),
+    ("k.bin", 74),
+    ("k.mrk2", 72),
+    ("primary.idx", 24),
+    ("v.bin", 74),
+    ("v.mrk2", 72),
 ];
 
 /// What a case shows, its table and its rows.
 const CASES: [(&str, &str, &[Pair]); 10] = [
-    ("worked row", WORKED, &[(3, 30), (1, 10), (2, 20)]),
-    ("one row", WORKED, &[(7, 70)]),
-    ("equal keys", WORKED, &[(5, 2), (5, 1), (5, 2), (4, 9)]),
+    ("worked row", TWO, &[(3, 30), (1, 10), (2, 20)]),
+    ("one row", TWO, &[(7, 70)]),
+    ("equal keys", TWO, &[(5, 2), (5, 1), (5, 2), (4, 9)]),
     ("granules of 1", ONE, &[(3, 30), (1, 10), (2, 20)]),
-    ("granules of 2", WORKED, &[(4, 1), (3, 2), (2, 3), (1, 4)]),
+    ("granules of 2", TWO, &[(4, 1), (3, 2), (2, 3), (1, 4)]),
     ("one granule", ALL, &[(4, 1), (3, 2), (2, 3), (1, 4)]),
     ("key 0", ONE, &[(0, 0)]),
     ("key 2^64 - 1", ONE, &[(MAX, MAX)]),
     ("both ends", ALL, &[(MAX, 0), (0, MAX), (MAX, MAX)]),
-    ("the second column is the key", BY_VALUE, &[(1, 3), (2, 2), (3, 1)]),
+    (
+        "the second column is the key",
+        SECOND,
+        &[(1, 3), (2, 2), (3, 1)],
+    ),
 ];
 
 /// Whether two lists of files are the same.
@@ -53,20 +67,33 @@ fn are_same(some: &[FileBytes], others: &[FileBytes]) -> bool {
     true
 }
 
+/// Both folders of some pairs in a table.
+fn folders(rt: &HostRuntime, text: &str, pairs: &[Pair]) -> Result<Folders, Fail> {
+    let table = Table::read(rt.alloc(), text.as_bytes())?;
+    let rows = rows_of(rt.alloc(), pairs)?;
+    if rows.is_empty() {
+        return Err(Fail::from("no rows"));
+    }
+    Ok(folders_of(rt, rt.alloc(), &table, rows)?)
+}
+
 #[test]
 fn both_make_the_same_files(rt: HostRuntime) -> Result<(), Fail> {
     for (name, text, pairs) in CASES {
-        let table = Table::read(rt.alloc(), text.as_bytes())?;
-        let rows = rows_of(rt.alloc(), pairs)?;
-        if rows.is_empty() {
-            return Err(Fail::from("no rows"));
-        }
-        let folders = folders_of(&rt, rt.alloc(), &table, rows)?;
-        assert_eq!(rt; folders.built.len(), 7, "{name}");
-        assert!(rt;
-            are_same(folders.built.as_slice(), folders.plain.as_slice()),
-            "{name}"
-        );
+        let Folders { built, plain } = folders(&rt, text, pairs)?;
+        assert_eq!(rt; built.len(), 7, "{name}");
+        assert!(rt; are_same(built.as_slice(), plain.as_slice()), "{name}");
+    }
+    Ok(())
+}
+
+#[test]
+fn the_worked_row_has_its_files(rt: HostRuntime) -> Result<(), Fail> {
+    let Folders { plain, .. } = folders(&rt, TWO, &[(3, 30), (1, 10), (2, 20)])?;
+    assert_eq!(rt; plain.len(), 7);
+    for (file, (name, size)) in plain.as_slice().iter().zip(WORKED) {
+        assert_eq!(rt; file.name.as_slice(), name.as_bytes());
+        assert_eq!(rt; file.bytes.len(), size, "{name}");
     }
     Ok(())
 }
