@@ -3,7 +3,9 @@
 use crate::folders::{Folders, Pair, folders_of, rows_of};
 use mt_shelf::FileBytes;
 use mt_table::Table;
+use std::alloc::Global;
 use std::test::Fail;
+use std::thread::Threads;
 
 const MAX: u64 = 18_446_744_073_709_551_615;
 
@@ -68,19 +70,24 @@ fn are_same(some: &[FileBytes], others: &[FileBytes]) -> bool {
 }
 
 /// Both folders of some pairs in a table.
-fn folders(rt: &HostRuntime, text: &str, pairs: &[Pair]) -> Result<Folders, Fail> {
-    let table = Table::read(rt.alloc(), text.as_bytes())?;
-    let rows = rows_of(rt.alloc(), pairs)?;
+fn folders<R: Threads + Sync>(
+    rt: &R,
+    alloc: Global,
+    text: &str,
+    pairs: &[Pair],
+) -> Result<Folders, Fail> {
+    let table = Table::read(alloc, text.as_bytes())?;
+    let rows = rows_of(alloc, pairs)?;
     if rows.is_empty() {
         return Err(Fail::from("no rows"));
     }
-    Ok(folders_of(rt, rt.alloc(), &table, rows)?)
+    Ok(folders_of(rt, alloc, &table, rows)?)
 }
 
 #[test]
 fn both_make_the_same_files(rt: HostRuntime) -> Result<(), Fail> {
     for (name, text, pairs) in CASES {
-        let Folders { built, plain } = folders(&rt, text, pairs)?;
+        let Folders { built, plain } = folders(&rt, rt.alloc(), text, pairs)?;
         assert_eq!(rt; built.len(), 7, "{name}");
         assert!(rt; are_same(built.as_slice(), plain.as_slice()), "{name}");
     }
@@ -89,7 +96,7 @@ fn both_make_the_same_files(rt: HostRuntime) -> Result<(), Fail> {
 
 #[test]
 fn the_worked_row_has_its_files(rt: HostRuntime) -> Result<(), Fail> {
-    let Folders { plain, .. } = folders(&rt, TWO, &[(3, 30), (1, 10), (2, 20)])?;
+    let Folders { plain, .. } = folders(&rt, rt.alloc(), TWO, &[(3, 30), (1, 10), (2, 20)])?;
     assert_eq!(rt; plain.len(), 7);
     for (file, (name, size)) in plain.as_slice().iter().zip(WORKED) {
         assert_eq!(rt; file.name.as_slice(), name.as_bytes());
