@@ -1,5 +1,5 @@
 -- Rows of two 64-bit numbers are rows of each table of two UInt64 columns.
-use Rattle.std.proofs.Common.{◌≡◌, ℕ, ℤ, pos, ◌<◌, ◌^◌, List, [], ◌∷◌, ap, sym, ◌∙◌, subst}
+use Rattle.std.proofs.Common.{◌≡◌, ℕ, pos, ◌<◌, ◌^◌, List, [], ◌∷◌, ap, sym, ◌∙◌, subst}
 use Rattle.std.proofs.lemmas.Bool.{lt-ltb}
 use Rattle.std.specs.Prelude.{All, IsTrue, Bool}
 use Rattle.mt_types.specs.declared.ty.Ty.{Ty, map-Ty}
@@ -10,7 +10,7 @@ use Rattle.mt_types.specs.declared.value.Value.{Value, out-Value}
 use Rattle.mt_types.specs.declared.value.Value.TheVariants.{Num, outs-Num}
 use Rattle.mt_types.specs.Fits.{fits_of, fits_step, num_at, is_unsigned}
 use Rattle.mt_table.specs.declared.definition.Table.{Table}
-use Rattle.mt_table.specs.Form.{IsNumbersTable, uint64_column}
+use Rattle.mt_table.specs.Form.{IsNumbersTable}
 use Rattle.mt_defs.specs.Partition.{HaveOnePartition, partition_bytes}
 use Rattle.mt_defs.specs.Rows.{Row, RowFits}
 use Rattle.mt_plain_tests.specs.Pairs.{IsPair}
