@@ -6,3 +6,4 @@ pub mod Signs
 pub mod Lexis
 pub mod Numbers
 pub mod Splits
+pub mod Writing

@@ -15,6 +15,10 @@ escaped_byte letter =
 abbrev pub is_escape : (letter : ℕ) → Bool
 is_escape letter = is_some (escaped_byte letter)
 
+-- the byte that a backslash and this letter stand for, or else the letter
+abbrev pub byte_of : (letter : ℕ) → ℕ
+byte_of letter = unwrap_or (escaped_byte letter) letter
+
 -- a length with so many bytes before it
 abbrev pub plus : ℕ → Option ℕ → Option ℕ
 plus count None = None
@@ -43,4 +47,4 @@ unfoldable mutual
   -- the same with a backslash before these bytes; in a token an escape follows it
   pub after_backslash : List ℕ → List ℕ
   after_backslash [] = []
-  after_backslash (letter ∷ rest) = unwrap_or (escaped_byte letter) letter ∷ unescaped rest
+  after_backslash (letter ∷ rest) = byte_of letter ∷ unescaped rest

@@ -7,13 +7,16 @@ use Rattle.mt_tokens.specs.declared.limits.TheConstants.{MAX_NAME}
 use Rattle.mt_tokens.specs.declared.sign.Sign.{Sign}
 use Rattle.mt_tokens.specs.declared.sign.Sign.TheVariants.{Open, Close, Comma, Dot, Semicolon, Star, Minus, Equal, NotEqual, Less, LessEqual, Greater, GreaterEqual}
 use Rattle.mt_tokens.specs.Bytes.{is_word_start, is_word_byte}
-use Rattle.mt_tokens.specs.Tokens.{Tok, Word, Quoted, Text, Digits, OfSign}
+use Rattle.mt_tokens.specs.Tokens.{Tok, Word, Quoted, OfSign}
 
--- a word of 1 to 64 bytes
+-- a word: a letter or _, then letters, digits and _
+abbrev pub is_word_text : List ℕ → Bool
+is_word_text [] = false
+is_word_text (c ∷ rest) = is_word_start c && list_all is_word_byte rest
+
+-- a name: a word of at most 64 bytes
 abbrev pub is_name : List ℕ → Bool
-is_name [] = false
-is_name (c ∷ rest) =
-    is_word_start c && nat_le (length (c ∷ rest)) MAX_NAME && list_all is_word_byte (c ∷ rest)
+is_name text = is_word_text text && nat_le (length text) MAX_NAME
 
 -- the name that a token is: a plain word that isn't too long, or what stands in backquotes
 abbrev pub name_of : Tok → Option (List ℕ)

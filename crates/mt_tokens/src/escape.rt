@@ -1,8 +1,9 @@
 //! Texts in single quotes: where they end, and what they stand for.
 
-ghost use Rattle.std.specs.Prelude.{◌≡◌, ◌<◌, ◌==◌, IfOk, IfSome, length, position};
+ghost use Rattle.std.specs.Prelude.{◌≡◌, ◌<◌, ◌==◌, IfOk, IfSome, drop, length, not, take};
+ghost use Rattle.std.specs.List.{prefix_len};
 ghost use Rattle.mt_tokens.specs.declared.ascii.TheConstants.{BACKSLASH};
-ghost use Rattle.mt_tokens.specs.Texts.{escaped_byte, is_escape, text_len, unescaped};
+ghost use Rattle.mt_tokens.specs.Texts.{byte_of, escaped_byte, is_escape, text_len, unescaped};
 
 use crate::ascii::{BACKSLASH, QUOTE};
 use crate::lexis::split_byte;
@@ -24,6 +25,13 @@ fn escaped_byte(letter: u8) -> Option<u8>
         b'\\' => Some(92),
         _ => None,
     }
+}
+
+/// The byte that a backslash and this letter stand for, or else the letter.
+fn byte_of(letter: u8) -> u8
+    ensures { result ≡ byte_of letter }
+{
+    escaped_byte(letter).unwrap_or(letter)
 }
 
 /// Whether a backslash and this letter are an escape.
@@ -61,28 +69,37 @@ pub(crate) fn text_len(bytes: &[u8]) -> Option<usize>
     None
 }
 
-/// The bytes that a text's token stands for: its escapes undone. A backslash that begins no escape
-/// stands in no token; here it is passed over.
+fn run_len(bytes: &[u8]) -> usize
+    ensures { result ≡ prefix_len (λ c. not (c == BACKSLASH)) bytes.now }
+{
+    bytes.iter().take_while(|c| **c != BACKSLASH).count()
+}
+
+/// The bytes before the first backslash, and what stands from it on.
+fn split_run(bytes: &[u8]) -> (&[u8], &[u8])
+    ensures run { result.0.now ≡ take (prefix_len (λ c. not (c == BACKSLASH)) bytes.now) bytes.now }
+    ensures rest { result.1.now ≡ drop (prefix_len (λ c. not (c == BACKSLASH)) bytes.now) bytes.now }
+{
+    bytes.split_at(run_len(bytes))
+}
+
+/// The bytes that a text stands for, its escapes undone. Another letter than the eight, which no
+/// token has behind a backslash, stands for itself.
 pub fn unescaped(alloc: Global, text: &[u8]) -> Result<List<u8>, NoMemory>
     ensures { IfOk result (λ bytes. bytes ≡ unescaped text.now) }
 {
     let mut bytes = List::with_capacity(alloc, text.len())?;
     let mut rest = text;
-    'runs: while let Some(at) = backslash(rest) {
-        bytes.append(&rest[..at])?;
-        let Some((letter, after)) = split_byte(&rest[at + 1..]) else {
+    'runs: loop {
+        let (run, escaped) = split_run(rest);
+        bytes.append(run)?;
+        let Some((_, after)) = split_byte(escaped) else {
             return Ok(bytes);
         };
-        bytes.push(escaped_byte(letter).unwrap_or(letter))?;
+        let Some((letter, after)) = split_byte(after) else {
+            return Ok(bytes);
+        };
+        bytes.push(byte_of(letter))?;
         rest = after;
     }
-    bytes.append(rest)?;
-    Ok(bytes)
-}
-
-/// Where the first backslash stands.
-fn backslash(bytes: &[u8]) -> Option<usize>
-    ensures { result ≡ position (λ c. c == BACKSLASH) bytes.now }
-{
-    bytes.iter().position(|c| *c == BACKSLASH)
 }

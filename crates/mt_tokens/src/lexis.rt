@@ -5,7 +5,7 @@ ghost use Rattle.std.specs.List.{prefix_len, list_all};
 ghost use Rattle.std.specs.Char.{is_ascii_digit};
 ghost use Rattle.mt_tokens.specs.declared.ascii.TheConstants.{BACKQUOTE};
 ghost use Rattle.mt_tokens.specs.Bytes.{is_blank, is_word_byte};
-ghost use Rattle.mt_tokens.specs.Words.{is_name};
+ghost use Rattle.mt_tokens.specs.Words.{is_name, is_word_text};
 ghost use Rattle.mt_tokens.specs.Tokens.{Word, Digits, plain};
 ghost use Rattle.mt_tokens.specs.Lexis.{run_of, text_at, quoted_at, token_at, skip_blanks};
 
@@ -85,17 +85,20 @@ fn all_word_bytes(bytes: &[u8]) -> bool
     bytes.iter().all(|c| is_word_byte(*c))
 }
 
+fn is_word_text(bytes: &[u8]) -> bool
+    ensures { result ≡ is_word_text bytes.now }
+{
+    match split_byte(bytes) {
+        Some((first, rest)) => is_word_start(first) && all_word_bytes(rest),
+        None => false,
+    }
+}
+
 /// Whether the bytes are a word of at most `MAX_NAME` bytes.
 fn is_name(bytes: &[u8]) -> bool
     ensures { result ≡ is_name bytes.now }
 {
-    let Some((first, _)) = split_byte(bytes) else {
-        return false;
-    };
-    if !is_word_start(first) || bytes.len() > MAX_NAME {
-        return false;
-    }
-    all_word_bytes(bytes)
+    is_word_text(bytes) && bytes.len() <= MAX_NAME
 }
 
 /// The name that a backquote before these bytes begins, and what follows its last backquote.
