@@ -174,12 +174,15 @@ agg_of token =
     else if is_keyword (codes "max") token then Some Max
     else None
 
--- item := name | count ( ) | (sum | min | max) ( name )
-abbrev pub Item : Phrase Selection
-Item =
+-- count ( ) | (sum | min | max) ( name )
+abbrev pub Call : Phrase Selection
+Call =
     (is_keyword (codes "count") ▹ is_sign Open ▹ One (given (is_sign Close) item.Count))
     ∣ Made (λ x. item.Of x.0 x.1) (One agg_of & InParens Name)
-    ∣ Made item.Column Name
+
+-- item := name | count ( ) | (sum | min | max) ( name )
+abbrev pub Item : Phrase Selection
+Item = Call ∣ Made item.Column Name
 
 -- * | item {, item}
 abbrev pub Selects : Phrase Selected

@@ -1,3 +1,5 @@
 pub mod Phrases
 pub mod Grammar
+pub mod Readers
+pub mod Reading
 pub mod Answers

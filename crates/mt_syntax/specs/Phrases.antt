@@ -8,7 +8,6 @@ infixl 50 ◌◃◌
 infixl 45 ◌◂◌
 infixr 40 ◌&◌
 infixr 30 ◌∣◌
-
 -- the tokens begin with what has this tree, and the rest follows it
 abbrev pub Phrase : Type 0 → Type 1
 Phrase A = (tokens : List Tok) → (tree : A) → (rest : List Tok) → Type 0
@@ -66,10 +65,19 @@ abbrev pub Perhaps : {A : Type 0} → List (Tok → Bool) → Phrase A → Phras
 Perhaps tests P tokens tree rest =
     (middle : List Tok) × ((tokens ≡ middle) ⊎ Marks tests tokens middle) × P middle tree rest
 
--- the phrase, which begins with none of these tokens
+-- the first token passes
+abbrev pub first_is : (test : Tok → Bool) → List Tok → Bool
+first_is test [] = false
+first_is test (token ∷ tokens) = test token
+
+-- the second token passes
+abbrev pub second_is : (test : Tok → Bool) → List Tok → Bool
+second_is test [] = false
+second_is test (token ∷ tokens) = first_is test tokens
+
+-- the phrase, which doesn't begin with such a token
 abbrev pub NotWith : {A : Type 0} → (test : Tok → Bool) → Phrase A → Phrase A
-NotWith test P [] tree rest = ⊥
-NotWith test P (token ∷ tokens) tree rest = (test token ≡ false) × P (token ∷ tokens) tree rest
+NotWith test P tokens tree rest = (first_is test tokens ≡ false) × P tokens tree rest
 
 -- nothing
 abbrev pub Nothing : Phrase (Unit {0})

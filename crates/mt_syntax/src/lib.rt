@@ -4,10 +4,20 @@
 #![tactic(auto)]
 
 mod clause;
+mod column;
+mod element;
 mod error;
+mod index;
 mod limits;
+mod names;
+mod partition;
+mod projection;
 mod reading;
+mod sentence;
+mod setting;
+mod token;
 mod tree;
+mod types;
 
 pub use error::SyntaxError;
 pub use limits::MAX_TYPE_DEPTH;
