@@ -14,7 +14,9 @@ use Rattle.mt_syntax.specs.declared.tree.PartitionText.TheVariants.{Plain, Month
 use Rattle.mt_syntax.specs.declared.clause.Clause.{Clause}
 use Rattle.mt_syntax.specs.declared.clause.Clause.TheVariants as clause
 use Rattle.mt_syntax.specs.declared.clause.Clauses.{Clauses}
-use Rattle.mt_syntax.specs.Grammar.{alone, Name, Chain, InParens, Key, Expression, Expressions, value_of, setting_of, Setting, AClause, with_clause, with_clauses, no_clauses, SomeClauses, Engine}
+use Rattle.mt_syntax.specs.Grammar.{IsName, Chain, InParens, IsKey, IsExpression, IsExpressions, IsSetting, IsClause, IsClauses, IsEngine}
+use Rattle.mt_syntax.specs.Trees.{alone, setting_of, with_clause, with_clauses, no_clauses}
+use Rattle.mt_syntax.specs.Terminals.{value_of}
 use Rattle.mt_syntax.specs.Readers.{Reader, after, made, chain, closed}
 use Rattle.mt_syntax.specs.Reading.{expression_at, expressions_at, setting_at, is_clause_key, clause_at, more_clauses, clauses_at, key_at, engine_at}
 use Rattle.mt_syntax.proofs.PhraseLaws.{IsRead, Any, Not, narrowed, one_law, after_law, after_strict, both_law, then_law, made_law, either_law, either_if_law}
@@ -24,11 +26,11 @@ use Rattle.mt_syntax.proofs.ElementLaws.{name_law, word_law, name_is_over, key_l
 
 -- ---- partition keys
 
-month_opens : (tokens : List Tok) (tree : PartitionText) (rest : List Tok) → (is_word (codes "toYYYYMM") ▹ Made Month (InParens Name)) tokens tree rest → second_is (is_sign Open) tokens ≡ true
+month_opens : (tokens : List Tok) (tree : PartitionText) (rest : List Tok) → (is_word (codes "toYYYYMM") ▹ Made Month (InParens IsName)) tokens tree rest → second_is (is_sign Open) tokens ≡ true
 month_opens [] tree rest h = absurd h
-month_opens (token ∷ tokens) tree rest h = after_is (is_sign Open) (Name ◃ is_sign Close) tokens h.1.0 rest h.1.2
+month_opens (token ∷ tokens) tree rest h = after_is (is_sign Open) (IsName ◃ is_sign Close) tokens h.1.0 rest h.1.2
 
-expression_law : IsRead Expression expression_at NoOpen
+expression_law : IsRead IsExpression expression_at NoOpen
 unfolding expression_at
 expression_law =
     either_if_law (second_is (is_sign Open))
@@ -36,11 +38,11 @@ expression_law =
     (narrowed NoOpen (made_law Plain name_law) (λ rest s. tt))
     month_opens (λ tokens tree rest h s. name_is_over tokens h.0 rest h.2 s)
 
-expression_begins : (tokens : List Tok) (tree : PartitionText) (rest : List Tok) → Expression tokens tree rest → NoOpen tokens
-expression_begins tokens tree rest (inl h) = after_begins (is_word (codes "toYYYYMM")) (is_sign Open) (Made Month (InParens Name)) (word_no_sign (codes "toYYYYMM") Open) tokens tree rest h
+expression_begins : (tokens : List Tok) (tree : PartitionText) (rest : List Tok) → IsExpression tokens tree rest → NoOpen tokens
+expression_begins tokens tree rest (inl h) = after_begins (is_word (codes "toYYYYMM")) (is_sign Open) (Made Month (InParens IsName)) (word_no_sign (codes "toYYYYMM") Open) tokens tree rest h
 expression_begins tokens tree rest (inr h) = one_begins name_of (is_sign Open) (name_no_sign Open) tokens h.0 rest h.2
 
-expressions_law : IsRead Expressions expressions_at NoOpen
+expressions_law : IsRead IsExpressions expressions_at NoOpen
 expressions_law =
     let expressions = chain_law NoMore expression_law (λ token rest e. comma_no_open token e) (λ rest s. s) in
     either_law (is_sign Open) (narrowed NoOpen (closed_law expressions (λ token rest e. (close_no_comma token e, close_no_open token e))) (λ rest s. tt))
@@ -48,75 +50,75 @@ expressions_law =
 
 -- ---- settings
 
-setting_law : IsRead Setting setting_at Any
+setting_law : IsRead IsSetting setting_at Any
 setting_law = made_law setting_of (then_law word_law (after_law (is_sign Equal) (one_law value_of)))
 
-settings_law : IsRead (Chain Setting) (chain setting_at) (Not (is_sign Comma))
+settings_law : IsRead (Chain IsSetting) (chain setting_at) (Not (is_sign Comma))
 settings_law = chain_law (Not (is_sign Comma)) setting_law (λ token rest e. tt) (λ rest s. (s, tt))
 
 -- ---- one clause
 
-abbrev IsPartition : Tok → Bool
-IsPartition = is_keyword (codes "PARTITION")
+abbrev partition_key : Tok → Bool
+partition_key = is_keyword (codes "PARTITION")
 
-abbrev IsPrimary : Tok → Bool
-IsPrimary = is_keyword (codes "PRIMARY")
+abbrev primary_key : Tok → Bool
+primary_key = is_keyword (codes "PRIMARY")
 
-abbrev IsOrder : Tok → Bool
-IsOrder = is_keyword (codes "ORDER")
+abbrev order_key : Tok → Bool
+order_key = is_keyword (codes "ORDER")
 
-abbrev IsSettings : Tok → Bool
-IsSettings = is_keyword (codes "SETTINGS")
+abbrev settings_key : Tok → Bool
+settings_key = is_keyword (codes "SETTINGS")
 
-abbrev PartitionBody : Phrase Clause
-PartitionBody = is_keyword (codes "BY") ▹ Made clause.Partition Expressions
+abbrev IsPartitionBody : Phrase Clause
+IsPartitionBody = is_keyword (codes "BY") ▹ Made clause.Partition IsExpressions
 
-abbrev PrimaryBody : Phrase Clause
-PrimaryBody = is_keyword (codes "KEY") ▹ Made clause.Primary Key
+abbrev IsPrimaryBody : Phrase Clause
+IsPrimaryBody = is_keyword (codes "KEY") ▹ Made clause.Primary IsKey
 
-abbrev OrderBody : Phrase Clause
-OrderBody = is_keyword (codes "BY") ▹ Made clause.Order Key
+abbrev IsOrderBody : Phrase Clause
+IsOrderBody = is_keyword (codes "BY") ▹ Made clause.Order IsKey
 
-abbrev SettingsBody : Phrase Clause
-SettingsBody = Made clause.Settings (Chain Setting)
+abbrev IsSettingsBody : Phrase Clause
+IsSettingsBody = Made clause.Settings (Chain IsSetting)
 
-partition_body : IsRead PartitionBody (after (is_keyword (codes "BY")) (made clause.Partition expressions_at)) NoMore
+partition_body : IsRead IsPartitionBody (after (is_keyword (codes "BY")) (made clause.Partition expressions_at)) NoMore
 partition_body = after_law (is_keyword (codes "BY")) (made_law clause.Partition (narrowed NoMore expressions_law (λ rest s. s.1)))
 
-primary_body : IsRead PrimaryBody (after (is_keyword (codes "KEY")) (made clause.Primary key_at)) NoMore
+primary_body : IsRead IsPrimaryBody (after (is_keyword (codes "KEY")) (made clause.Primary key_at)) NoMore
 primary_body = after_law (is_keyword (codes "KEY")) (made_law clause.Primary (narrowed NoMore key_law (λ rest s. tt)))
 
-order_body : IsRead OrderBody (after (is_keyword (codes "BY")) (made clause.Order key_at)) NoMore
+order_body : IsRead IsOrderBody (after (is_keyword (codes "BY")) (made clause.Order key_at)) NoMore
 order_body = after_law (is_keyword (codes "BY")) (made_law clause.Order (narrowed NoMore key_law (λ rest s. tt)))
 
-settings_body : IsRead SettingsBody (made clause.Settings (chain setting_at)) NoMore
+settings_body : IsRead IsSettingsBody (made clause.Settings (chain setting_at)) NoMore
 settings_body = made_law clause.Settings (narrowed NoMore settings_law (λ rest s. s.0))
 
-settings_begins : (test : Tok → Bool) → Apart IsSettings test → (tokens : List Tok) (tree : Clause) (rest : List Tok) → (IsSettings ▹ SettingsBody) tokens tree rest → Not test tokens
-settings_begins test apart tokens tree rest h = after_begins IsSettings test SettingsBody apart tokens tree rest h
+settings_begins : (test : Tok → Bool) → Apart settings_key test → (tokens : List Tok) (tree : Clause) (rest : List Tok) → (settings_key ▹ IsSettingsBody) tokens tree rest → Not test tokens
+settings_begins test apart tokens tree rest h = after_begins settings_key test IsSettingsBody apart tokens tree rest h
 
-order_begins : (test : Tok → Bool) → Apart IsOrder test → Apart IsSettings test → (tokens : List Tok) (tree : Clause) (rest : List Tok) → ((IsOrder ▹ OrderBody) ∣ (IsSettings ▹ SettingsBody)) tokens tree rest → Not test tokens
-order_begins test o s tokens tree rest (inl h) = after_begins IsOrder test OrderBody o tokens tree rest h
+order_begins : (test : Tok → Bool) → Apart order_key test → Apart settings_key test → (tokens : List Tok) (tree : Clause) (rest : List Tok) → ((order_key ▹ IsOrderBody) ∣ (settings_key ▹ IsSettingsBody)) tokens tree rest → Not test tokens
+order_begins test o s tokens tree rest (inl h) = after_begins order_key test IsOrderBody o tokens tree rest h
 order_begins test o s tokens tree rest (inr h) = settings_begins test s tokens tree rest h
 
-primary_begins : (test : Tok → Bool) → Apart IsPrimary test → Apart IsOrder test → Apart IsSettings test → (tokens : List Tok) (tree : Clause) (rest : List Tok)
-    → ((IsPrimary ▹ PrimaryBody) ∣ (IsOrder ▹ OrderBody) ∣ (IsSettings ▹ SettingsBody)) tokens tree rest → Not test tokens
-primary_begins test p o s tokens tree rest (inl h) = after_begins IsPrimary test PrimaryBody p tokens tree rest h
+primary_begins : (test : Tok → Bool) → Apart primary_key test → Apart order_key test → Apart settings_key test → (tokens : List Tok) (tree : Clause) (rest : List Tok)
+    → ((primary_key ▹ IsPrimaryBody) ∣ (order_key ▹ IsOrderBody) ∣ (settings_key ▹ IsSettingsBody)) tokens tree rest → Not test tokens
+primary_begins test p o s tokens tree rest (inl h) = after_begins primary_key test IsPrimaryBody p tokens tree rest h
 primary_begins test p o s tokens tree rest (inr h) = order_begins test o s tokens tree rest h
 
-clause_law : IsRead AClause clause_at NoMore
+clause_law : IsRead IsClause clause_at NoMore
 unfolding clause_at
 clause_law =
-    either_law IsPartition partition_body
-    (either_law IsPrimary primary_body
-    (either_law IsOrder order_body (after_law IsSettings settings_body)
-    (λ tokens tree rest h s. settings_begins IsOrder (keys_apart (codes "SETTINGS") (codes "ORDER") refl) tokens tree rest h))
-    (λ tokens tree rest h s. order_begins IsPrimary (keys_apart (codes "ORDER") (codes "PRIMARY") refl) (keys_apart (codes "SETTINGS") (codes "PRIMARY") refl) tokens tree rest h))
-    (λ tokens tree rest h s. primary_begins IsPartition (keys_apart (codes "PRIMARY") (codes "PARTITION") refl) (keys_apart (codes "ORDER") (codes "PARTITION") refl) (keys_apart (codes "SETTINGS") (codes "PARTITION") refl) tokens tree rest h)
+    either_law partition_key partition_body
+    (either_law primary_key primary_body
+    (either_law order_key order_body (after_law settings_key settings_body)
+    (λ tokens tree rest h s. settings_begins order_key (keys_apart (codes "SETTINGS") (codes "ORDER") refl) tokens tree rest h))
+    (λ tokens tree rest h s. order_begins primary_key (keys_apart (codes "ORDER") (codes "PRIMARY") refl) (keys_apart (codes "SETTINGS") (codes "PRIMARY") refl) tokens tree rest h))
+    (λ tokens tree rest h s. primary_begins partition_key (keys_apart (codes "PRIMARY") (codes "PARTITION") refl) (keys_apart (codes "ORDER") (codes "PARTITION") refl) (keys_apart (codes "SETTINGS") (codes "PARTITION") refl) tokens tree rest h)
 
 -- a clause begins with no sign
-no_sign_begins : (sign : Sign) (tokens : List Tok) (tree : Clause) (rest : List Tok) → AClause tokens tree rest → Not (is_sign sign) tokens
-no_sign_begins sign tokens tree rest (inl h) = after_begins IsPartition (is_sign sign) PartitionBody (key_no_sign (codes "PARTITION") sign) tokens tree rest h
+no_sign_begins : (sign : Sign) (tokens : List Tok) (tree : Clause) (rest : List Tok) → IsClause tokens tree rest → Not (is_sign sign) tokens
+no_sign_begins sign tokens tree rest (inl h) = after_begins partition_key (is_sign sign) IsPartitionBody (key_no_sign (codes "PARTITION") sign) tokens tree rest h
 no_sign_begins sign tokens tree rest (inr h) =
     primary_begins (is_sign sign) (key_no_sign (codes "PRIMARY") sign) (key_no_sign (codes "ORDER") sign) (key_no_sign (codes "SETTINGS") sign) tokens tree rest h
 
@@ -134,21 +136,21 @@ fourth_of false true c d e = refl
 fourth_of false false true d e = refl
 fourth_of false false false d e = e
 
-clause_begins : (tokens : List Tok) (tree : Clause) (rest : List Tok) → AClause tokens tree rest → first_is is_clause_key tokens ≡ true
+clause_begins : (tokens : List Tok) (tree : Clause) (rest : List Tok) → IsClause tokens tree rest → first_is is_clause_key tokens ≡ true
 clause_begins [] tree rest (inl h) = absurd h
 clause_begins [] tree rest (inr (inl h)) = absurd h
 clause_begins [] tree rest (inr (inr (inl h))) = absurd h
 clause_begins [] tree rest (inr (inr (inr h))) = absurd h
 clause_begins (token ∷ tokens) tree rest (inl h) = rw h.0 refl
-clause_begins (token ∷ tokens) tree rest (inr (inl h)) = second_of (IsPartition token) (IsPrimary token) (IsOrder token || IsSettings token) h.0
-clause_begins (token ∷ tokens) tree rest (inr (inr (inl h))) = third_of (IsPartition token) (IsPrimary token) (IsOrder token) (IsSettings token) h.0
-clause_begins (token ∷ tokens) tree rest (inr (inr (inr h))) = fourth_of (IsPartition token) (IsPrimary token) (IsOrder token) (IsSettings token) h.0
+clause_begins (token ∷ tokens) tree rest (inr (inl h)) = second_of (partition_key token) (primary_key token) (order_key token || settings_key token) h.0
+clause_begins (token ∷ tokens) tree rest (inr (inr (inl h))) = third_of (partition_key token) (primary_key token) (order_key token) (settings_key token) h.0
+clause_begins (token ∷ tokens) tree rest (inr (inr (inr h))) = fourth_of (partition_key token) (primary_key token) (order_key token) (settings_key token) h.0
 
-clause_strict : (tokens : List Tok) (tree : Clause) (rest : List Tok) → AClause tokens tree rest → length rest < length tokens
-clause_strict tokens tree rest (inl h) = after_strict IsPartition PartitionBody (after (is_keyword (codes "BY")) (made clause.Partition expressions_at)) NoMore partition_body tokens tree rest h
-clause_strict tokens tree rest (inr (inl h)) = after_strict IsPrimary PrimaryBody (after (is_keyword (codes "KEY")) (made clause.Primary key_at)) NoMore primary_body tokens tree rest h
-clause_strict tokens tree rest (inr (inr (inl h))) = after_strict IsOrder OrderBody (after (is_keyword (codes "BY")) (made clause.Order key_at)) NoMore order_body tokens tree rest h
-clause_strict tokens tree rest (inr (inr (inr h))) = after_strict IsSettings SettingsBody (made clause.Settings (chain setting_at)) NoMore settings_body tokens tree rest h
+clause_strict : (tokens : List Tok) (tree : Clause) (rest : List Tok) → IsClause tokens tree rest → length rest < length tokens
+clause_strict tokens tree rest (inl h) = after_strict partition_key IsPartitionBody (after (is_keyword (codes "BY")) (made clause.Partition expressions_at)) NoMore partition_body tokens tree rest h
+clause_strict tokens tree rest (inr (inl h)) = after_strict primary_key IsPrimaryBody (after (is_keyword (codes "KEY")) (made clause.Primary key_at)) NoMore primary_body tokens tree rest h
+clause_strict tokens tree rest (inr (inr (inl h))) = after_strict order_key IsOrderBody (after (is_keyword (codes "BY")) (made clause.Order key_at)) NoMore order_body tokens tree rest h
+clause_strict tokens tree rest (inr (inr (inr h))) = after_strict settings_key IsSettingsBody (made clause.Settings (chain setting_at)) NoMore settings_body tokens tree rest h
 
 -- ---- clauses
 
@@ -157,7 +159,7 @@ abbrev pub EndsClauses : List Tok → Type 0
 EndsClauses rest = Not is_clause_key rest × NoMore rest
 
 abbrev Together : Clauses → List Tok → Clauses × List Tok → Type 0
-Together c tokens x = (trees : List Clause) × (with_clauses c trees ≡ Some x.0) × Many AClause tokens trees x.1
+Together c tokens x = (trees : List Clause) × (with_clauses c trees ≡ Some x.0) × Many IsClause tokens trees x.1
 
 none_more : (c : Clauses) (tokens : List Tok) (x : Clauses × List Tok) → (let o : Option (Clauses × List Tok) = Some (c, tokens) in o) ≡ Some x → Together c tokens x
 none_more c tokens x e =
@@ -179,7 +181,7 @@ more_sound (suc count) c tokens x e = elim (cases_Bool (first_is is_clause_key t
   | inr other ↦ none_more c tokens x (rw other at e)
 ]
 
-clauses_end : (tokens : List Tok) (trees : List Clause) (rest : List Tok) → Many AClause tokens trees rest → NoMore rest → NoMore tokens
+clauses_end : (tokens : List Tok) (trees : List Clause) (rest : List Tok) → Many IsClause tokens trees rest → NoMore rest → NoMore tokens
 clauses_end tokens [] rest h s = subst NoMore (sym h) s
 clauses_end tokens (tree ∷ trees) rest h s = (no_sign_begins Comma tokens tree h.0 h.1, no_sign_begins Open tokens tree h.0 h.1)
 
@@ -188,7 +190,7 @@ unfolding more_clauses
 no_more zero c tokens none = refl
 no_more (suc count) c tokens none = rw none refl
 
-more_complete : (count : ℕ) (c : Clauses) (tokens : List Tok) (trees : List Clause) (rest : List Tok) (all : Clauses) → length tokens ≤ count → Many AClause tokens trees rest → with_clauses c trees ≡ Some all → EndsClauses rest
+more_complete : (count : ℕ) (c : Clauses) (tokens : List Tok) (trees : List Clause) (rest : List Tok) (all : Clauses) → length tokens ≤ count → Many IsClause tokens trees rest → with_clauses c trees ≡ Some all → EndsClauses rest
     → more_clauses count c tokens ≡ Some (all, rest)
 unfolding more_clauses
 more_complete count c tokens [] rest all room h e s =
@@ -204,11 +206,11 @@ more_complete (suc count) c tokens (tree ∷ trees) rest all room h e s =
     let others = more_complete count d.0 h.0 trees rest all (omega arith) h.2 d.2 s in
     rw (clause_begins tokens tree h.0 h.1, one, d.1) others
 
-many_within : (tokens : List Tok) (trees : List Clause) (rest : List Tok) → Many AClause tokens trees rest → length rest ≤ length tokens
+many_within : (tokens : List Tok) (trees : List Clause) (rest : List Tok) → Many IsClause tokens trees rest → length rest ≤ length tokens
 many_within tokens [] rest h = omega (arith, ap length h)
 many_within tokens (tree ∷ trees) rest h = omega (arith, clause_strict tokens tree h.0 h.1, many_within h.0 trees rest h.2)
 
-clauses_law : IsRead SomeClauses clauses_at EndsClauses
+clauses_law : IsRead IsClauses clauses_at EndsClauses
 clauses_law = record {
   sound = λ tokens x e. more_sound (length tokens) no_clauses tokens x e;
   complete = λ tokens tree rest h s. more_complete (length tokens) no_clauses tokens h.0 rest tree (omega arith) h.2 h.1 s;
@@ -217,7 +219,7 @@ clauses_law = record {
 
 -- ---- the engine
 
-pub engine_law : IsRead Engine engine_at EndsClauses
+pub engine_law : IsRead IsEngine engine_at EndsClauses
 unfolding engine_at
 engine_law =
     after_law (is_keyword (codes "ENGINE")) (after_law (is_sign Equal) (after_law (is_word (codes "MergeTree"))

@@ -6,7 +6,7 @@ use Rattle.mt_syntax.specs.declared.error.SyntaxError.TheVariants as error
 use Rattle.mt_syntax.specs.declared.clause.Clause.{Clause}
 use Rattle.mt_syntax.specs.declared.clause.Clauses.{Clauses}
 use Rattle.mt_syntax.specs.Phrases.{first_is}
-use Rattle.mt_syntax.specs.Grammar.{with_clause}
+use Rattle.mt_syntax.specs.Trees.{with_clause}
 use Rattle.mt_syntax.specs.Reading.{clause_at, more_clauses, is_clause_key}
 use Rattle.mt_syntax.specs.Answers.{Fails}
 

@@ -9,7 +9,8 @@ use Rattle.mt_tokens.specs.Tokens.{Tok}
 use Rattle.mt_tokens.specs.Words.{is_sign}
 use Rattle.mt_tokens.specs.Splits.{after_if}
 use Rattle.mt_syntax.specs.Phrases.{Phrase, ◌▹◌, ◌◃◌, ◌&◌, Many, Made, Marks, Perhaps, first_is}
-use Rattle.mt_syntax.specs.Grammar.{Chain, InParens, joined}
+use Rattle.mt_syntax.specs.Grammar.{Chain, InParens}
+use Rattle.mt_syntax.specs.Trees.{joined}
 use Rattle.mt_syntax.specs.Readers.{Reader, marks, skip, skip_if, perhaps, perhaps_if, more, chain, closed, in_parens}
 use Rattle.mt_syntax.proofs.PhraseLaws.{IsRead, Any, Not, after_law, after_strict, before_law}
 

@@ -12,7 +12,9 @@ use Rattle.mt_syntax.specs.declared.clause.Clauses.{Clauses}
 use Rattle.mt_syntax.specs.declared.error.SyntaxError.{SyntaxError}
 use Rattle.mt_syntax.specs.declared.error.SyntaxError.TheVariants as error
 use Rattle.mt_syntax.specs.Phrases.{Phrase, ◌▹◌, ◌◃◌, ◌&◌, ◌◂◌, Marks, Kept, Perhaps, Nothing, first_is, second_is}
-use Rattle.mt_syntax.specs.Grammar.{is_text, is_name, Name, Chain, AnElement, Elements, Engine, Body, said, End, Sentence, IsTableText}
+use Rattle.mt_syntax.specs.Grammar.{IsName, Chain, IsElement, IsElements, IsEngine, IsBody, IsEnd, IsSentence, IsTableText}
+use Rattle.mt_syntax.specs.Trees.{said}
+use Rattle.mt_syntax.specs.Terminals.{is_text, is_name}
 use Rattle.mt_syntax.specs.Readers.{kept, marks, skip, skip_if}
 use Rattle.mt_syntax.specs.Reading.{is_clause_key, body_at, end_at, whole, rest_at, sentence_at}
 use Rattle.mt_syntax.specs.Answers.{Gives, GivesSentence}
@@ -25,22 +27,22 @@ use Rattle.mt_syntax.proofs.ClauseLaws.{EndsClauses, engine_law}
 
 -- ---- the table's name, elements and clauses
 
-abbrev IsUuid : Tok → Bool
-IsUuid = is_keyword (codes "UUID")
+abbrev uuid_key : Tok → Bool
+uuid_key = is_keyword (codes "UUID")
 
-abbrev Definition : Phrase (List Element × Clauses)
-Definition = Perhaps (IsUuid ∷ is_text ∷ []) (Elements & Engine)
+abbrev IsDefinition : Phrase (List Element × Clauses)
+IsDefinition = Perhaps (uuid_key ∷ is_text ∷ []) (IsElements & IsEngine)
 
-abbrev Named : Phrase (List ℕ × (List Element × Clauses))
-Named = Name & Definition
+abbrev IsNamed : Phrase (List ℕ × (List Element × Clauses))
+IsNamed = IsName & IsDefinition
 
-opens : (test : Tok → Bool) → Apart (is_sign Open) test → (tokens : List Tok) (tree : List Element × Clauses) (rest : List Tok) → (Elements & Engine) tokens tree rest → Not test tokens
-opens test apart tokens tree rest h = after_begins (is_sign Open) test (Chain AnElement ◃ is_sign Close) apart tokens tree.0 h.0 h.1
+opens : (test : Tok → Bool) → Apart (is_sign Open) test → (tokens : List Tok) (tree : List Element × Clauses) (rest : List Tok) → (IsElements & IsEngine) tokens tree rest → Not test tokens
+opens test apart tokens tree rest h = after_begins (is_sign Open) test (Chain IsElement ◃ is_sign Close) apart tokens tree.0 h.0 h.1
 
-definition_begins : (test : Tok → Bool) → Apart IsUuid test → Apart (is_sign Open) test → (tokens : List Tok) (tree : List Element × Clauses) (rest : List Tok) → Definition tokens tree rest → Not test tokens
-definition_begins test u o tokens tree rest h = skips_begin IsUuid test (is_text ∷ []) u tokens h.0 h.1 (opens test o h.0 tree rest h.2)
+definition_begins : (test : Tok → Bool) → Apart uuid_key test → Apart (is_sign Open) test → (tokens : List Tok) (tree : List Element × Clauses) (rest : List Tok) → IsDefinition tokens tree rest → Not test tokens
+definition_begins test u o tokens tree rest h = skips_begin uuid_key test (is_text ∷ []) u tokens h.0 h.1 (opens test o h.0 tree rest h.2)
 
-second_begins : (test : Tok → Bool) → Apart IsUuid test → Apart (is_sign Open) test → (tokens : List Tok) (tree : List ℕ × (List Element × Clauses)) (rest : List Tok) → Named tokens tree rest → second_is test tokens ≡ false
+second_begins : (test : Tok → Bool) → Apart uuid_key test → Apart (is_sign Open) test → (tokens : List Tok) (tree : List ℕ × (List Element × Clauses)) (rest : List Tok) → IsNamed tokens tree rest → second_is test tokens ≡ false
 second_begins test u o [] tree rest h = absurd h.1
 second_begins test u o (token ∷ tokens) tree rest h =
     subst (λ (us : List Tok). Not test us) (sym h.1.1) (definition_begins test u o h.0 tree.1 rest h.2)
@@ -50,41 +52,41 @@ point_is_second [] rest h = absurd h
 point_is_second (token ∷ []) rest h = absurd h.1
 point_is_second (token ∷ other ∷ tokens) rest h = h.1.0
 
-body_law : IsRead Body body_at EndsClauses
+body_law : IsRead IsBody body_at EndsClauses
 unfolding body_at
 body_law =
-    let definition = perhaps_law IsUuid (is_text ∷ []) (then_law elements_law engine_law) (λ tokens tree rest h s. opens IsUuid (sign_no_key Open (codes "UUID")) tokens tree rest h) in
+    let definition = perhaps_law uuid_key (is_text ∷ []) (then_law elements_law engine_law) (λ tokens tree rest h s. opens uuid_key (sign_no_key Open (codes "UUID")) tokens tree rest h) in
     perhaps_if_law (second_is (is_sign Dot)) (is_name ∷ is_sign Dot ∷ []) (then_law name_law definition) point_is_second
     (λ tokens tree rest h s. second_begins (is_sign Dot) (key_no_sign (codes "UUID") Dot) (signs_apart Open Dot refl) tokens tree rest h)
 
 -- ---- the end
 
-abbrev IsComment : Tok → Bool
-IsComment = is_keyword (codes "COMMENT")
+abbrev comment_key : Tok → Bool
+comment_key = is_keyword (codes "COMMENT")
 
-abbrev IsSemicolon : Tok → Bool
-IsSemicolon = is_sign Semicolon
+abbrev semicolon : Tok → Bool
+semicolon = is_sign Semicolon
 
-end_sound : (tokens rest : List Tok) → end_at tokens ≡ Some rest → End tokens tt rest
+end_sound : (tokens rest : List Tok) → end_at tokens ≡ Some rest → IsEnd tokens tt rest
 end_sound tokens rest e =
-    let m = then_is (skip IsSemicolon []) (skip IsComment (is_text ∷ []) tokens) rest e in
-    (m.0, skip_sound IsComment (is_text ∷ []) tokens m.0 m.1, (rest, skip_sound IsSemicolon [] m.0 rest m.2, refl))
+    let m = then_is (skip semicolon []) (skip comment_key (is_text ∷ []) tokens) rest e in
+    (m.0, skip_sound comment_key (is_text ∷ []) tokens m.0 m.1, (rest, skip_sound semicolon [] m.0 rest m.2, refl))
 
 -- what ends in ; and no more begins with nothing else
-tail_begins : (test : Tok → Bool) → Apart IsSemicolon test → (tokens rest : List Tok) → Skips (IsSemicolon ∷ []) tokens rest → rest ≡ [] → Not test tokens
-tail_begins test apart tokens rest h e = skips_begin IsSemicolon test [] apart tokens rest h (subst (λ (us : List Tok). Not test us) (sym e) refl)
+tail_begins : (test : Tok → Bool) → Apart semicolon test → (tokens rest : List Tok) → Skips (semicolon ∷ []) tokens rest → rest ≡ [] → Not test tokens
+tail_begins test apart tokens rest h e = skips_begin semicolon test [] apart tokens rest h (subst (λ (us : List Tok). Not test us) (sym e) refl)
 
-end_begins : (test : Tok → Bool) → Apart IsComment test → Apart IsSemicolon test → (tokens : List Tok) → End tokens tt [] → Not test tokens
-end_begins test c s tokens h = skips_begin IsComment test (is_text ∷ []) c tokens h.0 h.1 (tail_begins test s h.0 h.2.0 h.2.1 h.2.2)
+end_begins : (test : Tok → Bool) → Apart comment_key test → Apart semicolon test → (tokens : List Tok) → IsEnd tokens tt [] → Not test tokens
+end_begins test c s tokens h = skips_begin comment_key test (is_text ∷ []) c tokens h.0 h.1 (tail_begins test s h.0 h.2.0 h.2.1 h.2.2)
 
 skipped : (test : Tok → Bool) (tests : List (Tok → Bool)) (tokens middle : List Tok) → Skips (test ∷ tests) tokens middle → Not test middle → skip test tests tokens ≡ Some middle
 skipped test tests tokens middle (inl h) none = subst (λ (us : List Tok). skip test tests us ≡ Some middle) (sym h) (skip_none test tests middle none)
 skipped test tests tokens middle (inr h) none = skip_all test tests tokens middle h
 
-end_complete : (tokens : List Tok) → End tokens tt [] → end_at tokens ≡ Some []
+end_complete : (tokens : List Tok) → IsEnd tokens tt [] → end_at tokens ≡ Some []
 end_complete tokens h =
-    let first = skipped IsComment (is_text ∷ []) tokens h.0 h.1 (tail_begins IsComment (sign_no_key Semicolon (codes "COMMENT")) h.0 h.2.0 h.2.1 h.2.2) in
-    let second = skipped IsSemicolon [] h.0 h.2.0 h.2.1 (subst (λ (us : List Tok). Not IsSemicolon us) (sym h.2.2) refl) in
+    let first = skipped comment_key (is_text ∷ []) tokens h.0 h.1 (tail_begins comment_key (sign_no_key Semicolon (codes "COMMENT")) h.0 h.2.0 h.2.1 h.2.2) in
+    let second = skipped semicolon [] h.0 h.2.0 h.2.1 (subst (λ (us : List Tok). Not semicolon us) (sym h.2.2) refl) in
     rw first (second ∙ ap (λ (us : List Tok). let o : Option (List Tok) = Some us in o) h.2.2)
 
 -- ---- the whole
@@ -94,19 +96,19 @@ whole_is read tree [] e = (refl, some_is read tree e)
 whole_is read tree (token ∷ tokens) e = absurd cc
 
 -- the sentence behind IF NOT EXISTS
-abbrev Rest : Phrase TableText
-Rest = Kept said Body ◂ End
+abbrev IsRest : Phrase TableText
+IsRest = Kept said IsBody ◂ IsEnd
 
-rest_sound : (tokens : List Tok) (tree : TableText) → rest_at tokens ≡ Some tree → Rest tokens tree []
+rest_sound : (tokens : List Tok) (tree : TableText) → rest_at tokens ≡ Some tree → IsRest tokens tree []
 unfolding rest_at
 rest_sound tokens tree e =
     let y = then_is (λ (x : TableText × List Tok). option_and_then (whole x.0) (end_at x.1)) (kept said body_at tokens) tree e in
     let z = then_is (whole y.0.0) (end_at y.0.1) tree y.2 in
     let w = whole_is y.0.0 tree z.0 z.2 in
     let read = (kept_law said body_law).sound tokens y.0 y.1 in
-    (y.0.1, subst (λ (t : TableText). Kept said Body tokens t y.0.1) w.1 read, subst (λ (us : List Tok). End y.0.1 tt us) w.0 (end_sound y.0.1 z.0 z.1))
+    (y.0.1, subst (λ (t : TableText). Kept said IsBody tokens t y.0.1) w.1 read, subst (λ (us : List Tok). IsEnd y.0.1 tt us) w.0 (end_sound y.0.1 z.0 z.1))
 
-rest_complete : (tokens : List Tok) (tree : TableText) → Rest tokens tree [] → rest_at tokens ≡ Some tree
+rest_complete : (tokens : List Tok) (tree : TableText) → IsRest tokens tree [] → rest_at tokens ≡ Some tree
 unfolding rest_at
 rest_complete tokens tree h =
     let ends : EndsClauses h.0 = (
@@ -119,49 +121,49 @@ rest_complete tokens tree h =
     let read = (kept_law said body_law).complete tokens tree h.0 h.1 ends in
     rw (read, end_complete h.0 h.2) refl
 
-abbrev IsNot : Tok → Bool
-IsNot = is_keyword (codes "NOT")
+abbrev not_key : Tok → Bool
+not_key = is_keyword (codes "NOT")
 
 abbrev exists_tests : List (Tok → Bool)
-exists_tests = is_keyword (codes "IF") ∷ IsNot ∷ is_keyword (codes "EXISTS") ∷ []
+exists_tests = is_keyword (codes "IF") ∷ not_key ∷ is_keyword (codes "EXISTS") ∷ []
 
-not_is_second : (tokens rest : List Tok) → Marks exists_tests tokens rest → second_is IsNot tokens ≡ true
+not_is_second : (tokens rest : List Tok) → Marks exists_tests tokens rest → second_is not_key tokens ≡ true
 not_is_second [] rest h = absurd h
 not_is_second (token ∷ []) rest h = absurd h.1
 not_is_second (token ∷ other ∷ tokens) rest h = h.1.0
 
 -- the name of a database and a point, or none, then the table's name: NOT is no second token of them
-body_begins : (tokens middle : List Tok) (tree : List ℕ × (List Element × Clauses)) (rest : List Tok) → Skips (is_name ∷ is_sign Dot ∷ []) tokens middle → Named middle tree rest → second_is IsNot tokens ≡ false
+body_begins : (tokens middle : List Tok) (tree : List ℕ × (List Element × Clauses)) (rest : List Tok) → Skips (is_name ∷ is_sign Dot ∷ []) tokens middle → IsNamed middle tree rest → second_is not_key tokens ≡ false
 body_begins tokens middle tree rest (inl e) h =
-    subst (λ (us : List Tok). second_is IsNot us ≡ false) (sym e) (second_begins IsNot (keys_apart (codes "UUID") (codes "NOT") refl) (sign_no_key Open (codes "NOT")) middle tree rest h)
+    subst (λ (us : List Tok). second_is not_key us ≡ false) (sym e) (second_begins not_key (keys_apart (codes "UUID") (codes "NOT") refl) (sign_no_key Open (codes "NOT")) middle tree rest h)
 body_begins [] middle tree rest (inr m) h = absurd m
 body_begins (token ∷ []) middle tree rest (inr m) h = absurd m.1
 body_begins (token ∷ other ∷ tokens) middle tree rest (inr m) h = sign_no_key Dot (codes "NOT") other m.1.0
 
-rest_begins : (tokens : List Tok) (tree : TableText) → Rest tokens tree [] → second_is IsNot tokens ≡ false
+rest_begins : (tokens : List Tok) (tree : TableText) → IsRest tokens tree [] → second_is not_key tokens ≡ false
 rest_begins tokens tree h = body_begins tokens h.1.2.0 h.1.0 h.0 h.1.2.1 h.1.2.2
 
-exists_skipped : (tokens middle : List Tok) → Skips exists_tests tokens middle → second_is IsNot middle ≡ false → skip_if (second_is IsNot) exists_tests tokens ≡ Some middle
-exists_skipped tokens middle (inl e) none = subst (λ (us : List Tok). skip_if (second_is IsNot) exists_tests us ≡ Some middle) (sym e) (rw none refl)
+exists_skipped : (tokens middle : List Tok) → Skips exists_tests tokens middle → second_is not_key middle ≡ false → skip_if (second_is not_key) exists_tests tokens ≡ Some middle
+exists_skipped tokens middle (inl e) none = subst (λ (us : List Tok). skip_if (second_is not_key) exists_tests us ≡ Some middle) (sym e) (rw none refl)
 exists_skipped tokens middle (inr m) none = rw (not_is_second tokens middle m) (marks_complete exists_tests tokens middle m)
 
 abbrev create_tests : List (Tok → Bool)
 create_tests = is_keyword (codes "CREATE") ∷ is_keyword (codes "TABLE") ∷ []
 
-create_sound : (tokens middle : List Tok) (tree : TableText) → Marks create_tests tokens middle → Perhaps exists_tests Rest middle tree [] → Sentence tokens tree []
+create_sound : (tokens middle : List Tok) (tree : TableText) → Marks create_tests tokens middle → Perhaps exists_tests IsRest middle tree [] → IsSentence tokens tree []
 create_sound [] middle tree m h = absurd m
 create_sound (token ∷ []) middle tree m h = absurd m.1
-create_sound (token ∷ other ∷ tokens) middle tree m h = (m.0, (m.1.0, subst (λ (us : List Tok). Perhaps exists_tests Rest us tree []) (sym m.1.1) h))
+create_sound (token ∷ other ∷ tokens) middle tree m h = (m.0, (m.1.0, subst (λ (us : List Tok). Perhaps exists_tests IsRest us tree []) (sym m.1.1) h))
 
-pub sentence_sound : (tokens : List Tok) (tree : TableText) → sentence_at tokens ≡ Some tree → Sentence tokens tree []
+pub sentence_sound : (tokens : List Tok) (tree : TableText) → sentence_at tokens ≡ Some tree → IsSentence tokens tree []
 unfolding sentence_at
 sentence_sound tokens tree e =
-    let y = then_is (λ (named : List Tok). option_and_then rest_at (skip_if (second_is IsNot) exists_tests named)) (marks create_tests tokens) tree e in
-    let z = then_is rest_at (skip_if (second_is IsNot) exists_tests y.0) tree y.2 in
+    let y = then_is (λ (named : List Tok). option_and_then rest_at (skip_if (second_is not_key) exists_tests named)) (marks create_tests tokens) tree e in
+    let z = then_is rest_at (skip_if (second_is not_key) exists_tests y.0) tree y.2 in
     create_sound tokens y.0 tree (marks_sound create_tests tokens y.0 y.1)
-    (z.0, skip_if_sound (second_is IsNot) exists_tests y.0 z.0 z.1, rest_sound z.0 tree z.2)
+    (z.0, skip_if_sound (second_is not_key) exists_tests y.0 z.0 z.1, rest_sound z.0 tree z.2)
 
-pub sentence_complete : (tokens : List Tok) (tree : TableText) → Sentence tokens tree [] → sentence_at tokens ≡ Some tree
+pub sentence_complete : (tokens : List Tok) (tree : TableText) → IsSentence tokens tree [] → sentence_at tokens ≡ Some tree
 unfolding sentence_at
 sentence_complete [] tree h = absurd h
 sentence_complete (token ∷ []) tree h = absurd h.1
@@ -184,4 +186,4 @@ pub sentence_is_only : (text : List ℕ) (tokens : List Tok) (result : Result Ta
     → (sentence : TableText) → IsTableText text sentence → GivesSentence result sentence
 sentence_is_only text tokens result only e sentence h =
     let same = only h.0 h.1 in
-    given tokens result sentence (sentence_complete tokens sentence (subst (λ (us : List Tok). Sentence us sentence []) same h.2)) e
+    given tokens result sentence (sentence_complete tokens sentence (subst (λ (us : List Tok). IsSentence us sentence []) same h.2)) e

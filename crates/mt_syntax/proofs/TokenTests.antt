@@ -10,8 +10,9 @@ use Rattle.mt_tokens.specs.declared.sign.Sign.{Sign}
 use Rattle.mt_tokens.specs.Tokens.{Tok, Word, Quoted, Text, Digits, OfSign}
 use Rattle.mt_tokens.specs.Words.{rank, is_same_in_any_case, is_keyword, is_word, is_sign, name_of}
 use Rattle.mt_syntax.specs.Phrases.{Phrase, One, ◌▹◌, Maybe, Marks, Perhaps, first_is, second_is}
-use Rattle.mt_syntax.specs.Grammar.{word_of, number_in, is_text, is_name, given, agg_of}
-use Rattle.mt_syntax.specs.Reading.{is_number, is_clause_key}
+use Rattle.mt_syntax.specs.Terminals.{word_of, number_in, is_text, is_name, given, agg_of}
+use Rattle.mt_syntax.specs.Reading.{is_clause_key}
+use Rattle.mt_syntax.specs.Terminals.{is_number}
 use Rattle.mt_syntax.proofs.PhraseLaws.{Not}
 
 -- no token passes both tests

@@ -23,13 +23,9 @@ use Rattle.mt_syntax.specs.declared.clause.Clause.{Clause}
 use Rattle.mt_syntax.specs.declared.clause.Clause.TheVariants as clause
 use Rattle.mt_syntax.specs.declared.clause.Clauses.{Clauses}
 use Rattle.mt_syntax.specs.Phrases.{first_is, second_is}
-use Rattle.mt_syntax.specs.Grammar.{word_of, number_in, is_text, is_name, given, alone, type_of, codec_of, column_of, index_of, agg_of, projection_of, value_of, setting_of, with_clause, no_clauses, said}
+use Rattle.mt_syntax.specs.Trees.{alone, type_of, codec_of, column_of, index_of, projection_of, setting_of, with_clause, no_clauses, said}
+use Rattle.mt_syntax.specs.Terminals.{is_number, word_of, number_in, is_text, is_name, given, agg_of, value_of}
 use Rattle.mt_syntax.specs.Readers.{Reader, one, after, before, both, made, kept, either, either_if, maybe, marks, skip, skip_if, perhaps, perhaps_if, chain, closed, in_parens}
-
--- a token is digits
-abbrev pub is_number : Tok → Bool
-is_number (Digits digits) = true
-is_number _ = false
 
 abbrev pub name_at : Reader (List ℕ)
 name_at = one name_of

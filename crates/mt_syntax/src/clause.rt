@@ -43,7 +43,7 @@ pub(crate) struct Clauses {
 }
 
 impl Clauses {
-    ghost use Rattle.mt_syntax.specs.Grammar.{no_clauses, with_clause};
+    ghost use Rattle.mt_syntax.specs.Trees.{no_clauses, with_clause};
 
     /// No clause.
     pub(crate) fn none() -> Clauses

@@ -3,7 +3,7 @@
 ghost use Rattle.std.specs.Prelude.{[], ◌∷◌, codes};
 ghost use Rattle.mt_tokens.specs.Tokens.{plains};
 ghost use Rattle.mt_tokens.specs.Words.{is_keyword};
-ghost use Rattle.mt_syntax.specs.Grammar.{is_text};
+ghost use Rattle.mt_syntax.specs.Terminals.{is_text};
 ghost use Rattle.mt_syntax.specs.Readers.{chain, in_parens, skip};
 ghost use Rattle.mt_syntax.specs.Reading.{codec_at, codecs_at, column_at};
 ghost use Rattle.mt_syntax.specs.Answers.{Gives};

@@ -3,7 +3,7 @@
 ghost use Rattle.std.specs.Prelude.{codes};
 ghost use Rattle.mt_tokens.specs.Tokens.{plains};
 ghost use Rattle.mt_tokens.specs.Words.{is_keyword};
-ghost use Rattle.mt_syntax.specs.Grammar.{agg_of};
+ghost use Rattle.mt_syntax.specs.Terminals.{agg_of};
 ghost use Rattle.mt_syntax.specs.Readers.{after, chain, in_parens, both, one};
 ghost use Rattle.mt_syntax.specs.Reading.{aggregate_at, count_at, group_at, item_at, order_at, projection_at, selects_at, selection_at};
 ghost use Rattle.mt_syntax.specs.Answers.{Gives};

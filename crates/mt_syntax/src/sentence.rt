@@ -6,7 +6,8 @@ ghost use Rattle.mt_tokens.specs.declared.sign.Sign.TheVariants.{Open, Close, Do
 ghost use Rattle.mt_tokens.specs.Tokens.{plains};
 ghost use Rattle.mt_tokens.specs.Words.{is_keyword, is_sign};
 ghost use Rattle.mt_syntax.specs.Phrases.{second_is};
-ghost use Rattle.mt_syntax.specs.Grammar.{is_column, is_name, is_text, said};
+ghost use Rattle.mt_syntax.specs.Trees.{is_column, said};
+ghost use Rattle.mt_syntax.specs.Terminals.{is_name, is_text};
 ghost use Rattle.mt_syntax.specs.Readers.{both, kept, skip, skip_if};
 ghost use Rattle.mt_syntax.specs.Reading.{body_at, elements_at, engine_at, rest_at, sentence_at};
 ghost use Rattle.mt_syntax.specs.Answers.{Gives};

@@ -1,7 +1,7 @@
 //! Settings.
 
 ghost use Rattle.mt_tokens.specs.Tokens.{plains};
-ghost use Rattle.mt_syntax.specs.Grammar.{value_of};
+ghost use Rattle.mt_syntax.specs.Terminals.{value_of};
 ghost use Rattle.mt_syntax.specs.Readers.{chain, one};
 ghost use Rattle.mt_syntax.specs.Reading.{setting_at};
 ghost use Rattle.mt_syntax.specs.Answers.{Gives};

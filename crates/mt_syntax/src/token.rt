@@ -5,8 +5,9 @@ ghost use Rattle.mt_tokens.specs.Tokens.{plain, plains};
 ghost use Rattle.mt_tokens.specs.Splits.{after_if};
 ghost use Rattle.mt_tokens.specs.Words.{is_keyword, is_word, is_sign};
 ghost use Rattle.mt_syntax.specs.Phrases.{first_is, second_is};
-ghost use Rattle.mt_syntax.specs.Grammar.{is_text, is_name};
-ghost use Rattle.mt_syntax.specs.Reading.{name_at, word_at, number_at, is_number};
+ghost use Rattle.mt_syntax.specs.Terminals.{is_text, is_name};
+ghost use Rattle.mt_syntax.specs.Reading.{name_at, word_at, number_at};
+ghost use Rattle.mt_syntax.specs.Terminals.{is_number};
 ghost use Rattle.mt_syntax.specs.Answers.{Gives};
 
 use crate::error::SyntaxError;
