@@ -5,7 +5,7 @@ use Rattle.mt_tokens.specs.declared.sign.Sign.{Sign}
 use Rattle.mt_tokens.specs.declared.sign.Sign.TheVariants.{Open, Close, Comma, Dot, Semicolon, Star, Equal}
 use Rattle.mt_tokens.specs.Tokens.{Tok, Word, Quoted, Text, Digits, OfSign}
 use Rattle.mt_tokens.specs.Words.{is_keyword, is_word, is_sign, name_of}
-use Rattle.mt_syntax.specs.Phrases.{Phrase, One, ◌▹◌, ◌◃◌, ◌&◌, ◌∣◌, Maybe, Many, Made, Kept, Marks, Perhaps, NotWith, first_is, second_is}
+use Rattle.mt_syntax.specs.Phrases.{Phrase, One, ◌▹◌, ◌◃◌, ◌&◌, ◌∣◌, Maybe, Many, Made, Kept, OneEach, Perhaps, NotWith, first_is, second_is}
 use Rattle.mt_syntax.specs.declared.limits.TheConstants.{MAX_TYPE_DEPTH}
 use Rattle.mt_syntax.specs.declared.tree.TypeText.{TypeText}
 use Rattle.mt_syntax.specs.declared.tree.TypeArg.{TypeArg}

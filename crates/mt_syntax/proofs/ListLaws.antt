@@ -8,43 +8,43 @@ use Rattle.mt_tokens.specs.declared.sign.Sign.TheVariants.{Open, Close, Comma}
 use Rattle.mt_tokens.specs.Tokens.{Tok}
 use Rattle.mt_tokens.specs.Words.{is_sign}
 use Rattle.mt_tokens.specs.Splits.{after_if}
-use Rattle.mt_syntax.specs.Phrases.{Phrase, ◌▹◌, ◌◃◌, ◌&◌, Many, Made, Marks, Perhaps, first_is}
+use Rattle.mt_syntax.specs.Phrases.{Phrase, ◌▹◌, ◌◃◌, ◌&◌, Many, Made, OneEach, Perhaps, first_is}
 use Rattle.mt_syntax.specs.Grammar.{Chain, InParens}
 use Rattle.mt_syntax.specs.Trees.{joined}
-use Rattle.mt_syntax.specs.Readers.{Reader, marks, skip, skip_if, perhaps, perhaps_if, more, chain, closed, in_parens}
+use Rattle.mt_syntax.specs.Readers.{Reader, one_each, skip, skip_if, perhaps, perhaps_if, more, chain, closed, in_parens}
 use Rattle.mt_syntax.proofs.PhraseLaws.{IsRead, Any, Not, after_law, after_strict, before_law}
 
 -- ---- optional tokens
 
-pub marks_sound : (tests : List (Tok → Bool)) (tokens rest : List Tok) → marks tests tokens ≡ Some rest → Marks tests tokens rest
-marks_sound [] tokens rest e = some_is tokens rest e
-marks_sound (test ∷ tests) [] rest e = absurd cc
-marks_sound (test ∷ tests) (token ∷ tokens) rest e = elim (cases_Bool (test token)) [
-  | inl here ↦ (here, marks_sound tests tokens rest (rw here at e))
+pub one_each_sound : (tests : List (Tok → Bool)) (tokens rest : List Tok) → one_each tests tokens ≡ Some rest → OneEach tests tokens rest
+one_each_sound [] tokens rest e = some_is tokens rest e
+one_each_sound (test ∷ tests) [] rest e = absurd cc
+one_each_sound (test ∷ tests) (token ∷ tokens) rest e = elim (cases_Bool (test token)) [
+  | inl here ↦ (here, one_each_sound tests tokens rest (rw here at e))
   | inr other ↦ absurd (let k = rw other at e in cc)
 ]
 
-pub marks_complete : (tests : List (Tok → Bool)) (tokens rest : List Tok) → Marks tests tokens rest → marks tests tokens ≡ Some rest
-marks_complete [] tokens rest h = ap (λ (us : List Tok). let o : Option (List Tok) = Some us in o) h
-marks_complete (test ∷ tests) [] rest h = absurd h
-marks_complete (test ∷ tests) (token ∷ tokens) rest h = rw h.0 (marks_complete tests tokens rest h.1)
+pub one_each_complete : (tests : List (Tok → Bool)) (tokens rest : List Tok) → OneEach tests tokens rest → one_each tests tokens ≡ Some rest
+one_each_complete [] tokens rest h = ap (λ (us : List Tok). let o : Option (List Tok) = Some us in o) h
+one_each_complete (test ∷ tests) [] rest h = absurd h
+one_each_complete (test ∷ tests) (token ∷ tokens) rest h = rw h.0 (one_each_complete tests tokens rest h.1)
 
-pub marks_within : (tests : List (Tok → Bool)) (tokens rest : List Tok) → Marks tests tokens rest → length rest ≤ length tokens
-marks_within [] tokens rest h = omega (arith, ap length h)
-marks_within (test ∷ tests) [] rest h = absurd h
-marks_within (test ∷ tests) (token ∷ tokens) rest h = omega (arith, marks_within tests tokens rest h.1)
+pub one_each_within : (tests : List (Tok → Bool)) (tokens rest : List Tok) → OneEach tests tokens rest → length rest ≤ length tokens
+one_each_within [] tokens rest h = omega (arith, ap length h)
+one_each_within (test ∷ tests) [] rest h = absurd h
+one_each_within (test ∷ tests) (token ∷ tokens) rest h = omega (arith, one_each_within tests tokens rest h.1)
 
 abbrev pub Skips : List (Tok → Bool) → List Tok → List Tok → Type 0
-Skips tests tokens middle = (tokens ≡ middle) ⊎ Marks tests tokens middle
+Skips tests tokens middle = (tokens ≡ middle) ⊎ OneEach tests tokens middle
 
 pub skips_within : (tests : List (Tok → Bool)) (tokens middle : List Tok) → Skips tests tokens middle → length middle ≤ length tokens
 skips_within tests tokens middle (inl h) = omega (arith, ap length h)
-skips_within tests tokens middle (inr h) = marks_within tests tokens middle h
+skips_within tests tokens middle (inr h) = one_each_within tests tokens middle h
 
 pub skip_sound : (test : Tok → Bool) (tests : List (Tok → Bool)) (tokens middle : List Tok) → skip test tests tokens ≡ Some middle → Skips (test ∷ tests) tokens middle
 skip_sound test tests [] middle e = inl (some_is [] middle e)
 skip_sound test tests (token ∷ tokens) middle e = elim (cases_Bool (test token)) [
-  | inl here ↦ inr (here, marks_sound tests tokens middle (rw here at e))
+  | inl here ↦ inr (here, one_each_sound tests tokens middle (rw here at e))
   | inr other ↦ inl (some_is (token ∷ tokens) middle (rw other at e))
 ]
 
@@ -52,13 +52,13 @@ pub skip_none : (test : Tok → Bool) (tests : List (Tok → Bool)) (tokens : Li
 skip_none test tests [] none = refl
 skip_none test tests (token ∷ tokens) none = rw none refl
 
-pub skip_all : (test : Tok → Bool) (tests : List (Tok → Bool)) (tokens middle : List Tok) → Marks (test ∷ tests) tokens middle → skip test tests tokens ≡ Some middle
+pub skip_all : (test : Tok → Bool) (tests : List (Tok → Bool)) (tokens middle : List Tok) → OneEach (test ∷ tests) tokens middle → skip test tests tokens ≡ Some middle
 skip_all test tests [] middle h = absurd h
-skip_all test tests (token ∷ tokens) middle h = rw h.0 (marks_complete tests tokens middle h.1)
+skip_all test tests (token ∷ tokens) middle h = rw h.0 (one_each_complete tests tokens middle h.1)
 
 pub skip_if_sound : (begins : List Tok → Bool) (tests : List (Tok → Bool)) (tokens middle : List Tok) → skip_if begins tests tokens ≡ Some middle → Skips tests tokens middle
 skip_if_sound begins tests tokens middle e = elim (cases_Bool (begins tokens)) [
-  | inl here ↦ inr (marks_sound tests tokens middle (rw here at e))
+  | inl here ↦ inr (one_each_sound tests tokens middle (rw here at e))
   | inr other ↦ inl (some_is tokens middle (rw other at e))
 ]
 
@@ -88,7 +88,7 @@ pub perhaps_law : {A : Type 0} (test : Tok → Bool) (tests : List (Tok → Bool
 perhaps_law test tests {P = P} {p = p} {S = S} law other = perhaps_is_read test tests P p S law other
 
 module _ {A : Type 0} (begins : List Tok → Bool) (tests : List (Tok → Bool)) (P : Phrase A) (p : Reader A) (S : List Tok → Type 0) (law : IsRead P p S)
-    (one_begins : (tokens rest : List Tok) → Marks tests tokens rest → begins tokens ≡ true)
+    (one_begins : (tokens rest : List Tok) → OneEach tests tokens rest → begins tokens ≡ true)
     (other : (tokens : List Tok) (tree : A) (rest : List Tok) → P tokens tree rest → S rest → begins tokens ≡ false) where
   perhaps_if_sound : (tokens : List Tok) (x : A × List Tok) → perhaps_if begins tests p tokens ≡ Some x → Perhaps tests P tokens x.0 x.1
   perhaps_if_sound tokens x e =
@@ -97,7 +97,7 @@ module _ {A : Type 0} (begins : List Tok → Bool) (tests : List (Tok → Bool))
 
   skipped_if : (tokens middle : List Tok) → Skips tests tokens middle → begins middle ≡ false → skip_if begins tests tokens ≡ Some middle
   skipped_if tokens middle (inl h) none = subst (λ (us : List Tok). skip_if begins tests us ≡ Some middle) (sym h) (rw none refl)
-  skipped_if tokens middle (inr h) none = rw (one_begins tokens middle h) (marks_complete tests tokens middle h)
+  skipped_if tokens middle (inr h) none = rw (one_begins tokens middle h) (one_each_complete tests tokens middle h)
 
   perhaps_if_complete : (tokens : List Tok) (tree : A) (rest : List Tok) → Perhaps tests P tokens tree rest → S rest → perhaps_if begins tests p tokens ≡ Some (tree, rest)
   perhaps_if_complete tokens tree rest h s = rw (skipped_if tokens h.0 h.1 (other h.0 tree rest h.2 s)) (law.complete h.0 tree rest h.2 s)
@@ -110,7 +110,7 @@ module _ {A : Type 0} (begins : List Tok → Bool) (tests : List (Tok → Bool))
   }
 
 pub perhaps_if_law : {A : Type 0} (begins : List Tok → Bool) (tests : List (Tok → Bool)) {P : Phrase A} {p : Reader A} {S : List Tok → Type 0} → IsRead P p S
-    → ((tokens rest : List Tok) → Marks tests tokens rest → begins tokens ≡ true)
+    → ((tokens rest : List Tok) → OneEach tests tokens rest → begins tokens ≡ true)
     → ((tokens : List Tok) (tree : A) (rest : List Tok) → P tokens tree rest → S rest → begins tokens ≡ false) → IsRead (Perhaps tests P) (perhaps_if begins tests p) S
 perhaps_if_law begins tests {P = P} {p = p} {S = S} law one_begins other = perhaps_if_is_read begins tests P p S law one_begins other
 

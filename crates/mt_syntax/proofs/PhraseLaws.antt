@@ -8,10 +8,10 @@ use Rattle.mt_tokens.specs.declared.sign.Sign.TheVariants.{Open, Close, Comma}
 use Rattle.mt_tokens.specs.Tokens.{Tok}
 use Rattle.mt_tokens.specs.Words.{is_sign}
 use Rattle.mt_tokens.specs.Splits.{after_if}
-use Rattle.mt_syntax.specs.Phrases.{Phrase, One, ◌▹◌, ◌◃◌, ◌&◌, ◌∣◌, Maybe, Many, Made, Kept, Marks, Perhaps, first_is, second_is}
+use Rattle.mt_syntax.specs.Phrases.{Phrase, One, ◌▹◌, ◌◃◌, ◌&◌, ◌∣◌, Maybe, Many, Made, Kept, OneEach, Perhaps, first_is, second_is}
 use Rattle.mt_syntax.specs.Grammar.{Chain, InParens}
 use Rattle.mt_syntax.specs.Trees.{joined}
-use Rattle.mt_syntax.specs.Readers.{Reader, one, after, before, both, made, kept, either, either_if, maybe, marks, skip, skip_if, perhaps, perhaps_if, more, chain, closed, in_parens}
+use Rattle.mt_syntax.specs.Readers.{Reader, one, after, before, both, made, kept, either, either_if, maybe, one_each, skip, skip_if, perhaps, perhaps_if, more, chain, closed, in_parens}
 
 -- What is read is the phrase; the phrase is read where what follows it doesn't go on with it; and it
 -- takes tokens away.

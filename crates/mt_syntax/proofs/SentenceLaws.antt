@@ -5,21 +5,21 @@ use Rattle.mt_types.proofs.OptionLemmas.{then_is, some_is}
 use Rattle.mt_tokens.specs.declared.sign.Sign.TheVariants.{Open, Close, Comma, Dot, Semicolon, Equal}
 use Rattle.mt_tokens.specs.Tokens.{Tok}
 use Rattle.mt_tokens.specs.Words.{is_keyword, is_sign, name_of}
-use Rattle.mt_tokens.specs.Lexis.{IsTokens}
+use Rattle.mt_tokens.specs.Lexis.{token_at, skip_blanks, AreTokens, IsTokens}
 use Rattle.mt_syntax.specs.declared.tree.TableText.{TableText}
 use Rattle.mt_syntax.specs.declared.tree.Element.{Element}
 use Rattle.mt_syntax.specs.declared.clause.Clauses.{Clauses}
 use Rattle.mt_syntax.specs.declared.error.SyntaxError.{SyntaxError}
 use Rattle.mt_syntax.specs.declared.error.SyntaxError.TheVariants as error
-use Rattle.mt_syntax.specs.Phrases.{Phrase, ◌▹◌, ◌◃◌, ◌&◌, ◌◂◌, Marks, Kept, Perhaps, Nothing, first_is, second_is}
+use Rattle.mt_syntax.specs.Phrases.{Phrase, ◌▹◌, ◌◃◌, ◌&◌, ◌◂◌, OneEach, Kept, Perhaps, Nothing, first_is, second_is}
 use Rattle.mt_syntax.specs.Grammar.{IsName, Chain, IsElement, IsElements, IsEngine, IsBody, IsEnd, IsSentence, IsTableText}
 use Rattle.mt_syntax.specs.Trees.{said}
 use Rattle.mt_syntax.specs.Terminals.{is_text, is_name}
-use Rattle.mt_syntax.specs.Readers.{kept, marks, skip, skip_if}
+use Rattle.mt_syntax.specs.Readers.{kept, one_each, skip, skip_if}
 use Rattle.mt_syntax.specs.Reading.{is_clause_key, body_at, end_at, whole, rest_at, sentence_at}
 use Rattle.mt_syntax.specs.Answers.{Gives, GivesSentence}
 use Rattle.mt_syntax.proofs.PhraseLaws.{IsRead, Any, Not, then_law, kept_law}
-use Rattle.mt_syntax.proofs.ListLaws.{Skips, marks_sound, marks_complete, skip_sound, skip_none, skip_all, skip_if_sound, perhaps_law, perhaps_if_law}
+use Rattle.mt_syntax.proofs.ListLaws.{Skips, one_each_sound, one_each_complete, skip_sound, skip_none, skip_all, skip_if_sound, perhaps_law, perhaps_if_law}
 use Rattle.mt_syntax.proofs.TokenTests.{Apart, keys_apart, signs_apart, key_no_sign, sign_no_key, comment_no_clause, sign_no_clause, after_begins, skips_begin}
 use Rattle.mt_syntax.proofs.ElementLaws.{name_law}
 use Rattle.mt_syntax.proofs.ProjectionLaws.{elements_law}
@@ -47,7 +47,7 @@ second_begins test u o [] tree rest h = absurd h.1
 second_begins test u o (token ∷ tokens) tree rest h =
     subst (λ (us : List Tok). Not test us) (sym h.1.1) (definition_begins test u o h.0 tree.1 rest h.2)
 
-point_is_second : (tokens rest : List Tok) → Marks (is_name ∷ is_sign Dot ∷ []) tokens rest → second_is (is_sign Dot) tokens ≡ true
+point_is_second : (tokens rest : List Tok) → OneEach (is_name ∷ is_sign Dot ∷ []) tokens rest → second_is (is_sign Dot) tokens ≡ true
 point_is_second [] rest h = absurd h
 point_is_second (token ∷ []) rest h = absurd h.1
 point_is_second (token ∷ other ∷ tokens) rest h = h.1.0
@@ -127,7 +127,7 @@ not_key = is_keyword (codes "NOT")
 abbrev exists_tests : List (Tok → Bool)
 exists_tests = is_keyword (codes "IF") ∷ not_key ∷ is_keyword (codes "EXISTS") ∷ []
 
-not_is_second : (tokens rest : List Tok) → Marks exists_tests tokens rest → second_is not_key tokens ≡ true
+not_is_second : (tokens rest : List Tok) → OneEach exists_tests tokens rest → second_is not_key tokens ≡ true
 not_is_second [] rest h = absurd h
 not_is_second (token ∷ []) rest h = absurd h.1
 not_is_second (token ∷ other ∷ tokens) rest h = h.1.0
@@ -145,12 +145,12 @@ rest_begins tokens tree h = body_begins tokens h.1.2.0 h.1.0 h.0 h.1.2.1 h.1.2.2
 
 exists_skipped : (tokens middle : List Tok) → Skips exists_tests tokens middle → second_is not_key middle ≡ false → skip_if (second_is not_key) exists_tests tokens ≡ Some middle
 exists_skipped tokens middle (inl e) none = subst (λ (us : List Tok). skip_if (second_is not_key) exists_tests us ≡ Some middle) (sym e) (rw none refl)
-exists_skipped tokens middle (inr m) none = rw (not_is_second tokens middle m) (marks_complete exists_tests tokens middle m)
+exists_skipped tokens middle (inr m) none = rw (not_is_second tokens middle m) (one_each_complete exists_tests tokens middle m)
 
 abbrev create_tests : List (Tok → Bool)
 create_tests = is_keyword (codes "CREATE") ∷ is_keyword (codes "TABLE") ∷ []
 
-create_sound : (tokens middle : List Tok) (tree : TableText) → Marks create_tests tokens middle → Perhaps exists_tests IsRest middle tree [] → IsSentence tokens tree []
+create_sound : (tokens middle : List Tok) (tree : TableText) → OneEach create_tests tokens middle → Perhaps exists_tests IsRest middle tree [] → IsSentence tokens tree []
 create_sound [] middle tree m h = absurd m
 create_sound (token ∷ []) middle tree m h = absurd m.1
 create_sound (token ∷ other ∷ tokens) middle tree m h = (m.0, (m.1.0, subst (λ (us : List Tok). Perhaps exists_tests IsRest us tree []) (sym m.1.1) h))
@@ -158,9 +158,9 @@ create_sound (token ∷ other ∷ tokens) middle tree m h = (m.0, (m.1.0, subst 
 pub sentence_sound : (tokens : List Tok) (tree : TableText) → sentence_at tokens ≡ Some tree → IsSentence tokens tree []
 unfolding sentence_at
 sentence_sound tokens tree e =
-    let y = then_is (λ (named : List Tok). option_and_then rest_at (skip_if (second_is not_key) exists_tests named)) (marks create_tests tokens) tree e in
+    let y = then_is (λ (named : List Tok). option_and_then rest_at (skip_if (second_is not_key) exists_tests named)) (one_each create_tests tokens) tree e in
     let z = then_is rest_at (skip_if (second_is not_key) exists_tests y.0) tree y.2 in
-    create_sound tokens y.0 tree (marks_sound create_tests tokens y.0 y.1)
+    create_sound tokens y.0 tree (one_each_sound create_tests tokens y.0 y.1)
     (z.0, skip_if_sound (second_is not_key) exists_tests y.0 z.0 z.1, rest_sound z.0 tree z.2)
 
 pub sentence_complete : (tokens : List Tok) (tree : TableText) → IsSentence tokens tree [] → sentence_at tokens ≡ Some tree
@@ -187,3 +187,30 @@ pub sentence_is_only : (text : List ℕ) (tokens : List Tok) (result : Result Ta
 sentence_is_only text tokens result only e sentence h =
     let same = only h.0 h.1 in
     given tokens result sentence (sentence_complete tokens sentence (subst (λ (us : List Tok). IsSentence us sentence []) same h.2)) e
+
+-- ---- one sentence
+
+-- what is taken off the front is one token
+taken : (o : Option (Tok × List ℕ)) (a b : Tok) (p q : List ℕ) → o ≡ Some (a, p) → o ≡ Some (b, q) → (a ≡ b) × (p ≡ q)
+taken o a b p q e f =
+    let same : (let x : Tok × List ℕ = (a, p) in x) ≡ (b, q) = some_is (a, p) (b, q) (sym e ∙ f) in
+    (ap (λ (x : Tok × List ℕ). x.0) same, ap (λ (x : Tok × List ℕ). x.1) same)
+
+nothing_taken : (text : List ℕ) (token : Tok) (rest : List ℕ) → text ≡ [] → token_at text ≡ Some (token, rest) → ⊥
+unfolding token_at
+nothing_taken text token rest e f = let k = sym (ap token_at e) ∙ f in cc
+
+tokens_are_one : (text : List ℕ) (a b : List Tok) → AreTokens text a → AreTokens text b → a ≡ b
+tokens_are_one text [] [] h k = refl
+tokens_are_one text [] (u ∷ us) h k = absurd (nothing_taken text u k.0 h k.1)
+tokens_are_one text (t ∷ ts) [] h k = absurd (nothing_taken text t h.0 k h.1)
+tokens_are_one text (t ∷ ts) (u ∷ us) h k =
+    let same = taken (token_at text) t u h.0 k.0 h.1 k.1 in
+    let others = tokens_are_one (skip_blanks k.0) ts us (subst (λ (rest : List ℕ). AreTokens (skip_blanks rest) ts) same.1 h.2) k.2 in
+    ap (λ (token : Tok). token ∷ ts) same.0 ∙ ap (λ (tokens : List Tok). u ∷ tokens) others
+
+pub one_sentence : (text : List ℕ) (a b : TableText) → IsTableText text a → IsTableText text b → a ≡ b
+one_sentence text a b h k =
+    let same = tokens_are_one (skip_blanks text) h.0 k.0 h.1 k.1 in
+    let first = sentence_complete k.0 a (subst (λ (tokens : List Tok). IsSentence tokens a []) same h.2) in
+    some_is a b (sym first ∙ sentence_complete k.0 b k.2)

@@ -9,7 +9,7 @@ use Rattle.mt_types.specs.declared.ty.Agg.{Agg}
 use Rattle.mt_tokens.specs.declared.sign.Sign.{Sign}
 use Rattle.mt_tokens.specs.Tokens.{Tok, Word, Quoted, Text, Digits, OfSign}
 use Rattle.mt_tokens.specs.Words.{rank, is_same_in_any_case, is_keyword, is_word, is_sign, name_of}
-use Rattle.mt_syntax.specs.Phrases.{Phrase, One, ◌▹◌, Maybe, Marks, Perhaps, first_is, second_is}
+use Rattle.mt_syntax.specs.Phrases.{Phrase, One, ◌▹◌, Maybe, OneEach, Perhaps, first_is, second_is}
 use Rattle.mt_syntax.specs.Terminals.{word_of, number_in, is_text, is_name, given, agg_of}
 use Rattle.mt_syntax.specs.Reading.{is_clause_key}
 use Rattle.mt_syntax.specs.Terminals.{is_number}
@@ -152,7 +152,7 @@ pub maybe_begins : {A : Type 0} (key test : Tok → Bool) (P : Phrase A) → Apa
 maybe_begins key test P apart tokens None rest h none = subst (λ (us : List Tok). Not test us) (sym h) none
 maybe_begins key test P apart tokens (Some tree) rest h none = after_begins key test P apart tokens tree rest h
 
-pub skips_begin : (key test : Tok → Bool) (keys : List (Tok → Bool)) → Apart key test → (tokens middle : List Tok) → (tokens ≡ middle) ⊎ Marks (key ∷ keys) tokens middle → Not test middle → Not test tokens
+pub skips_begin : (key test : Tok → Bool) (keys : List (Tok → Bool)) → Apart key test → (tokens middle : List Tok) → (tokens ≡ middle) ⊎ OneEach (key ∷ keys) tokens middle → Not test middle → Not test tokens
 skips_begin key test keys apart tokens middle (inl e) none = subst (λ (us : List Tok). Not test us) (sym e) none
 skips_begin key test keys apart [] middle (inr m) none = refl
 skips_begin key test keys apart (token ∷ tokens) middle (inr m) none = apart token m.0

@@ -55,15 +55,15 @@ abbrev pub Kept : {A B : Type 0} → (make : A → Option B) → Phrase A → Ph
 Kept {A = A} make P tokens tree rest = (of : A) × (make of ≡ Some tree) × P tokens of rest
 
 -- a token for each test, in order
-abbrev pub Marks : List (Tok → Bool) → (tokens rest : List Tok) → Type 0
-Marks [] tokens rest = tokens ≡ rest
-Marks (test ∷ tests) [] rest = ⊥
-Marks (test ∷ tests) (token ∷ tokens) rest = (test token ≡ true) × Marks tests tokens rest
+abbrev pub OneEach : List (Tok → Bool) → (tokens rest : List Tok) → Type 0
+OneEach [] tokens rest = tokens ≡ rest
+OneEach (test ∷ tests) [] rest = ⊥
+OneEach (test ∷ tests) (token ∷ tokens) rest = (test token ≡ true) × OneEach tests tokens rest
 
 -- a token for each test, or none; then the phrase
 abbrev pub Perhaps : {A : Type 0} → List (Tok → Bool) → Phrase A → Phrase A
 Perhaps tests P tokens tree rest =
-    (middle : List Tok) × ((tokens ≡ middle) ⊎ Marks tests tokens middle) × P middle tree rest
+    (middle : List Tok) × ((tokens ≡ middle) ⊎ OneEach tests tokens middle) × P middle tree rest
 
 -- the first token passes
 abbrev pub first_is : (test : Tok → Bool) → List Tok → Bool

@@ -14,24 +14,30 @@ abbrev pub choose : {A B : Type 0} → Option A → (A → B) → B → B
 choose None some none = none
 choose (Some x) some none = some x
 
+-- one token, which has a tree
 abbrev pub one : {A : Type 0} → (tree_of : Tok → Option A) → Reader A
 one tree_of [] = None
 one tree_of (token ∷ tokens) = option_map (λ tree. (tree, tokens)) (tree_of token)
 
+-- a token that passes, then what is read
 abbrev pub after : {A : Type 0} → (test : Tok → Bool) → Reader A → Reader A
 after test p tokens = option_and_then p (after_if test tokens)
 
+-- what is read, then a token that passes
 abbrev pub before : {A : Type 0} → Reader A → (test : Tok → Bool) → Reader A
 before p test tokens =
     option_and_then (λ x. option_map (λ rest. (x.0, rest)) (after_if test x.1)) (p tokens)
 
+-- one after the other
 abbrev pub both : {A B : Type 0} → Reader A → Reader B → Reader (A × B)
 both p q tokens =
     option_and_then (λ x. option_map (λ y. ((x.0, y.0), y.1)) (q x.1)) (p tokens)
 
+-- with a tree made of the one that is read
 abbrev pub made : {A B : Type 0} → (make : A → B) → Reader A → Reader B
 made make p tokens = option_map (λ x. (make x.0, x.1)) (p tokens)
 
+-- the same, where there is one
 abbrev pub kept : {A B : Type 0} → (make : A → Option B) → Reader A → Reader B
 kept make p tokens =
     option_and_then (λ x. option_map (λ tree. (tree, x.1)) (make x.0)) (p tokens)
@@ -44,26 +50,29 @@ either test p q tokens = choose (after_if test tokens) p (q tokens)
 abbrev pub either_if : {A : Type 0} → (begins : List Tok → Bool) → Reader A → Reader A → Reader A
 either_if begins p q tokens = if begins tokens then p tokens else q tokens
 
+-- what is read behind a token that passes, or nothing
 abbrev pub maybe : {A : Type 0} → (test : Tok → Bool) → Reader A → Reader (Option A)
 maybe test p tokens =
     choose (after_if test tokens) (λ after. option_map (λ x. (Some x.0, x.1)) (p after)) (Some (None, tokens))
 
 -- what follows a token for each test
-abbrev pub marks : List (Tok → Bool) → List Tok → Option (List Tok)
-marks [] tokens = Some tokens
-marks (test ∷ tests) tokens = option_and_then (marks tests) (after_if test tokens)
+abbrev pub one_each : List (Tok → Bool) → List Tok → Option (List Tok)
+one_each [] tokens = Some tokens
+one_each (test ∷ tests) tokens = option_and_then (one_each tests) (after_if test tokens)
 
 -- the same, or all tokens where the first one doesn't pass
 abbrev pub skip : (test : Tok → Bool) → List (Tok → Bool) → List Tok → Option (List Tok)
-skip test tests tokens = choose (after_if test tokens) (marks tests) (Some tokens)
+skip test tests tokens = choose (after_if test tokens) (one_each tests) (Some tokens)
 
 -- the same by what the tokens begin with
 abbrev pub skip_if : (begins : List Tok → Bool) → List (Tok → Bool) → List Tok → Option (List Tok)
-skip_if begins tests tokens = if begins tokens then marks tests tokens else Some tokens
+skip_if begins tests tokens = if begins tokens then one_each tests tokens else Some tokens
 
+-- what is read, behind tokens that pass or none
 abbrev pub perhaps : {A : Type 0} → (test : Tok → Bool) → List (Tok → Bool) → Reader A → Reader A
 perhaps test tests p tokens = option_and_then p (skip test tests tokens)
 
+-- the same by what the tokens begin with
 abbrev pub perhaps_if : {A : Type 0} → (begins : List Tok → Bool) → List (Tok → Bool) → Reader A → Reader A
 perhaps_if begins tests p tokens = option_and_then p (skip_if begins tests tokens)
 
@@ -75,6 +84,7 @@ more p (suc count) found tokens =
     (λ after. option_and_then (λ x. more p count (found ++ x.0 ∷ []) x.1) (p after))
     (Some (found, tokens))
 
+-- items with commas between them
 abbrev pub chain : {A : Type 0} → Reader A → Reader (List A)
 chain p tokens = option_and_then (λ x. more p (length x.1) (x.0 ∷ []) x.1) (p tokens)
 
@@ -82,5 +92,6 @@ chain p tokens = option_and_then (λ x. more p (length x.1) (x.0 ∷ []) x.1) (p
 abbrev pub closed : {A : Type 0} → Reader A → Reader A
 closed p = before p (is_sign Close)
 
+-- in parentheses
 abbrev pub in_parens : {A : Type 0} → Reader A → Reader A
 in_parens p = after (is_sign Open) (closed p)

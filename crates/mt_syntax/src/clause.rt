@@ -193,6 +193,6 @@ fn order_by<'a, 't>(
     ensures { Gives (λ x. (x.0, plains x.1.now)) result (after (is_keyword (codes "BY")) (made clause.Order key_at) (plains tokens.now)) }
 {
     let rest = keyword(tokens, b"BY")?;
-    let (names, rest) = key(alloc, rest)?;
-    Ok((Clause::Order(names), rest))
+    let (order, rest) = key(alloc, rest)?;
+    Ok((Clause::Order(order), rest))
 }

@@ -8,6 +8,7 @@ mod column;
 mod element;
 mod error;
 mod index;
+mod law;
 mod limits;
 mod names;
 mod partition;
@@ -20,6 +21,7 @@ mod tree;
 mod types;
 
 pub use error::SyntaxError;
+pub use law::a_text_is_one_sentence;
 pub use limits::MAX_TYPE_DEPTH;
 pub use reading::read_table_text;
 pub use tree::{
