@@ -1,11 +1,10 @@
 -- Names, types, columns and indexes: what is read is one, and each is read.
-use Rattle.std.proofs.Common.{◌≡◌, ℕ, zero, suc, ◌+◌, ◌<◌, ◌≤◌, Bool, true, false, List, [], ◌∷◌, ◌++◌, length, Option, Some, None, refl, sym, ap, subst, ◌∙◌, ◌⊎◌, inl, inr, arith}
+use Rattle.std.proofs.Common.{◌≡◌, ℕ, zero, suc, true, false, List, [], ◌∷◌, Option, None, refl, sym, subst}
 use Rattle.std.specs.Prelude.{codes}
-use Rattle.mt_tokens.specs.declared.sign.Sign.{Sign}
-use Rattle.mt_tokens.specs.declared.sign.Sign.TheVariants.{Open, Close, Comma, Dot, Semicolon, Star, Equal}
-use Rattle.mt_tokens.specs.Tokens.{Tok, Word, Quoted, Text, Digits, OfSign}
+use Rattle.mt_tokens.specs.declared.sign.Sign.TheVariants.{Open, Close, Comma}
+use Rattle.mt_tokens.specs.Tokens.{Tok}
 use Rattle.mt_tokens.specs.Words.{is_keyword, is_word, is_sign, name_of}
-use Rattle.mt_syntax.specs.Phrases.{Phrase, One, ◌▹◌, ◌◃◌, ◌&◌, ◌∣◌, Maybe, Many, Made, Kept, OneEach, Perhaps, NotWith, first_is, second_is}
+use Rattle.mt_syntax.specs.Phrases.{Phrase, One, ◌▹◌, ◌◃◌, ◌&◌, Maybe, Made, Perhaps, first_is, second_is}
 use Rattle.mt_syntax.specs.declared.limits.TheConstants.{MAX_TYPE_DEPTH}
 use Rattle.mt_syntax.specs.declared.tree.TypeText.{TypeText}
 use Rattle.mt_syntax.specs.declared.tree.TypeArg.{TypeArg}
@@ -18,7 +17,7 @@ use Rattle.mt_syntax.specs.Grammar.{IsName, IsWord, IsNumber, Chain, InParens, I
 use Rattle.mt_syntax.specs.Trees.{alone, type_of, codec_of, column_of, index_of}
 use Rattle.mt_syntax.specs.Terminals.{word_of, number_in, is_text, given}
 use Rattle.mt_syntax.specs.Readers.{Reader, chain, closed}
-use Rattle.mt_syntax.specs.Reading.{name_at, word_at, number_at, names_at, list_at, key_at, arg_at, nested_at, type_at, codec_at, codecs_at, column_at, kind_at, granularity_at, index_at}
+use Rattle.mt_syntax.specs.Reading.{name_at, word_at, number_at, names_at, list_at, key_at, arg_at, type_at, codec_at, codecs_at, column_at, kind_at, index_at}
 use Rattle.mt_syntax.specs.Terminals.{is_number}
 use Rattle.mt_syntax.proofs.PhraseLaws.{IsRead, Any, Not, narrowed, one_law, after_law, both_law, then_law, made_law, either_law, either_if_law, maybe_law}
 use Rattle.mt_syntax.proofs.ListLaws.{chain_law, closed_law, parens_law, perhaps_law}

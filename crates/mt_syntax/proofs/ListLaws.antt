@@ -1,16 +1,13 @@
 -- Laws of phrases with optional tokens before them, and of lists.
-use Rattle.std.proofs.Common.{◌≡◌, ℕ, zero, suc, ◌+◌, ◌<◌, ◌≤◌, Bool, true, false, List, [], ◌∷◌, ◌++◌, length, Option, Some, None, refl, sym, ap, subst, ◌∙◌, append_assoc, ◌⊎◌, inl, inr, arith}
-use Rattle.std.specs.Prelude.{option_map, option_and_then}
+use Rattle.std.proofs.Common.{◌≡◌, ℕ, zero, suc, ◌≤◌, Bool, true, false, List, [], ◌∷◌, ◌++◌, length, Option, Some, refl, sym, ap, subst, ◌∙◌, append_assoc, ◌⊎◌, inl, inr, arith}
 use Rattle.std.proofs.lemmas.Bool.{cases_Bool}
 use Rattle.std.proofs.lemmas.List.{append-nil}
-use Rattle.mt_types.proofs.OptionLemmas.{mapped_is, then_is, some_is}
+use Rattle.mt_types.proofs.OptionLemmas.{then_is, some_is}
 use Rattle.mt_tokens.specs.declared.sign.Sign.TheVariants.{Open, Close, Comma}
 use Rattle.mt_tokens.specs.Tokens.{Tok}
 use Rattle.mt_tokens.specs.Words.{is_sign}
-use Rattle.mt_tokens.specs.Splits.{after_if}
-use Rattle.mt_syntax.specs.Phrases.{Phrase, ◌▹◌, ◌◃◌, ◌&◌, Many, Made, OneEach, Perhaps, first_is}
+use Rattle.mt_syntax.specs.Phrases.{Phrase, ◌▹◌, ◌◃◌, Many, OneEach, Perhaps}
 use Rattle.mt_syntax.specs.Grammar.{Chain, InParens}
-use Rattle.mt_syntax.specs.Trees.{joined}
 use Rattle.mt_syntax.specs.Readers.{Reader, one_each, skip, skip_if, perhaps, perhaps_if, more, chain, closed, in_parens}
 use Rattle.mt_syntax.proofs.PhraseLaws.{IsRead, Any, Not, after_law, after_strict, before_law}
 

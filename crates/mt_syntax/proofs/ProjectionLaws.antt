@@ -1,25 +1,25 @@
 -- Projections and elements: what is read is one, and each is read.
-use Rattle.std.proofs.Common.{◌≡◌, ℕ, zero, suc, ◌+◌, ◌<◌, ◌≤◌, Bool, true, false, List, [], ◌∷◌, ◌++◌, length, Option, Some, None, refl, sym, ap, subst, ◌∙◌, ◌⊎◌, inl, inr, arith}
+use Rattle.std.proofs.Common.{◌≡◌, ℕ, ◌≤◌, Bool, true, List, [], ◌∷◌, length, Option, Some, refl, sym, subst, inl, inr, arith}
 use Rattle.std.specs.Prelude.{codes}
 use Rattle.mt_tokens.specs.declared.sign.Sign.{Sign}
-use Rattle.mt_tokens.specs.declared.sign.Sign.TheVariants.{Open, Close, Comma, Dot, Semicolon, Star, Equal}
-use Rattle.mt_tokens.specs.Tokens.{Tok, Word, Quoted, Text, Digits, OfSign}
-use Rattle.mt_tokens.specs.Words.{is_keyword, is_word, is_sign, name_of}
-use Rattle.mt_syntax.specs.Phrases.{Phrase, One, ◌▹◌, ◌◃◌, ◌&◌, ◌∣◌, Maybe, Many, Made, Kept, OneEach, Perhaps, NotWith, first_is, second_is}
+use Rattle.mt_tokens.specs.declared.sign.Sign.TheVariants.{Open, Close, Comma, Star}
+use Rattle.mt_tokens.specs.Tokens.{Tok}
+use Rattle.mt_tokens.specs.Words.{is_keyword, is_sign, name_of}
+use Rattle.mt_syntax.specs.Phrases.{Phrase, One, ◌▹◌, ◌◃◌, ◌&◌, ◌∣◌, Made, NotWith, first_is, second_is}
 use Rattle.mt_syntax.specs.declared.tree.Selection.{Selection}
 use Rattle.mt_syntax.specs.declared.tree.Selection.TheVariants as item
 use Rattle.mt_syntax.specs.declared.tree.Selected.{Selected}
 use Rattle.mt_syntax.specs.declared.tree.Selected.TheVariants.{All, Items}
 use Rattle.mt_syntax.specs.declared.tree.Element.{Element}
-use Rattle.mt_syntax.specs.Grammar.{IsName, Chain, InParens, IsList, IsCall, IsItem, IsSelected, IsGroup, IsOrder, IsIndex, IsProjection, IsColumn, IsElement, IsElements}
+use Rattle.mt_syntax.specs.Grammar.{IsName, InParens, IsList, IsCall, IsItem, IsSelected, IsGroup, IsOrder, IsElement, IsElements}
 use Rattle.mt_syntax.specs.Trees.{projection_of}
 use Rattle.mt_syntax.specs.Terminals.{given, agg_of}
-use Rattle.mt_syntax.specs.Readers.{Reader, chain, closed, either}
-use Rattle.mt_syntax.specs.Reading.{count_at, aggregate_at, call_at, item_at, selects_at, group_at, order_at, selection_at, projection_at, index_at, column_at, element_at, elements_at}
+use Rattle.mt_syntax.specs.Readers.{Reader, either}
+use Rattle.mt_syntax.specs.Reading.{count_at, aggregate_at, call_at, item_at, selects_at, group_at, order_at, selection_at, projection_at, element_at, elements_at}
 use Rattle.std.proofs.lemmas.Bool.{cases_Bool}
-use Rattle.mt_syntax.proofs.PhraseLaws.{IsRead, Any, Not, after_strict, narrowed, one_law, after_law, both_law, then_law, made_law, either_law, either_if_law, maybe_law}
-use Rattle.mt_syntax.proofs.ListLaws.{chain_law, closed_law, parens_law}
-use Rattle.mt_syntax.proofs.TokenTests.{Apart, keys_apart, signs_apart, key_no_sign, sign_no_key, name_no_sign, given_is, agg_no_count, agg_no_sign, one_begins, after_begins, after_is, maybe_begins}
+use Rattle.mt_syntax.proofs.PhraseLaws.{IsRead, Any, Not, after_strict, narrowed, one_law, after_law, both_law, then_law, made_law, either_if_law, maybe_law}
+use Rattle.mt_syntax.proofs.ListLaws.{chain_law, parens_law}
+use Rattle.mt_syntax.proofs.TokenTests.{Apart, keys_apart, key_no_sign, sign_no_key, name_no_sign, given_is, agg_no_count, agg_no_sign, one_begins, after_begins, after_is, maybe_begins}
 use Rattle.mt_syntax.proofs.ElementLaws.{name_law, name_is_over, list_law, close_no_comma, close_no_open, comma_no_open, NoOpen, NoMore, EndsColumn, NoGranularity, IsAnyColumn, column_law, IsIndexBody, index_law}
 
 -- ---- items

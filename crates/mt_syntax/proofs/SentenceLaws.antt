@@ -1,24 +1,24 @@
 -- The sentence: what is read is one, and each is read.
-use Rattle.std.proofs.Common.{◌≡◌, ℕ, Bool, true, false, List, [], ◌∷◌, Option, Some, None, Result, Ok, Err, refl, sym, ap, subst, ◌∙◌, ◌⊎◌, inl, inr}
+use Rattle.std.proofs.Common.{◌≡◌, ℕ, Bool, true, false, List, [], ◌∷◌, Option, Some, Result, Ok, Err, refl, sym, ap, subst, ◌∙◌, inl, inr}
 use Rattle.std.specs.Prelude.{IfOk, codes, option_and_then}
 use Rattle.mt_types.proofs.OptionLemmas.{then_is, some_is}
-use Rattle.mt_tokens.specs.declared.sign.Sign.TheVariants.{Open, Close, Comma, Dot, Semicolon, Equal}
+use Rattle.mt_tokens.specs.declared.sign.Sign.TheVariants.{Open, Close, Comma, Dot, Semicolon}
 use Rattle.mt_tokens.specs.Tokens.{Tok}
-use Rattle.mt_tokens.specs.Words.{is_keyword, is_sign, name_of}
+use Rattle.mt_tokens.specs.Words.{is_keyword, is_sign}
 use Rattle.mt_tokens.specs.Lexis.{token_at, skip_blanks, AreTokens, IsTokens}
 use Rattle.mt_syntax.specs.declared.tree.TableText.{TableText}
 use Rattle.mt_syntax.specs.declared.tree.Element.{Element}
 use Rattle.mt_syntax.specs.declared.clause.Clauses.{Clauses}
 use Rattle.mt_syntax.specs.declared.error.SyntaxError.{SyntaxError}
 use Rattle.mt_syntax.specs.declared.error.SyntaxError.TheVariants as error
-use Rattle.mt_syntax.specs.Phrases.{Phrase, ◌▹◌, ◌◃◌, ◌&◌, ◌◂◌, OneEach, Kept, Perhaps, Nothing, first_is, second_is}
+use Rattle.mt_syntax.specs.Phrases.{Phrase, ◌◃◌, ◌&◌, ◌◂◌, OneEach, Kept, Perhaps, second_is}
 use Rattle.mt_syntax.specs.Grammar.{IsName, Chain, IsElement, IsElements, IsEngine, IsBody, IsEnd, IsSentence, IsTableText}
 use Rattle.mt_syntax.specs.Trees.{said}
 use Rattle.mt_syntax.specs.Terminals.{is_text, is_name}
 use Rattle.mt_syntax.specs.Readers.{kept, one_each, skip, skip_if}
 use Rattle.mt_syntax.specs.Reading.{is_clause_key, body_at, end_at, whole, rest_at, sentence_at}
 use Rattle.mt_syntax.specs.Answers.{Gives, GivesSentence}
-use Rattle.mt_syntax.proofs.PhraseLaws.{IsRead, Any, Not, then_law, kept_law}
+use Rattle.mt_syntax.proofs.PhraseLaws.{IsRead, Not, then_law, kept_law}
 use Rattle.mt_syntax.proofs.ListLaws.{Skips, one_each_sound, one_each_complete, skip_sound, skip_none, skip_all, skip_if_sound, perhaps_law, perhaps_if_law}
 use Rattle.mt_syntax.proofs.TokenTests.{Apart, keys_apart, signs_apart, key_no_sign, sign_no_key, comment_no_clause, sign_no_clause, after_begins, skips_begin}
 use Rattle.mt_syntax.proofs.ElementLaws.{name_law}

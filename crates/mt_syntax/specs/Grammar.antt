@@ -15,7 +15,7 @@
 --
 -- An element that begins with plain INDEX or PROJECTION is one. Each clause stands at most once, and
 -- ORDER BY must. There is at least one column.
-use Rattle.std.specs.Prelude.{◌≡◌, ℕ, zero, suc, List, [], ◌∷◌, Option, None}
+use Rattle.std.specs.Prelude.{ℕ, zero, suc, List, [], ◌∷◌, Option, None}
 use Rattle.mt_tokens.specs.declared.sign.Sign.TheVariants.{Open, Close, Comma, Dot, Semicolon, Star, Equal}
 use Rattle.mt_tokens.specs.Tokens.{Tok}
 use Rattle.mt_tokens.specs.Words.{is_sign, name_of}
@@ -32,7 +32,6 @@ use Rattle.mt_syntax.specs.declared.tree.Selection.TheVariants as item
 use Rattle.mt_syntax.specs.declared.tree.Selected.{Selected}
 use Rattle.mt_syntax.specs.declared.tree.Selected.TheVariants.{All, Items}
 use Rattle.mt_syntax.specs.declared.tree.Element.{Element}
-use Rattle.mt_syntax.specs.declared.tree.Element.TheVariants as element
 use Rattle.mt_syntax.specs.declared.tree.PartitionText.{PartitionText}
 use Rattle.mt_syntax.specs.declared.tree.PartitionText.TheVariants.{Plain, Month}
 use Rattle.mt_syntax.specs.declared.tree.SettingText.{SettingText}

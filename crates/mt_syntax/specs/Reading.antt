@@ -1,8 +1,8 @@
 -- The grammar read from left to right: each reader has its phrase's name.
-use Rattle.std.specs.Prelude.{ℕ, zero, suc, List, [], ◌∷◌, length, Option, Some, None, option_map, option_and_then, Bool, true, false, codes, unwrap_or, ◌||◌, if◌then◌else◌}
-use Rattle.mt_tokens.specs.declared.sign.Sign.TheVariants.{Open, Close, Comma, Dot, Semicolon, Star, Equal}
-use Rattle.mt_tokens.specs.Tokens.{Tok, Digits}
-use Rattle.mt_tokens.specs.Words.{is_keyword, is_word, is_sign, name_of}
+use Rattle.std.specs.Prelude.{ℕ, zero, suc, List, [], ◌∷◌, length, Option, Some, None, option_and_then, Bool, ◌||◌, if◌then◌else◌}
+use Rattle.mt_tokens.specs.declared.sign.Sign.TheVariants.{Open, Close, Dot, Semicolon, Star, Equal}
+use Rattle.mt_tokens.specs.Tokens.{Tok}
+use Rattle.mt_tokens.specs.Words.{is_sign, name_of}
 use Rattle.mt_syntax.specs.declared.limits.TheConstants.{MAX_TYPE_DEPTH}
 use Rattle.mt_syntax.specs.declared.tree.TypeText.{TypeText}
 use Rattle.mt_syntax.specs.declared.tree.TypeArg.{TypeArg}
@@ -25,7 +25,7 @@ use Rattle.mt_syntax.specs.declared.clause.Clauses.{Clauses}
 use Rattle.mt_syntax.specs.Phrases.{first_is, second_is}
 use Rattle.mt_syntax.specs.Trees.{alone, type_of, codec_of, column_of, index_of, projection_of, setting_of, with_clause, no_clauses, said}
 use Rattle.mt_syntax.specs.Terminals.{key, fixed, is_number, word_of, number_in, is_text, is_name, given, agg_of, value_of}
-use Rattle.mt_syntax.specs.Readers.{Reader, one, after, before, both, made, kept, either, either_if, maybe, one_each, skip, skip_if, perhaps, perhaps_if, chain, closed, in_parens}
+use Rattle.mt_syntax.specs.Readers.{Reader, one, after, both, made, kept, either, either_if, maybe, one_each, skip, skip_if, perhaps, perhaps_if, chain, closed, in_parens}
 
 -- a name
 abbrev pub name_at : Reader (List ℕ)

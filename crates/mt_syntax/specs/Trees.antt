@@ -8,7 +8,6 @@ use Rattle.mt_syntax.specs.declared.tree.IndexKind.{IndexKind}
 use Rattle.mt_syntax.specs.declared.tree.Selected.{Selected}
 use Rattle.mt_syntax.specs.declared.tree.Element.{Element}
 use Rattle.mt_syntax.specs.declared.tree.Element.TheVariants as element
-use Rattle.mt_syntax.specs.declared.tree.PartitionText.{PartitionText}
 use Rattle.mt_syntax.specs.declared.tree.SettingValue.{SettingValue}
 use Rattle.mt_syntax.specs.declared.tree.SettingText.{SettingText}
 use Rattle.mt_syntax.specs.declared.tree.TableText.{TableText}
