@@ -15,3 +15,10 @@ mod ListingLemmas
 mod SplitLemmas
 mod StepLemmas
 mod CountLemmas
+mod MonthLemmas
+mod Casts
+mod BestLemmas
+mod ItemFacts
+mod PartitionLemmas
+mod PartitionLaw
+mod KeyLaw

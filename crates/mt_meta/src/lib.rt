@@ -5,22 +5,35 @@
 #![tactic(auto)]
 
 mod ascii;
+mod cell;
 mod columns;
 mod count;
 mod digits;
+mod expression;
 mod fault;
 mod item;
 mod item_reading;
 mod keys;
 mod law;
 mod listing;
+mod minmax;
+mod month;
+mod names;
 mod number;
 mod order;
+mod partition;
 mod primary;
+mod same;
 mod split;
 
 pub use columns::{columns_text, read_columns};
 pub use count::{CountWhy, count_text, read_count};
 pub use keys::read_keys;
-pub use law::{counts_are_read, listed_columns_are_read, only_lists_are_read};
+pub use law::{
+    counts_are_read, listed_columns_are_read, months_are_those_of_the_calendar,
+    only_lists_are_read, written_keys_are_read, written_partitions_are_compared,
+};
+pub use month::month_of;
+pub use partition::partition_files;
 pub use primary::primary_bytes;
+pub use same::same_partition;
