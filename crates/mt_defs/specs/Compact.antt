@@ -10,9 +10,11 @@ use Rattle.mt_defs.specs.Encoding.{Encodes}
 use Rattle.mt_defs.specs.Frames.{IsFramed}
 use Rattle.mt_defs.specs.Marks.{IsMarksFile}
 
+-- the data file of a Compact part
 abbrev pub compact_data_name : List ℕ
 compact_data_name = codes "data.bin"
 
+-- the marks file of a Compact part
 abbrev pub compact_marks_name : List ℕ
 compact_marks_name = codes "data.mrk3"
 

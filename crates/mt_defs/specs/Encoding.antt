@@ -12,10 +12,12 @@ use Rattle.mt_types.specs.Fits.{fits_of}
 use Rattle.mt_types.specs.Items.{item_bytes}
 use Rattle.mt_defs.specs.Lists.{Pointwise}
 
+-- the value is NULL, by its level
 abbrev pub is_null_at : Value-F Value → Bool
 is_null_at Value-F.Null = true
 is_null_at _ = false
 
+-- the value is NULL
 abbrev pub is_null : Value → Bool
 is_null value = is_null_at (out-Value value)
 
@@ -55,6 +57,7 @@ EncodesArray inner values (sizes ∷ streams) =
     (arrays : List (List Value)) × (values ≡ map Items arrays) × (sizes ≡ size_bytes arrays)
     × inner (flat_map (λ elements. elements) arrays) streams
 
+-- what the substreams of a type say, where those of the type inside are given
 abbrev pub encoding_step : (X : Type 0) → (X → Ty) → (X → Encoding) → Ty-F X → Encoding
 encoding_step X type_of encoding (Ty-F.Nullable inner) = EncodesNullable (fits_of (type_of inner)) (encoding inner)
 encoding_step X type_of encoding (Ty-F.Array inner) = EncodesArray (encoding inner)

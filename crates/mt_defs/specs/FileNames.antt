@@ -27,6 +27,7 @@ escaped_byte byte = if is_word_byte byte then byte ∷ [] else codes "%" ++ hex_
 abbrev pub file_name : List ℕ → List ℕ
 file_name name = flat_map escaped_byte name
 
+-- the suffixes of a type at a level of arrays, where those of the type inside are given
 abbrev pub suffix_step : Ty-F (ℕ → List (List ℕ)) → ℕ → List (List ℕ)
 suffix_step (Ty-F.Nullable inner) level = codes ".null" ∷ inner level
 suffix_step (Ty-F.Array inner) level = (codes ".size" ++ decimal level) ∷ inner (level + 1)
@@ -44,5 +45,6 @@ stream_names column = map (λ suffix. file_name column.name ++ suffix) (stream_s
 abbrev pub data_name : List ℕ → List ℕ
 data_name stream_name = stream_name ++ codes ".bin"
 
+-- the marks file of a substream in a Wide part
 abbrev pub marks_name : List ℕ → List ℕ
 marks_name stream_name = stream_name ++ codes ".mrk2"

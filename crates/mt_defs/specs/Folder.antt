@@ -8,6 +8,7 @@ use Rattle.mt_shelf.specs.declared.file.FileBytes.{FileBytes}
 abbrev pub Folder : Type 0
 Folder = List ℕ → Option (List ℕ)
 
+-- the names are the same, byte by byte
 abbrev pub is_name : List ℕ → List ℕ → Bool
 is_name a b = is_eq (slice_cmp nat_cmp a b)
 

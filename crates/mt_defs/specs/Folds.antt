@@ -48,6 +48,7 @@ state_of (Of Max i) ns = state.Greatest (greatest ns)
 
 -- ---- folds over rows
 
+-- the number of a value, or 0
 abbrev pub number_at : Value-F Value → ℤ
 number_at (Value-F.Num n) = n
 number_at _ = pos 0
@@ -71,6 +72,7 @@ states_join (state.Least m) (state.Least n) = Some (state.Least (lesser m n))
 states_join (state.Greatest m) (state.Greatest n) = Some (state.Greatest (greater m n))
 states_join _ _ = None
 
+-- two states together, where both are there
 abbrev pub join : Option AggState → Option AggState → Option AggState
 join None other = None
 join (Some s) None = None

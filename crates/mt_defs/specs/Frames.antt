@@ -23,9 +23,11 @@ pub record IsBlock (block : Block) : Type 0 where
   pub small : length block.payload ≤ MAX_PAYLOAD
   pub payload_bytes : AreBytes block.payload
 
+-- the bytes of some frames, one after another
 abbrev pub file_of : List Block → List ℕ
 file_of = flat_map block_bytes
 
+-- the payloads of some frames, one after another
 abbrev pub payload_of : List Block → List ℕ
 payload_of = flat_map (λ block. block.payload)
 

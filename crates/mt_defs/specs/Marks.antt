@@ -32,9 +32,11 @@ MarksPosition file mark position =
 
 -- ---- marks files
 
+-- a number as UInt64
 abbrev pub u64_bytes : ℕ → List ℕ
 u64_bytes n = to_le_bytes w64 n
 
+-- a mark: its offset in the file, and its offset in the payload
 abbrev pub mark_bytes : Mark → List ℕ
 mark_bytes mark = u64_bytes mark.offset ++ u64_bytes mark.inner
 

@@ -9,6 +9,7 @@ use Rattle.mt_table.specs.declared.definition.PartDef.{PartDef}
 use Rattle.mt_defs.specs.Folder.{Folder}
 use Rattle.mt_defs.specs.Rows.{Row}
 
+-- what stands for a column that no definition has
 abbrev pub no_column : Column
 no_column = record { name = codes ""; ty = Str }
 
@@ -16,12 +17,15 @@ no_column = record { name = codes ""; ty = Str }
 abbrev pub column_at : List Column → ℕ → Column
 column_at columns column_index = slice_index_or columns column_index no_column
 
+-- the file that lists the columns
 abbrev pub columns_name : List ℕ
 columns_name = codes "columns.txt"
 
+-- the file that counts the rows
 abbrev pub count_name : List ℕ
 count_name = codes "count.txt"
 
+-- the line of a column: its name in backquotes, and its type
 abbrev pub column_line : Column → List ℕ
 column_line column = codes "`" ++ column.name ++ codes "` " ++ type_name column.ty ++ codes "\n"
 

@@ -23,6 +23,7 @@ use Rattle.mt_defs.specs.Projections.{base_of, inner_of, projection_prefix, IsPr
 abbrev pub is_compact : Folder → Bool
 is_compact folder = is_some (folder compact_marks_name)
 
+-- the ending of a part's marks files, Compact or Wide
 abbrev pub marks_ending : Bool → List ℕ
 marks_ending compact = if compact then codes ".mrk3" else codes ".mrk2"
 
@@ -47,22 +48,28 @@ side_names =
     codes "checksums.txt" ∷ codes "default_compression_codec.txt" ∷ codes "metadata_version.txt" ∷ codes "serialization.json"
     ∷ codes "uuid.txt" ∷ codes "ttl.txt" ∷ codes "txn_version.txt" ∷ codes "columns_substreams.txt" ∷ []
 
+-- the files of a column in a Wide part
 abbrev pub wide_names : Column → List (List ℕ)
 wide_names column = flat_map (λ name. data_name name ∷ marks_name name ∷ []) (stream_names column)
 
+-- the data and marks files of a definition's columns
 abbrev pub column_names : PartDef → Folder → List (List ℕ)
 column_names definition folder = if is_compact folder then compact_data_name ∷ compact_marks_name ∷ [] else flat_map wide_names definition.columns
 
+-- the names that may stand in the folder of a definition, side files among them
 abbrev pub definition_names : PartDef → Folder → List (List ℕ)
 definition_names definition folder = columns_name ∷ count_name ∷ index_name ∷ (column_names definition folder ++ side_names)
 
+-- the files of a table's partition key
 abbrev pub partition_names : Table → List (List ℕ)
 partition_names table =
     if length table.partition == 0 then [] else partition_name ∷ map (λ expression. minmax_name table (expression_column expression)) table.partition
 
+-- the files of a skip index
 abbrev pub skip_names : Folder → Skip → List (List ℕ)
 skip_names folder skip = skip_data_name skip ∷ skip_marks_name skip (marks_ending (is_compact folder)) ∷ []
 
+-- the names that may stand in the folder of a projection
 abbrev pub projection_names : Table → Folder → Projection → List (List ℕ)
 projection_names table folder projection =
     map (λ name. projection_prefix projection ++ name) (definition_names (inner_of table projection) (folder_below folder (projection_prefix projection)))

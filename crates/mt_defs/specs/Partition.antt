@@ -33,6 +33,7 @@ month_of day =
     let year = year_of_era + era * 400 + (if nat_lt month 3 then 1 else 0) in
     year * 100 + month
 
+-- the month of a value that is a day
 abbrev pub month_at : Value-F Value → ℕ
 month_at (Value-F.Num (pos day)) = month_of day
 month_at _ = 0
@@ -52,10 +53,12 @@ HaveOnePartition table rows = (a b : Row) → Contains rows a → Contains rows 
 
 -- ---- least and greatest values
 
+-- the least of some values
 pub record IsLeast (values : List Value) (value : Value) : Type 0 where
   pub among : Contains values value
   pub least : All (λ other. is_le (value_cmp value other) ≡ true) values
 
+-- the greatest of some values
 pub record IsGreatest (values : List Value) (value : Value) : Type 0 where
   pub among : Contains values value
   pub greatest : All (λ other. is_le (value_cmp other value) ≡ true) values
@@ -67,6 +70,7 @@ IsMinmaxOf ty values bytes =
 
 -- ---- the files
 
+-- the file of the partition value
 abbrev pub partition_name : List ℕ
 partition_name = codes "partition.dat"
 
@@ -75,6 +79,7 @@ abbrev pub expression_column : PartExpr → ℕ
 expression_column (Plain i) = i
 expression_column (Month i) = i
 
+-- the file of a column's least and greatest value
 abbrev pub minmax_name : Table → ℕ → List ℕ
 minmax_name table column_index = codes "minmax_" ++ file_name (column_at table.columns column_index).name ++ codes ".idx"
 

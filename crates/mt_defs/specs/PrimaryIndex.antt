@@ -8,6 +8,7 @@ use Rattle.mt_defs.specs.Rows.{Row, cell}
 use Rattle.mt_defs.specs.Granules.{granule_rows}
 use Rattle.mt_defs.specs.Metadata.{column_at}
 
+-- the file of the primary index
 abbrev pub index_name : List ℕ
 index_name = codes "primary.idx"
 

@@ -55,6 +55,7 @@ inner_of table (Normal name columns sort) =
 inner_of table (Grouped name keys aggs) =
     record { columns = map (column_at table.columns) keys ++ map (state_column table) aggs; sort = range_with_len 0 (length keys); primary = length keys }
 
+-- the name of a projection
 abbrev pub projection_name : Projection → List ℕ
 projection_name (Normal name columns sort) = name
 projection_name (Grouped name keys aggs) = name
@@ -65,6 +66,7 @@ projection_prefix projection = projection_name projection ++ codes ".proj/"
 
 -- ---- which stored rows stand for which rows
 
+-- the keys are equal
 abbrev pub is_same_key : List Value → List Value → Bool
 is_same_key a b = is_eq (values_cmp a b)
 
@@ -72,12 +74,14 @@ is_same_key a b = is_eq (values_cmp a b)
 abbrev pub with_key : List ℕ → List Value → List Row → List Row
 with_key keys key rows = filter (λ row. is_same_key key (key_of keys row)) rows
 
+-- the functions are the same
 abbrev pub is_same_agg : Agg → Agg → Bool
 is_same_agg Sum Sum = true
 is_same_agg Min Min = true
 is_same_agg Max Max = true
 is_same_agg _ _ = false
 
+-- the aggregates are the same
 abbrev pub is_same_aggregate : Aggregate → Aggregate → Bool
 is_same_aggregate Count Count = true
 is_same_aggregate (Of f i) (Of g j) = is_same_agg f g && (i == j)
@@ -92,6 +96,7 @@ aggregate_index (a ∷ aggs) aggregate = if is_same_aggregate a aggregate then 0
 abbrev pub stored_key : List ℕ → Row → List Value
 stored_key keys row = take (length keys) row
 
+-- the state of a value that is one
 abbrev pub state_at : Value-F Value → Option AggState
 state_at (Value-F.State state) = Some state
 state_at _ = None

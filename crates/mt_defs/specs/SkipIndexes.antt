@@ -84,6 +84,7 @@ entry_groups per_entry (suc most) (granule ∷ granules) =
 abbrev pub entry_rows : Skip → List Row → List ℕ → List (List Row)
 entry_rows skip rows granules = entry_groups skip.granularity (length granules) (granule_rows granules rows)
 
+-- the ending of an index's data file, by its kind
 abbrev pub data_ending : SkipKind → List ℕ
 data_ending Minmax = codes ".idx2"
 data_ending (Set max_rows) = codes ".idx"
@@ -101,6 +102,7 @@ pub record SkipMark : Type 0 where
   pub mark : Mark
   pub rows : ℕ
 
+-- the bytes of a mark of an index
 abbrev pub skip_mark_bytes : SkipMark → List ℕ
 skip_mark_bytes skip_mark = mark_bytes skip_mark.mark ++ u64_bytes skip_mark.rows
 

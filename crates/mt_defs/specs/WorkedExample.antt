@@ -10,6 +10,7 @@ use Rattle.mt_table.specs.declared.definition.Table.{Table}
 use Rattle.mt_defs.specs.Rows.{Row}
 use Rattle.mt_defs.specs.WrittenColumns.{file}
 
+-- a column of UInt64
 abbrev pub u64_column : List ℕ → Column
 u64_column name = record { name = name; ty = UInt W64 }
 
@@ -17,6 +18,7 @@ u64_column name = record { name = name; ty = UInt W64 }
 abbrev pub settings : Settings
 settings = record { granule_rows = 2; granule_bytes = 10485760; wide_bytes = 0; wide_rows = 0 }
 
+-- the table of the example
 abbrev pub table : Table
 table = record {
   name = codes "t";
@@ -29,9 +31,11 @@ table = record {
   settings = settings;
 }
 
+-- a row of two numbers
 abbrev pub row : ℕ → ℕ → Row
 row k v = Num (pos k) ∷ Num (pos v) ∷ []
 
+-- the rows as they are given
 abbrev pub input : List Row
 input = row 3 30 ∷ row 1 10 ∷ row 2 20 ∷ []
 
@@ -47,6 +51,7 @@ eight n = n ∷ 0 ∷ 0 ∷ 0 ∷ 0 ∷ 0 ∷ 0 ∷ 0 ∷ []
 abbrev pub header : ℕ → List ℕ
 header size = replicate 16 0 ++ 2 ∷ (size + 9) ∷ 0 ∷ 0 ∷ 0 ∷ size ∷ 0 ∷ 0 ∷ 0 ∷ []
 
+-- an entry of a marks file: a frame that begins at an offset, and a number of rows
 abbrev pub mark_entry : ℕ → ℕ → List ℕ
 mark_entry offset count = eight offset ++ eight 0 ++ eight count
 
@@ -54,9 +59,11 @@ mark_entry offset count = eight offset ++ eight 0 ++ eight count
 abbrev pub data_of : ℕ → ℕ → ℕ → List ℕ
 data_of a b c = header 16 ++ eight a ++ eight b ++ header 8 ++ eight c
 
+-- the marks file of both columns
 abbrev pub marks : List ℕ
 marks = mark_entry 0 2 ++ mark_entry 41 1 ++ mark_entry 74 0
 
+-- the files of the folder
 abbrev pub seven_files : List FileBytes
 seven_files =
     file (codes "columns.txt") (codes "columns format version: 1\n2 columns:\n`k` UInt64\n`v` UInt64\n")

@@ -55,6 +55,7 @@ projection_rows table (Normal name columns sort) rows =
 projection_rows table (Grouped name keys aggs) rows =
     map (folded_row (Grouped name keys aggs) rows) (distinct_by is_same_key (map (key_of keys) (sorted_rows keys rows)))
 
+-- a file with a prefix before its name
 abbrev pub file_below : List ℕ → FileBytes → FileBytes
 file_below prefix below = file (prefix ++ below.name) below.bytes
 

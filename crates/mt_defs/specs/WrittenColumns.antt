@@ -11,6 +11,7 @@ use Rattle.mt_defs.specs.Compact.{compact_data_name, compact_marks_name}
 use Rattle.mt_defs.specs.WrittenStreams.{written_streams}
 use Rattle.mt_defs.specs.WrittenFrames.{written_frames, written_marks_bytes}
 
+-- a file of this name with these bytes
 abbrev pub file : List ℕ → List ℕ → FileBytes
 file name bytes = record { name = name; bytes = bytes }
 

@@ -29,6 +29,7 @@ abbrev pub minmax_bytes : Ty → List Value → List ℕ
 minmax_bytes ty values =
     flat_map (item_bytes ty) (best_of (λ v w. is_lt (value_cmp v w)) values) ++ flat_map (item_bytes ty) (best_of (λ v w. is_lt (value_cmp w v)) values)
 
+-- the minmax file of a column
 abbrev pub minmax_file : Table → List Row → ℕ → FileBytes
 minmax_file table rows column_index = file (minmax_name table column_index) (minmax_bytes (column_at table.columns column_index).ty (column_values column_index rows))
 

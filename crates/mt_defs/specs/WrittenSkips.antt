@@ -24,10 +24,12 @@ abbrev pub written_entry : SkipKind → Ty → List Value → List ℕ
 written_entry Minmax ty values = minmax_bytes ty values
 written_entry (Set max_rows) ty values = if is_too_many max_rows values then u64_bytes 0 else set_bytes ty (distinct_values values)
 
+-- the entries of an index over granules of these rows
 abbrev pub written_entries : Table → Skip → List Row → List ℕ → List (List ℕ)
 written_entries table skip rows granules =
     map (λ group. written_entry skip.kind (column_at table.columns skip.column).ty (column_values skip.column group)) (entry_rows skip rows granules)
 
+-- the mark at the start of a frame, and the number 1, which is passed over
 abbrev pub written_skip_mark : ℕ → SkipMark
 written_skip_mark offset = record { mark = mark_at offset; rows = 1 }
 

@@ -10,6 +10,7 @@ use Rattle.mt_types.specs.Items.{item_bytes}
 use Rattle.mt_types.specs.Defaults.{default_of}
 use Rattle.mt_defs.specs.Encoding.{is_null, null_byte, size_bytes}
 
+-- the elements of a value that is an array, or none
 abbrev pub elements_at : Value-F Value → List Value
 elements_at (Value-F.List elements) = elements
 elements_at _ = []
@@ -27,11 +28,13 @@ pub record Encoder : Type 0 where
   pub ty : Ty
   pub streams : List Value → List (List ℕ)
 
+-- the writer's substreams of a type, where those of the type inside are given
 abbrev pub streams_step : Ty → Ty-F Encoder → List Value → List (List ℕ)
 streams_step ty (Ty-F.Nullable inner) values = map null_byte values ∷ inner.streams (map (or_default (default_of inner.ty)) values)
 streams_step ty (Ty-F.Array inner) values = size_bytes (arrays_of values) ∷ inner.streams (flat_map (λ elements. elements) (arrays_of values))
 streams_step ty _ values = flat_map (item_bytes ty) values ∷ []
 
+-- the type of a level, and how its values are encoded
 abbrev pub encoder_step : Ty-F Encoder → Encoder
 encoder_step level =
     let ty : Ty = roll-Ty (map-Ty Encoder Ty (λ inner. inner.ty) level) in

@@ -9,12 +9,12 @@ use Rattle.std.proofs.Math.Seq.{drop-append-add, take-append_seam, drop-append_s
 use Rattle.std.proofs.lemmas.Nat.{le_bytes_4, from_le_bytes-to_le_bytes_4}
 use Rattle.std.proofs.lemmas.List.Elements.{All-cons, All-nil, All-head, All-tail}
 use Rattle.mt_frame.specs.declared.fault.FrameWhy.{FrameWhy}
-use Rattle.mt_frame.specs.Steps.{◌>>=◌, at, onto}
+use Rattle.mt_types.specs.Steps.{◌>>=◌, at, onto}
 use Rattle.mt_defs.specs.Frames.{Block, IsBlock, IsFileOf, block_bytes, file_of}
 use Rattle.mt_defs.specs.declared.frame.TheConstants.{MAX_PAYLOAD}
 use Rattle.mt_defs.specs.Lists.{AreBytes}
 use Rattle.mt_frame.specs.FrameReading.{frame_reading, frames_from, frames_reading, u32_at}
-use Rattle.mt_frame.proofs.StepLemmas.{required, both_true, ok_pair, passed, ok_one, both_of, onto_ok, at_ok_then}
+use Rattle.mt_types.proofs.StepLemmas.{required, both_true, ok_pair, passed, ok_one, both_of, onto_ok, at_ok_then}
 
 -- each number is a byte
 abbrev pub BytesAt : List ℕ → Type 0

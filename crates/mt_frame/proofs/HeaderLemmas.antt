@@ -9,7 +9,7 @@ use Rattle.mt_frame.specs.declared.fault.FrameWhy.TheVariants as why
 use Rattle.mt_defs.specs.Frames.{Block}
 use Rattle.mt_defs.specs.declared.frame.TheConstants.{MAX_PAYLOAD}
 use Rattle.mt_frame.specs.FrameReading.{frame_reading, u32_at}
-use Rattle.mt_frame.proofs.StepLemmas.{passed, failed}
+use Rattle.mt_types.proofs.StepLemmas.{passed, failed}
 
 -- the number that a call read
 pub number : (bytes : List ℕ) (i n : ℕ) → n < 2 ^ 32 → to_le_bytes w32 n ≡ take 4 (drop i bytes) → u32_at i bytes ≡ n

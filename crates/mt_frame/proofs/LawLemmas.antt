@@ -5,7 +5,7 @@ use Rattle.std.proofs.lemmas.List.Elements.{All-head, All-tail}
 use Rattle.mt_defs.specs.Lists.{AreBytes}
 use Rattle.mt_defs.specs.Frames.{Block, IsFileOf, IsFramed, file_of, payload_of}
 use Rattle.mt_frame.specs.FrameReading.{frames_reading}
-use Rattle.mt_frame.proofs.StepLemmas.{ok_one}
+use Rattle.mt_types.proofs.StepLemmas.{ok_one}
 use Rattle.mt_frame.proofs.BlockLemmas.{BytesAt, frames_complete, frames_exact}
 
 pub one_file : (file : List ℕ) (cs ds : List Block) → IsFileOf cs file → IsFileOf ds file → cs ≡ ds

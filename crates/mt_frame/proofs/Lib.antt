@@ -1,5 +1,4 @@
 pub mod FrameLemmas
-pub mod StepLemmas
 pub mod BlockLemmas
 pub mod HeaderLemmas
 pub mod LoopLemmas

@@ -4,12 +4,12 @@ use Rattle.std.specs.Prelude.{Result, Ok, Err}
 use Rattle.std.proofs.lemmas.Bool.{le-leb, eq-eqb, eqb-true, and_from, and_parts}
 use Rattle.std.proofs.lemmas.List.{length-drop, drop-drop, drop_all}
 use Rattle.mt_frame.specs.declared.fault.FrameWhy.{FrameWhy}
-use Rattle.mt_frame.specs.Steps.{◌>>=◌, at, onto}
+use Rattle.mt_types.specs.Steps.{◌>>=◌, at, onto}
 use Rattle.mt_defs.specs.Frames.{Block, IsFileOf}
 use Rattle.mt_defs.specs.declared.frame.TheConstants.{MAX_PAYLOAD}
 use Rattle.mt_frame.specs.FrameReading.{frame_reading, frames_from, frames_reading, layout_from, layout}
 use Rattle.mt_defs.specs.declared.frame.Frame.{Frame}
-use Rattle.mt_frame.proofs.StepLemmas.{ok_one}
+use Rattle.mt_types.proofs.StepLemmas.{ok_one}
 use Rattle.mt_frame.proofs.BlockLemmas.{frame_shrinks, enough, frames_next, frames_none, frames_sound, BytesAt}
 use Rattle.mt_frame.specs.EndToEnd.{lie_end_to_end}
 

@@ -6,7 +6,7 @@ use Rattle.mt_defs.specs.declared.frame.Frame.{Frame}
 use Rattle.mt_defs.specs.Frames.{Block}
 use Rattle.mt_frame.specs.declared.fault.FrameWhy.{FrameWhy}
 use Rattle.mt_frame.specs.declared.fault.FrameWhy.TheVariants.{Cut, Method, Sizes, TooLong}
-use Rattle.mt_frame.specs.Steps.{◌>>=◌, require, at, onto}
+use Rattle.mt_types.specs.Steps.{◌>>=◌, require, at, onto}
 
 -- the little-endian number at an offset
 abbrev pub u32_at : ℕ → List ℕ → ℕ

@@ -1,4 +1,3 @@
-pub mod Steps
 pub mod EndToEnd
 pub mod FrameReading
 pub mod Results

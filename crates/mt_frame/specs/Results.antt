@@ -6,7 +6,7 @@ use Rattle.mt_frame.specs.declared.fault.FrameWhy.{FrameWhy}
 use Rattle.mt_frame.specs.declared.fault.FrameError.{FrameError}
 use Rattle.mt_frame.specs.declared.fault.FrameError.TheVariants as error
 use Rattle.mt_frame.specs.declared.frames.Frames.{Frames}
-use Rattle.mt_frame.specs.Steps.{◌>>=◌}
+use Rattle.mt_types.specs.Steps.{◌>>=◌}
 use Rattle.mt_frame.specs.FrameReading.{layout}
 
 -- a frame with so long a payload stands at the start of the bytes

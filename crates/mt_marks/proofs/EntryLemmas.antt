@@ -7,7 +7,7 @@ use Rattle.mt_shelf.specs.declared.fault.Why.{Why}
 use Rattle.mt_shelf.specs.declared.fault.Why.TheVariants as why
 use Rattle.mt_defs.specs.declared.mark.Mark.{Mark}
 use Rattle.mt_frame.specs.declared.frames.Frames.{Frames}
-use Rattle.mt_frame.specs.Steps.{◌>>=◌, require, at}
+use Rattle.mt_types.specs.Steps.{◌>>=◌, require, at}
 use Rattle.mt_marks.specs.declared.rules.Former.{Former}
 use Rattle.mt_marks.specs.Entries.{Entry, entries_in}
 use Rattle.mt_marks.specs.MarkReading.{mark_reading, last_reading, are_rows, is_last, rules_reading}

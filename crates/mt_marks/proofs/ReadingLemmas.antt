@@ -7,7 +7,7 @@ use Rattle.mt_shelf.specs.declared.fault.Why.{Why}
 use Rattle.mt_shelf.specs.declared.fault.Why.TheVariants as why
 use Rattle.mt_defs.specs.declared.mark.Mark.{Mark}
 use Rattle.mt_frame.specs.declared.frames.Frames.{Frames}
-use Rattle.mt_frame.specs.Steps.{◌>>=◌, require}
+use Rattle.mt_types.specs.Steps.{◌>>=◌, require}
 use Rattle.mt_marks.specs.declared.marks.Marks.{Marks}
 use Rattle.mt_marks.specs.declared.fault.MarksError.{MarksError}
 use Rattle.mt_marks.specs.declared.fault.MarksError.TheVariants.{At, NoMemory}

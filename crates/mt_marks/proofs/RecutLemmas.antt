@@ -11,7 +11,7 @@ use Rattle.mt_frame.specs.declared.fault.FrameWhy.{FrameWhy}
 use Rattle.mt_frame.specs.FrameReading.{frames_reading}
 use Rattle.mt_frame.proofs.BlockLemmas.{frames_complete}
 use Rattle.mt_frame.proofs.LawLemmas.{one_file}
-use Rattle.mt_frame.proofs.StepLemmas.{then_of}
+use Rattle.mt_types.proofs.StepLemmas.{then_of}
 use Rattle.mt_marks.specs.Recut.{payload_reading, HasMark}
 
 -- ---- each position has a mark

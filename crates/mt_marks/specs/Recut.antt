@@ -5,7 +5,7 @@ use Rattle.mt_defs.specs.Frames.{payload_of}
 use Rattle.mt_defs.specs.Marks.{MarksPosition}
 use Rattle.mt_frame.specs.declared.fault.FrameWhy.{FrameWhy}
 use Rattle.mt_frame.specs.FrameReading.{frames_reading}
-use Rattle.mt_frame.specs.Steps.{◌>>=◌}
+use Rattle.mt_types.specs.Steps.{◌>>=◌}
 
 -- the payload of a file's frames, or the first offset at which none stands, and why
 abbrev pub payload_reading : List ℕ → Result (List ℕ) (ℕ × FrameWhy)

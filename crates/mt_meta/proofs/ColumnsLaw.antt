@@ -11,7 +11,7 @@ use Rattle.mt_shelf.specs.declared.fault.Why.{Why}
 use Rattle.mt_shelf.specs.declared.fault.Why.TheVariants.{Syntax, Columns}
 use Rattle.mt_table.specs.declared.column.Column.{Column}
 use Rattle.mt_defs.specs.Metadata.{column_at, column_line, columns_text, no_column}
-use Rattle.mt_meta.specs.Steps.{◌>>=◌, ok_or}
+use Rattle.mt_types.specs.Steps.{◌>>=◌, ok_or}
 use Rattle.mt_meta.specs.declared.ascii.TheConstants.{LINE_END}
 use Rattle.mt_meta.specs.ColumnsReading.{is_column_line, column_lines, version_line, count_line, if_headed, listing_of, listing, is_line, order_of, is_each_once, if_each_once, columns_reading, Lists}
 use Rattle.mt_meta.proofs.SplitLemmas.{at_byte}

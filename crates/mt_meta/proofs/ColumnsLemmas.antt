@@ -9,7 +9,7 @@ use Rattle.mt_shelf.specs.declared.fault.ReadError.{ReadError}
 use Rattle.mt_shelf.specs.declared.fault.ReadError.TheVariants.{AtFault, Shelf, NoMemory}
 use Rattle.mt_table.specs.declared.column.Column.{Column}
 use Rattle.mt_defs.specs.Metadata.{column_line}
-use Rattle.mt_meta.specs.Steps.{ok_or}
+use Rattle.mt_types.specs.Steps.{ok_or}
 use Rattle.mt_meta.specs.ColumnsReading.{listing, is_line, order_of, if_each_once, columns_reading}
 use Rattle.mt_meta.specs.Results.{FailsAs, IsFault}
 

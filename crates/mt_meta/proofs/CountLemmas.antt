@@ -11,7 +11,7 @@ use Rattle.mt_meta.specs.declared.count.CountWhy.{CountWhy}
 use Rattle.mt_meta.specs.declared.count.CountWhy.TheVariants.{Syntax, TooLong}
 use Rattle.mt_meta.specs.CountReading.{is_number, count_reading, Counts}
 use Rattle.mt_meta.proofs.DigitLemmas.{decimal_model}
-use Rattle.mt_meta.proofs.StepLemmas.{required, passed, ok_one}
+use Rattle.mt_types.proofs.StepLemmas.{required, passed, ok_one}
 
 both : (a b : Bool) → (a && b) ≡ true → (a ≡ true) × (b ≡ true)
 both true b e = (refl, e)
@@ -52,7 +52,7 @@ pub read_is : (columns rows : ℕ) (text : List ℕ) → count_reading columns t
 unfolding count_reading
 read_is columns rows text e =
     required (is_number text) Syntax _ _ e (λ n e. required (nat_le (digits_value 10 text) MAX_ROWS) TooLong _ _ e (λ few e. required (nat_le (digits_value 10 text * columns) MAX_CELLS) TooLong _ _ e (λ cells e.
-    let is : digits_value 10 text ≡ rows = ok_one _ _ e in
+    let is : digits_value 10 text ≡ rows = sym (ok_one _ _ e) in
     parts_of columns rows text n is (subst (λ r. r ≤ MAX_ROWS) is (leb-true (digits_value 10 text) MAX_ROWS few)) (subst (λ r. r * columns ≤ MAX_CELLS) is (leb-true (digits_value 10 text * columns) MAX_CELLS cells)))))
 
 number_of : (text : List ℕ) → 48 < get_or text 0 0 → all_ascii_digits text ≡ true → is_number text ≡ true

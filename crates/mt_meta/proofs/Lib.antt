@@ -1,8 +1,5 @@
 mod DigitLemmas
-mod NumberLemmas
-mod ItemReading
 mod KeyReadingLemmas
-mod ItemLemmas
 mod KeyLemmas
 mod PlainLemmas
 mod ListedLemmas
@@ -13,7 +10,6 @@ mod OrderLemmas
 mod LineLemmas
 mod ListingLemmas
 mod SplitLemmas
-mod StepLemmas
 mod CountLemmas
 mod MonthLemmas
 mod Casts

@@ -1,5 +1,5 @@
 -- A folder has the partition of some rows exactly where it has the files that the writer makes of it.
-use Rattle.std.proofs.Common.{◌≡◌, ℕ, Bool, true, false, not, List, [], ◌∷◌, ◌++◌, length, take, map, cond, Option, Some, None, refl, sym, ap, ◌∙◌, subst, arith}
+use Rattle.std.proofs.Common.{◌≡◌, ℕ, Bool, true, false, not, List, [], ◌∷◌, ◌++◌, length, take, map, cond, Some, refl, sym, ap, ◌∙◌, subst, arith}
 use Rattle.std.specs.Prelude.{All, filter, ◌==◌, ◌↔◌}
 use Rattle.std.specs.List.{flat_map}
 use Rattle.std.proofs.lemmas.Bool.{eqb-true}
@@ -12,7 +12,7 @@ use Rattle.mt_shelf.specs.declared.file.FileBytes.{FileBytes}
 use Rattle.mt_table.specs.declared.definition.Table.{Table}
 use Rattle.mt_defs.specs.Folder.{Folder}
 use Rattle.mt_defs.specs.Metadata.{column_at}
-use Rattle.mt_defs.specs.Partition.{IsLeast, IsGreatest, IsMinmaxOf, HasMinmax, HasPartition, partition_bytes, partition_name, minmax_name, expression_column}
+use Rattle.mt_defs.specs.Partition.{IsMinmaxOf, HasMinmax, HasPartition, partition_bytes, partition_name, expression_column}
 use Rattle.mt_defs.specs.Rows.{Row, cell, column_values}
 use Rattle.mt_defs.specs.WrittenColumns.{file}
 use Rattle.mt_defs.specs.WrittenPartition.{minmax_bytes, minmax_file, partition_files}

@@ -1,6 +1,6 @@
 -- Partition values and their bytes.
-use Rattle.std.proofs.Common.{◌≡◌, ℕ, zero, suc, ◌+◌, ◌-◌, ◌*◌, ◌/◌, ◌^◌, ◌<◌, ◌≤◌, ℤ, pos, Bool, true, false, not, ◌||◌, cond, List, [], ◌∷◌, ◌++◌, length, take, map, get_or, refl, sym, ap, ◌∙◌, subst, arith}
-use Rattle.std.specs.Prelude.{All, Contains, filter, IsTrue, ◌==◌, ◌↔◌}
+use Rattle.std.proofs.Common.{◌≡◌, ℕ, ◌+◌, ◌^◌, ◌<◌, ℤ, pos, Bool, true, false, not, ◌||◌, cond, List, [], ◌∷◌, ◌++◌, length, take, drop, map, get_or, refl, sym, ap, ◌∙◌, subst, arith}
+use Rattle.std.specs.Prelude.{All, filter, IsTrue, ◌==◌, ◌↔◌}
 use Rattle.std.specs.declared.cmp.Ordering.{Ordering}
 use Rattle.std.specs.declared.cmp.Ordering.TheVariants.{Less, Equal, Greater}
 use Rattle.std.specs.Ordering.{ordering_index}
@@ -28,12 +28,12 @@ use Rattle.mt_defs.specs.Lists.{Pointwise, distinct_by}
 use Rattle.mt_defs.specs.Metadata.{column_at, no_column}
 use Rattle.mt_defs.specs.Partition.{month_of, month_at, expression_bytes, expression_column}
 use Rattle.mt_defs.specs.Rows.{Row, RowFits, cell, column_values}
-use Rattle.mt_meta.specs.Keys.{is_scalar, is_scalar_at, AreKeys}
+use Rattle.mt_item.specs.ItemTypes.{is_scalar, is_scalar_at}
+use Rattle.mt_meta.specs.Keys.{AreKeys}
 use Rattle.mt_meta.specs.PartitionKeys.{IsExpression, ArePartitionKeys, HasValue, HasValueOf, HaveSameValue}
 use Rattle.mt_meta.specs.Minmax.{least_of, greatest_of}
 use Rattle.mt_meta.proofs.BestLemmas.{least_is, greatest_is}
 use Rattle.mt_meta.proofs.ItemFacts.{day_is, item_unique}
-use Rattle.mt_meta.proofs.ItemReading.{same_split}
 use Rattle.mt_meta.proofs.KeyLemmas.{cell_fits}
 
 -- ---- a row has the values
@@ -66,9 +66,7 @@ month_at_small : (v : Value) → IsTrue (fits_of Date v) → month_at (out-Value
 month_at_small v f = let day = day_is v f in subst (λ m. m < 2 ^ 32) (sym (month_at_is v day.0 day.1)) (month_small day.0 day.2)
 
 four_bytes : (m n : ℕ) (x y : List ℕ) → m < 2 ^ 32 → n < 2 ^ 32 → to_le_bytes w32 m ++ x ≡ to_le_bytes w32 n ++ y → (m ≡ n) × (x ≡ y)
-four_bytes m n x y a b e =
-    let s = same_split (to_le_bytes w32 m) (to_le_bytes w32 n) x y refl e in
-    (sym (from_le_bytes-to_le_bytes_4 m a) ∙ ap (from_le_bytes w32) s.0 ∙ from_le_bytes-to_le_bytes_4 n b, s.1)
+four_bytes m n x y a b e = (sym (from_le_bytes-to_le_bytes_4 m a) ∙ ap (λ t. from_le_bytes w32 (take 4 t)) e ∙ from_le_bytes-to_le_bytes_4 n b, ap (drop 4) e)
 
 -- ---- the same value, the same bytes
 

@@ -10,7 +10,7 @@ use Rattle.mt_shelf.specs.declared.fault.Why.{Why}
 use Rattle.mt_shelf.specs.declared.fault.Why.TheVariants.{Syntax, Columns}
 use Rattle.mt_defs.specs.Metadata.{column_at, column_line, columns_text}
 use Rattle.mt_meta.specs.declared.ascii.TheConstants.{LINE_END, BACKQUOTE, BLANK}
-use Rattle.mt_meta.specs.Steps.{◌>>=◌, ok_or}
+use Rattle.mt_types.specs.Steps.{◌>>=◌, ok_or}
 use Rattle.mt_meta.specs.Splitting.{split_once}
 
 -- ---- the form

@@ -6,7 +6,7 @@ use Rattle.std.specs.Str.Parse.{digits_value}
 use Rattle.mt_table.specs.declared.limits.TheConstants.{MAX_ROWS, MAX_CELLS}
 use Rattle.mt_meta.specs.declared.count.CountWhy.{CountWhy}
 use Rattle.mt_meta.specs.declared.count.CountWhy.TheVariants.{Syntax, TooLong}
-use Rattle.mt_meta.specs.Steps.{◌>>=◌, require}
+use Rattle.mt_types.specs.Steps.{◌>>=◌, require}
 
 -- a decimal number from 1 on without leading zeros
 abbrev pub is_number : List ℕ → Bool

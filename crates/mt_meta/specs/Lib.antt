@@ -1,4 +1,3 @@
-pub mod Steps
 pub mod Splitting
 pub mod CountReading
 pub mod ColumnsReading

@@ -11,8 +11,8 @@ ghost use Rattle.mt_defs.specs.Rows.{RowFits, cell};
 ghost use Rattle.mt_meta.specs.PartitionKeys.{ArePartitionKeys, IsExpression, HasValue, HaveSameValue};
 
 use crate::cell::cell;
-use crate::item::append_item;
 use crate::month::month_at;
+use mt_item::put_item;
 use mt_table::{Column, PartExpr};
 use mt_types::{List, NoMemory, Row, compare};
 use std::alloc::Global;
@@ -53,12 +53,12 @@ pub(crate) fn append_values(
     columns: &[Column],
     partition: &[PartExpr],
     row: &Row,
-    out: &mut Vec<u8>,
+    out: &mut List<u8>,
 ) -> Result<(), NoMemory>
     requires key { ArePartitionKeys columns.now partition.now }
     requires fits { RowFits columns.now row.now }
-    ensures { OnOk result (out.new.items ≡
-        out.old.items ++ flat_map (expression_bytes columns.now row.now) partition.now) }
+    ensures { OnOk result (out.new ≡
+        out.old ++ flat_map (expression_bytes columns.now row.now) partition.now) }
 {
     for expression in partition {
         append_value(columns, *expression, row, out)?;
@@ -71,28 +71,27 @@ fn append_value(
     columns: &[Column],
     expression: PartExpr,
     row: &Row,
-    out: &mut Vec<u8>,
+    out: &mut List<u8>,
 ) -> Result<(), NoMemory>
     requires expression { IsExpression columns.now expression }
     requires fits { RowFits columns.now row.now }
-    ensures { OnOk result (out.new.items ≡
-        out.old.items ++ expression_bytes columns.now row.now expression) }
+    ensures { OnOk result (out.new ≡
+        out.old ++ expression_bytes columns.now row.now expression) }
 {
     match expression {
-        PartExpr::Plain(i) => append_item(&columns[i as usize].ty, cell(row, i), out),
+        PartExpr::Plain(i) => put_item(&columns[i as usize].ty, cell(row, i), out),
         PartExpr::Month(i) => append_month(row, i, out),
     }
 }
 
 /// Appends the month of a row's day.
-fn append_month(row: &Row, column_index: u32, out: &mut Vec<u8>) -> Result<(), NoMemory>
+fn append_month(row: &Row, column_index: u32, out: &mut List<u8>) -> Result<(), NoMemory>
     requires { HasValue row.now (Month column_index) }
-    ensures { OnOk result (out.new.items ≡
-        out.old.items ++ to_le_bytes w32 (month_at (out-Value (cell row.now column_index)))) }
+    ensures { OnOk result (out.new ≡
+        out.old ++ to_le_bytes w32 (month_at (out-Value (cell row.now column_index)))) }
 {
     let month = month_at(cell(row, column_index));
-    out.extend_from_slice(&month.to_le_bytes())?;
-    Ok(())
+    out.append(&month.to_le_bytes())
 }
 
 /// Whether an expression has the same value in two rows. It takes no memory.

@@ -11,9 +11,9 @@ ghost use Rattle.mt_meta.specs.Keys.{is_scalar};
 ghost use Rattle.mt_meta.specs.PartitionKeys.{ArePartitionKeys, HasValueOf};
 
 use crate::expression::{append_values, key_columns};
-use crate::item::append_item;
 use crate::minmax::minmax;
 use crate::names::file_name;
+use mt_item::put_item;
 use mt_shelf::FileBytes;
 use mt_table::{Column, Table};
 use mt_types::{List, NoMemory, Row, Ty};
@@ -53,7 +53,7 @@ fn values_file(alloc: Global, table: &Table, row: &Row) -> Result<FileBytes, NoM
     requires fits { RowFits table.now.columns row.now }
     ensures { IfOk result (λ written. written ≡ file partition_name (partition_bytes table.now row.now)) }
 {
-    let mut bytes = Vec::new(alloc);
+    let mut bytes = List::new(alloc);
     append_values(
         table.columns.as_slice(),
         table.partition.as_slice(),
@@ -62,7 +62,7 @@ fn values_file(alloc: Global, table: &Table, row: &Row) -> Result<FileBytes, NoM
     )?;
     Ok(FileBytes {
         name: List::of_bytes(alloc, PARTITION_FILE)?,
-        bytes: List::of(bytes),
+        bytes: bytes,
     })
 }
 
@@ -99,8 +99,8 @@ fn minmax_bytes(
     ensures { IfOk result (λ bytes. bytes ≡ minmax_bytes ty.now (column_values column_index rows.now)) }
 {
     let (least, greatest) = minmax(rows, column_index);
-    let mut bytes = Vec::new(alloc);
-    append_item(ty, least, &mut bytes)?;
-    append_item(ty, greatest, &mut bytes)?;
-    Ok(List::of(bytes))
+    let mut bytes = List::new(alloc);
+    put_item(ty, least, &mut bytes)?;
+    put_item(ty, greatest, &mut bytes)?;
+    Ok(bytes)
 }

@@ -8,7 +8,7 @@ use Rattle.std.specs.List.{join_with_byte}
 use Rattle.mt_tsv.specs.declared.ascii.TheConstants.{BACKSLASH}
 use Rattle.mt_tsv.specs.declared.fault.RowWhy.{RowWhy}
 use Rattle.mt_tsv.specs.declared.fault.RowWhy.TheVariants.{Escape}
-use Rattle.mt_tsv.specs.Steps.{onto}
+use Rattle.mt_types.specs.Steps.{onto}
 use Rattle.mt_tsv.specs.Reading.{parts}
 use Rattle.mt_tsv.specs.Texts.{escaped_byte, text_of, text_after_backslash}
 use Rattle.mt_tsv.proofs.Prefixes.{with_prefix, with_prefix-onto, with_prefix-nil, with_prefix-append, onto_prefix}

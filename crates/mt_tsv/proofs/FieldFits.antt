@@ -14,7 +14,7 @@ use Rattle.mt_types.specs.Fits.{fits_of, fits_step, bits, is_unsigned, is_signed
 use Rattle.mt_tsv.specs.declared.fault.RowWhy.{RowWhy}
 use Rattle.mt_tsv.specs.declared.fault.RowWhy.TheVariants.{Range, Null, TooLong, List as BadList}
 use Rattle.mt_types.specs.declared.limits.TheConstants.{MAX_TEXT, MAX_ELEMENTS}
-use Rattle.mt_tsv.specs.Steps.{◌>>=◌}
+use Rattle.mt_types.specs.Steps.{◌>>=◌}
 use Rattle.mt_tsv.specs.Texts.{text_of, bounded_text, padded_text}
 use Rattle.mt_tsv.specs.Scalars.{integer_of, number_of, number_value, day_of, scalar_at, scalar_of}
 use Rattle.mt_tsv.specs.Dates.{date_of, day_number, day_in_type, is_date, two_digits_at}

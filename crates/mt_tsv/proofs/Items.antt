@@ -9,7 +9,8 @@ use Rattle.mt_tsv.specs.declared.fault.RowWhy.{RowWhy}
 use Rattle.mt_tsv.specs.declared.fault.RowWhy.TheVariants.{TooLong}
 use Rattle.mt_tsv.specs.declared.fault.FieldError.{FieldError}
 use Rattle.mt_tsv.specs.declared.fault.FieldError.TheVariants as field_error
-use Rattle.mt_tsv.specs.Steps.{onto, Fails}
+use Rattle.mt_types.specs.Steps.{onto}
+use Rattle.mt_tsv.specs.Results.{Fails}
 use Rattle.mt_tsv.specs.Arrays.{Element, array_of, items_of, level_of}
 use Rattle.mt_tsv.proofs.Prefixes.{with_prefix, with_prefix-onto}
 

@@ -12,7 +12,8 @@ use Rattle.mt_tsv.specs.declared.fault.FieldError.{FieldError}
 use Rattle.mt_tsv.specs.declared.fault.FieldError.TheVariants as field_error
 use Rattle.mt_tsv.specs.declared.fault.RowError.{RowError}
 use Rattle.mt_tsv.specs.declared.fault.RowError.TheVariants as row
-use Rattle.mt_tsv.specs.Steps.{◌>>=◌, onto, unless_bad, Fails, RowsFail}
+use Rattle.mt_types.specs.Steps.{◌>>=◌, onto}
+use Rattle.mt_tsv.specs.Results.{unless_bad, Fails, RowsFail}
 use Rattle.mt_tsv.specs.Cells.{cells_of, room_after}
 use Rattle.mt_tsv.specs.Fields.{field_of}
 use Rattle.mt_tsv.specs.Reading.{at, error_at, values_of, fields, row_of, rows_of, with_room}

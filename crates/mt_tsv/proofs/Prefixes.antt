@@ -1,6 +1,6 @@
 -- What was read before, and what is still read.
 use Rattle.std.proofs.Common.{◌≡◌, List, [], ◌∷◌, ◌++◌, Result, Ok, Err, refl, ap, append_assoc}
-use Rattle.mt_tsv.specs.Steps.{◌>>=◌, onto}
+use Rattle.mt_types.specs.Steps.{◌>>=◌, onto}
 
 abbrev pub with_prefix : {A E : Type 0} → List A → Result (List A) E → Result (List A) E
 with_prefix prefix read = read >>= λ xs. Ok (prefix ++ xs)

@@ -15,7 +15,8 @@ use Rattle.mt_tsv.specs.declared.fault.RowWhy.{RowWhy}
 use Rattle.mt_tsv.specs.declared.fault.RowWhy.TheVariants.{Columns}
 use Rattle.mt_tsv.specs.declared.fault.RowError.{RowError}
 use Rattle.mt_tsv.specs.declared.fault.RowError.TheVariants as row
-use Rattle.mt_tsv.specs.Steps.{◌>>=◌, unless_bad, onto}
+use Rattle.mt_types.specs.Steps.{◌>>=◌, onto}
+use Rattle.mt_tsv.specs.Results.{unless_bad}
 use Rattle.mt_tsv.specs.Cells.{cells_of, room_after}
 use Rattle.mt_tsv.specs.Fields.{field_of}
 use Rattle.mt_tsv.specs.Reading.{values_of, row_of, fields, rows_of, rows_reading, at, with_room, lines}

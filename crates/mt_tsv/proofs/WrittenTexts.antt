@@ -15,7 +15,7 @@ use Rattle.mt_types.specs.declared.ty.Width.TheVariants.{W8, W16, W32, W64}
 use Rattle.mt_types.specs.Fits.{bits, is_unsigned, is_signed}
 use Rattle.mt_tsv.specs.declared.fault.RowWhy.{RowWhy}
 use Rattle.mt_tsv.specs.declared.nesting.Nesting.TheVariants.{Outside, InQuotes, Escaped}
-use Rattle.mt_tsv.specs.Steps.{onto}
+use Rattle.mt_types.specs.Steps.{onto}
 use Rattle.mt_tsv.specs.Texts.{escaped_byte, text_of, text_after_backslash, bounded_text, padded_text}
 use Rattle.mt_tsv.specs.Scalars.{magnitude_of, integer_of, number_of}
 use Rattle.mt_tsv.specs.Nesting.{after, is_comma, closes_last}

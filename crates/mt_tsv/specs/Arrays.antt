@@ -11,7 +11,8 @@ use Rattle.mt_types.specs.declared.limits.TheConstants.{MAX_ELEMENTS}
 use Rattle.mt_tsv.specs.declared.nesting.Nesting.TheVariants.{Outside}
 use Rattle.mt_tsv.specs.declared.fault.RowWhy.{RowWhy}
 use Rattle.mt_tsv.specs.declared.fault.RowWhy.TheVariants.{Null, TooLong, List as BadList}
-use Rattle.mt_tsv.specs.Steps.{◌>>=◌, unless_bad, onto}
+use Rattle.mt_types.specs.Steps.{◌>>=◌, onto}
+use Rattle.mt_tsv.specs.Results.{unless_bad}
 use Rattle.mt_tsv.specs.Nesting.{is_matched, elements_from, is_quoted}
 use Rattle.mt_tsv.specs.Scalars.{scalar_at}
 

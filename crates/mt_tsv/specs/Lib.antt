@@ -1,4 +1,4 @@
-pub mod Steps
+pub mod Results
 pub mod Dates
 pub mod Texts
 pub mod Scalars

@@ -11,7 +11,8 @@ use Rattle.mt_tsv.specs.declared.fault.RowError.{RowError}
 use Rattle.mt_tsv.specs.declared.fault.RowError.TheVariants as row
 use Rattle.mt_tsv.specs.declared.fault.FieldError.{FieldError}
 use Rattle.mt_tsv.specs.declared.fault.FieldError.TheVariants as field
-use Rattle.mt_tsv.specs.Steps.{◌>>=◌, unless_bad, onto}
+use Rattle.mt_types.specs.Steps.{◌>>=◌, onto}
+use Rattle.mt_tsv.specs.Results.{unless_bad}
 use Rattle.mt_tsv.specs.Cells.{cells_of, room_after}
 use Rattle.mt_tsv.specs.Fields.{field_of}
 

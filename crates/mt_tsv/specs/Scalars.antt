@@ -11,7 +11,8 @@ use Rattle.mt_tsv.specs.declared.ascii.TheConstants.{MINUS}
 use Rattle.mt_types.specs.declared.limits.TheConstants.{MAX_TEXT}
 use Rattle.mt_tsv.specs.declared.fault.RowWhy.{RowWhy}
 use Rattle.mt_tsv.specs.declared.fault.RowWhy.TheVariants.{Number, Range, Date, List as BadList}
-use Rattle.mt_tsv.specs.Steps.{◌>>=◌, unless_bad}
+use Rattle.mt_types.specs.Steps.{◌>>=◌}
+use Rattle.mt_tsv.specs.Results.{unless_bad}
 use Rattle.mt_tsv.specs.Dates.{date_of}
 use Rattle.mt_tsv.specs.Texts.{bounded_text, padded_text}
 

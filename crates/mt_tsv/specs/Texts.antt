@@ -3,7 +3,8 @@ use Rattle.std.specs.Prelude.{ℕ, ◌-◌, List, [], ◌∷◌, ◌++◌, lengt
 use Rattle.mt_tsv.specs.declared.ascii.TheConstants.{BACKSLASH}
 use Rattle.mt_tsv.specs.declared.fault.RowWhy.{RowWhy}
 use Rattle.mt_tsv.specs.declared.fault.RowWhy.TheVariants.{TooLong, Escape}
-use Rattle.mt_tsv.specs.Steps.{◌>>=◌, unless_bad, onto}
+use Rattle.mt_types.specs.Steps.{◌>>=◌, onto}
+use Rattle.mt_tsv.specs.Results.{unless_bad}
 
 -- the byte that a backslash and b, f, r, n, t, 0, ' or \ stand for
 abbrev pub escaped_byte : ℕ → Option ℕ

@@ -1,7 +1,7 @@
 //! Arrays.
 
 ghost use Rattle.std.specs.Prelude.{◌≡◌};
-ghost use Rattle.mt_tsv.specs.Steps.{Gives};
+ghost use Rattle.mt_tsv.specs.Results.{Gives};
 ghost use Rattle.mt_tsv.specs.Arrays.{array_of, element_of};
 
 use crate::fault::{FieldError, RowWhy};

@@ -1,7 +1,7 @@
 //! Fields of a line.
 
 ghost use Rattle.std.specs.Prelude.{◌≡◌};
-ghost use Rattle.mt_tsv.specs.Steps.{Gives};
+ghost use Rattle.mt_tsv.specs.Results.{Gives};
 ghost use Rattle.mt_tsv.specs.Fields.{is_null, field_of};
 
 use crate::array::read_array;

@@ -3,7 +3,7 @@
 ghost use Rattle.std.specs.Prelude.{◌≡◌, ◌∷◌, ◌<◌, Ok, Some, length, IfSome, MatchResult};
 ghost use Rattle.std.specs.Option.{option_copied};
 ghost use Rattle.std.specs.List.{list_all};
-ghost use Rattle.mt_tsv.specs.Steps.{Fails};
+ghost use Rattle.mt_tsv.specs.Results.{Fails};
 ghost use Rattle.mt_tsv.specs.Arrays.{elements_after, middle, is_bracketed, is_text_element};
 ghost use Rattle.mt_tsv.specs.Arrays.{have_quotes, level_of};
 

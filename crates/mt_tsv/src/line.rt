@@ -3,7 +3,7 @@
 ghost use Rattle.std.specs.Prelude.{◌≡◌, ◌==◌, length, if◌then◌else◌};
 ghost use Rattle.mt_tsv.specs.declared.fault.RowWhy.TheVariants.{Columns};
 ghost use Rattle.mt_tsv.specs.declared.fault.FieldError.TheVariants as field;
-ghost use Rattle.mt_tsv.specs.Steps.{Gives};
+ghost use Rattle.mt_tsv.specs.Results.{Gives};
 ghost use Rattle.mt_tsv.specs.Reading.{fields, row_of};
 
 use crate::ascii::TAB;

@@ -3,7 +3,7 @@
 ghost use Rattle.std.specs.Prelude.{◌≡◌, ◌≢◌, ◌≤◌, [], length, All, IfOk};
 ghost use Rattle.mt_table.specs.Rows.{RowFits, cell_count};
 ghost use Rattle.mt_table.specs.declared.limits.TheConstants.{MAX_ROWS, MAX_CELLS};
-ghost use Rattle.mt_tsv.specs.Steps.{GivesRows};
+ghost use Rattle.mt_tsv.specs.Results.{GivesRows};
 ghost use Rattle.mt_tsv.specs.Reading.{error_at, rows_reading};
 
 use crate::ascii::LINE_END;

@@ -1,7 +1,7 @@
 //! Values that are no NULL and no array.
 
 ghost use Rattle.std.specs.Prelude.{◌≡◌};
-ghost use Rattle.mt_tsv.specs.Steps.{Gives};
+ghost use Rattle.mt_tsv.specs.Results.{Gives};
 ghost use Rattle.mt_tsv.specs.Scalars.{number_value, scalar_of};
 
 use crate::date::read_date;

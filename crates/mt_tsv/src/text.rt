@@ -1,7 +1,7 @@
 //! Texts with escapes.
 
 ghost use Rattle.std.specs.Prelude.{◌≡◌, ◌++◌, ◌-◌, ◌≤◌, length, replicate, IfOk};
-ghost use Rattle.mt_tsv.specs.Steps.{Gives};
+ghost use Rattle.mt_tsv.specs.Results.{Gives};
 ghost use Rattle.mt_tsv.specs.Texts.{escaped_byte, text_of, bounded_text, padded_text};
 
 use crate::ascii::BACKSLASH;

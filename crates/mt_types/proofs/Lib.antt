@@ -8,3 +8,4 @@ pub mod SizeLemmas
 pub mod KindLemmas
 pub mod NameLemmas
 pub mod ReadingLemmas
+pub mod StepLemmas

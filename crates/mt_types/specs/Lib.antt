@@ -11,3 +11,4 @@ pub mod Parts
 pub mod Ties
 pub mod Ordered
 pub mod Hashed
+pub mod Steps

@@ -1,7 +1,7 @@
 use Rattle.std.proofs.Common.{ap, ◌∙◌, map, length}
 use Rattle.mt_shelf.specs.declared.fault.Why.TheVariants.{Columns}
 use Rattle.mt_defs.specs.Metadata.{column_line, columns_name}
-use Rattle.mt_meta.specs.Steps.{ok_or}
+use Rattle.mt_types.specs.Steps.{ok_or}
 use Rattle.mt_meta.specs.Results.{in_file}
 use Rattle.mt_meta.proofs.ColumnsLemmas.{fault_gives, reading_syntax, reading_is, reading_found, other_count}
 use Rattle.mt_meta.proofs.columns.read_columns.Goals as goal

@@ -10,8 +10,8 @@ use Rattle.mt_meta.proofs.expression.append_value.Goals as goal
 pub cell-requires : goal.cell-requires
 cell-requires c = has_cell c.args.columns.now c.args.row.now c.in-Plain.i c.requires.fits (subst (IsExpression c.args.columns.now) c.in-Plain.is c.requires.expression).0
 
-pub append_item-requires-clause-fits : goal.append_item-requires-clause-fits
-append_item-requires-clause-fits c =
+pub put_item-requires-clause-fits : goal.put_item-requires-clause-fits
+put_item-requires-clause-fits c =
     let column = c.index-columns-i.result in
     let known = (subst (IsExpression c.args.columns.now) c.in-Plain.is c.requires.expression).0 in
     subst (λ v. IsTrue (fits_of (get_or c.args.columns.now c.in-Plain.i column).ty v)) (sym c.cell.ensures) (cell_fits c.args.columns.now c.args.row.now c.in-Plain.i column c.requires.fits known)

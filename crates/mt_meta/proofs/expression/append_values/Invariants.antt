@@ -4,4 +4,4 @@ use Rattle.mt_defs.specs.Partition.{expression_bytes}
 use Rattle.mt_meta.proofs.expression.append_values.Given as goal
 
 abbrev pub invariant-loop-expression : goal.invariant-loop-expression
-invariant-loop-expression l = l.out.items ≡ l.initial.out.items ++ flat_map (expression_bytes l.columns l.row) (take l.expression-index l.partition)
+invariant-loop-expression l = l.out ≡ l.initial.out ++ flat_map (expression_bytes l.columns l.row) (take l.expression-index l.partition)

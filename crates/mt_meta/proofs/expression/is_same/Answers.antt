@@ -1,7 +1,6 @@
-use Rattle.std.proofs.Common.{ap, sym, ◌∙◌, subst}
+use Rattle.std.proofs.Common.{ap, ◌∙◌}
 use Rattle.mt_types.specs.Order.{value_cmp}
 use Rattle.mt_defs.specs.Rows.{cell}
-use Rattle.mt_meta.specs.PartitionKeys.{HaveSameValue}
 use Rattle.mt_meta.proofs.PartitionLemmas.{tie_is}
 use Rattle.mt_meta.proofs.expression.is_same.Goals as goal
 

@@ -1,5 +1,4 @@
-use Rattle.std.proofs.Common.{◌≡◌, pos, ap, sym, ◌∙◌, subst}
-use Rattle.std.specs.Prelude.{IsTrue}
+use Rattle.std.proofs.Common.{pos, ap, sym, ◌∙◌}
 use Rattle.mt_defs.specs.Partition.{month_of}
 use Rattle.mt_meta.proofs.Casts.{cast_day, day_of}
 use Rattle.mt_meta.proofs.ItemFacts.{day_is}

@@ -1,4 +1,4 @@
-use Rattle.std.proofs.Common.{pos, ap, ◌∙◌, arith, refl}
+use Rattle.std.proofs.Common.{pos, ap, ◌∙◌, arith}
 use Rattle.std.proofs.lemmas.Int.{ints}
 use Rattle.jiff_core.proofs.DateLemmas.{civil}
 use Rattle.mt_meta.proofs.MonthLemmas.{month_is, year_from}
