@@ -1,7 +1,7 @@
-//! The small files of a part: columns.txt, count.txt and primary.idx.
+//! The small files of a part: columns.txt, count.txt, primary.idx and the files of its partition.
 //!
-//! They are written exactly (`columns_text`, `count_text`, `primary_bytes`), and any bytes are read
-//! (`read_columns`, `read_count`, `read_keys`): what they say, or the first thing that is wrong.
+//! They are written exactly (`columns_text`, `count_text`, `primary_bytes`, `partition_files`), and any bytes
+//! are read (`read_columns`, `read_count`, `read_keys`): what they say, or the first thing that is wrong.
 #![tactic(auto)]
 
 mod ascii;
