@@ -11,3 +11,10 @@ mod LineLemmas
 mod ListingLemmas
 mod SplitLemmas
 mod CountLemmas
+mod MonthLemmas
+mod Casts
+mod BestLemmas
+mod ItemFacts
+mod PartitionLemmas
+mod PartitionLaw
+mod KeyLaw

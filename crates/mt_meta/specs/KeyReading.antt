@@ -1,6 +1,6 @@
 -- primary.idx, read: docs/FORMAT.md, "Primary index".
 pub use Rattle.mt_item.specs.Results.{IsFirst}
-use Rattle.std.specs.Prelude.{◌≡◌, ◌≢◌, ℕ, ◌<◌, Bool, true, false, ◌&&◌, IfSome, List, [], ◌∷◌, ◌++◌, length, map, take, Option, Some, None, option_map, Result, Ok, Err, ◌⊎◌}
+use Rattle.std.specs.Prelude.{◌≡◌, ◌≢◌, ℕ, ◌<◌, Bool, true, false, ◌&&◌, List, [], ◌∷◌, ◌++◌, length, map, take, Option, Some, None, option_map, Result, Ok, Err, ◌⊎◌}
 use Rattle.std.specs.List.{list_all, flat_map}
 use denote.Ref.{Bor}
 use Rattle.mt_types.specs.declared.ty.Ty.{Ty}

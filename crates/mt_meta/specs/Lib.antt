@@ -4,3 +4,6 @@ pub mod ColumnsReading
 pub mod Results
 pub mod Keys
 pub mod KeyReading
+pub mod Minmax
+pub mod PartitionKeys
+pub mod PartitionReading
