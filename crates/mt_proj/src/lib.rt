@@ -12,8 +12,6 @@ mod projection;
 mod run;
 mod sorting;
 mod state;
-#[cfg(test)]
-mod tests;
 
 pub use law::written_rows_stand;
 pub use projection::{project, stands_for};
