@@ -10,6 +10,6 @@ mod stream;
 #[cfg(test)]
 mod tests;
 
-pub use encoding::encode;
+pub use encoding::{encode, encode_runs};
 pub use law::written_streams_encode_their_values;
 pub use stream::{Stream, streams_of};
