@@ -15,7 +15,7 @@ mod stream;
 mod streams;
 
 pub use decoding::{decode, decode_front};
-pub use encoding::encode;
+pub use encoding::{encode, encode_runs};
 pub use fault::CodecError;
 pub use law::{
     first_values_are_unique, serializations_differ_only_under_null, written_streams_are_decoded,
