@@ -5,22 +5,19 @@
 
 mod column;
 mod definition;
-mod form;
 mod limits;
-mod number;
-mod numbers;
 mod partition;
 mod projection;
 mod settings;
 mod skip;
 mod why;
-mod word;
 
 pub use column::Column;
 pub use definition::{PartDef, Table};
 pub use limits::{
-    DEFAULT_GRANULE_BYTES, DEFAULT_GRANULE_ROWS, DEFAULT_WIDE_ROWS, MAX_CELLS, MAX_COLUMNS,
-    MAX_GRANULE_ROWS, MAX_KEY, MAX_NAME, MAX_PARTITION, MAX_PROJECTIONS, MAX_ROWS, MAX_SKIPS,
+    DEFAULT_GRANULE_BYTES, DEFAULT_GRANULE_ROWS, DEFAULT_WIDE_BYTES, DEFAULT_WIDE_ROWS, MAX_CELLS,
+    MAX_COLUMNS, MAX_GRANULARITY, MAX_GRANULE_BYTES, MAX_GRANULE_ROWS, MAX_KEY, MAX_NAME,
+    MAX_PARTITION, MAX_PROJECTIONS, MAX_ROWS, MAX_SET_ROWS, MAX_SKIPS,
 };
 pub use partition::PartExpr;
 pub use projection::{Aggregate, Projection};
