@@ -6,8 +6,10 @@
 mod column;
 mod definition;
 mod limits;
+mod names;
 mod partition;
 mod projection;
+mod sentence;
 mod settings;
 mod skip;
 mod why;
