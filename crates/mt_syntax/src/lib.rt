@@ -1,0 +1,18 @@
+//! The sentence of a table text: what is written in it, before any rule on its meaning.
+//!
+//! `read_table_text` gives the sentence that a text is by the grammar of docs/LANGUAGE.md, "Table text".
+#![tactic(auto)]
+
+mod clause;
+mod error;
+mod limits;
+mod reading;
+mod tree;
+
+pub use error::SyntaxError;
+pub use limits::MAX_TYPE_DEPTH;
+pub use reading::read_table_text;
+pub use tree::{
+    CodecText, Element, IndexKind, PartitionText, Selected, Selection, SettingText, SettingValue,
+    TableText, TypeArg, TypeText,
+};

