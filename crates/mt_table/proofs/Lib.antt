@@ -1,2 +1,4 @@
 pub mod SetLemmas
 pub mod SentenceLemmas
+pub mod TypeTextLemmas
+pub mod ColumnLemmas

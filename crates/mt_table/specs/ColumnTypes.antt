@@ -1,21 +1,24 @@
 -- The types of columns, as a table text has them and as keys want them: docs/LANGUAGE.md, "Table text".
-use Rattle.std.specs.Prelude.{ℕ, Bool, true, false, List, Option, Some, None, slice_get}
+use Rattle.std.specs.Prelude.{ℕ, Bool, true, false, not, ◌&&◌, List, Option, Some, None, slice_get}
 use Rattle.std.specs.List.{find}
 use Rattle.std.specs.Str.{bytes_eq}
 use Rattle.mt_types.specs.declared.ty.Ty.{Ty, out-Ty}
 use Rattle.mt_types.specs.declared.ty.Ty.TheOpen.{Ty-F}
-use Rattle.mt_types.specs.Profile.{Kind, Stored, Unknown, kind_of}
+use Rattle.mt_types.specs.Profile.{is_profile}
 use Rattle.mt_table.specs.declared.column.Column.{Column}
 
--- a kind that a column may have: all but a state's
-abbrev pub is_column_kind : Kind → Bool
-is_column_kind Stored = false
-is_column_kind Unknown = false
-is_column_kind _ = true
+-- a state of an aggregate
+abbrev pub is_state_at : Ty-F Ty → Bool
+is_state_at (Ty-F.State agg inner) = true
+is_state_at Ty-F.CountState = true
+is_state_at _ = false
+
+abbrev pub is_state_type : Ty → Bool
+is_state_type ty = is_state_at (out-Ty ty)
 
 -- a type of the profile that is no state
 abbrev pub is_column_type : Ty → Bool
-is_column_type ty = is_column_kind (kind_of ty)
+is_column_type ty = is_profile ty && not (is_state_type ty)
 
 -- an integer
 abbrev pub is_integer_at : Ty-F Ty → Bool

@@ -1,6 +1,6 @@
 -- The rules that each table keeps, over its fields: docs/LANGUAGE.md, "Table text".
-use Rattle.std.specs.Prelude.{ℕ, Bool, true, false, ◌&&◌, ◌^◌, nat_eq, nat_le, nat_lt, List, [], ◌∷◌, length, map, filter, Option, Some, None}
-use Rattle.std.specs.List.{filter_map, list_all, list_any}
+use Rattle.std.specs.Prelude.{ℕ, Bool, true, false, ◌&&◌, ◌^◌, nat_eq, nat_le, nat_lt, List, [], ◌∷◌, length, map, Option, Some, None}
+use Rattle.std.specs.List.{count_by, filter_map, list_all, list_any}
 use Rattle.mt_types.specs.declared.ty.Agg.{Agg}
 use Rattle.mt_types.specs.declared.ty.Agg.TheVariants.{Sum, Min, Max}
 use Rattle.mt_table.specs.declared.column.Column.{Column}
@@ -17,7 +17,8 @@ use Rattle.mt_table.specs.declared.skip.SkipKind.{SkipKind}
 use Rattle.mt_table.specs.declared.skip.SkipKind.TheVariants as kept
 use Rattle.mt_table.specs.ColumnTypes.{is_column_type, is_date_type, is_integer_type, is_key_type, is_number_type, place_has}
 use Rattle.mt_table.specs.Fields.{Fields}
-use Rattle.mt_table.specs.Names.{are_apart, is_name, names_differ, places_differ}
+use Rattle.mt_tokens.specs.Words.{is_name}
+use Rattle.mt_table.specs.Names.{are_apart, names_differ, places_differ}
 
 -- ---- columns
 
@@ -132,7 +133,7 @@ is_count _ = false
 -- an aggregate stands once
 abbrev pub aggregates_differ : List Aggregate → Bool
 aggregates_differ aggregates =
-    nat_le (length (filter is_count aggregates)) 1
+    nat_le (count_by is_count aggregates) 1
     && (places_differ (filter_map sum_place aggregates)
     && (places_differ (filter_map min_place aggregates) && places_differ (filter_map max_place aggregates)))
 

@@ -1,25 +1,7 @@
 -- Names and lists of names: docs/LANGUAGE.md, "Table text".
-use Rattle.std.specs.Prelude.{ℕ, Bool, true, false, not, ◌&&◌, ◌||◌, ◌==◌, nat_le, nat_eq, List, [], ◌∷◌, ◌++◌, length, codes}
+use Rattle.std.specs.Prelude.{ℕ, Bool, true, false, not, ◌&&◌, nat_eq, List, [], ◌∷◌, ◌++◌, codes}
 use Rattle.std.specs.List.{list_all, list_any}
 use Rattle.std.specs.Str.{bytes_eq}
-use Rattle.mt_table.specs.declared.limits.TheConstants.{MAX_NAME}
-
--- a letter or _
-abbrev pub is_letter : ℕ → Bool
-is_letter byte = (nat_le 97 byte && nat_le byte 122) || (nat_le 65 byte && nat_le byte 90) || (byte == 95)
-
--- a letter, _ or a digit
-abbrev pub is_word_byte : ℕ → Bool
-is_word_byte byte = is_letter byte || (nat_le 48 byte && nat_le byte 57)
-
--- a letter or _ first, then letters, digits and _
-abbrev pub is_word : List ℕ → Bool
-is_word [] = false
-is_word (byte ∷ bytes) = is_letter byte && list_all is_word_byte bytes
-
--- a word of at most 64 bytes
-abbrev pub is_name : List ℕ → Bool
-is_name bytes = is_word bytes && nat_le (length bytes) MAX_NAME
 
 -- no element stands again later
 abbrev pub are_different : {A : Type 0} → (A → A → Bool) → List A → Bool

@@ -1,6 +1,6 @@
 -- The projections of a sentence, and the two forms that they may have: docs/LANGUAGE.md, "Table text".
-use Rattle.std.specs.Prelude.{ℕ, Bool, true, false, not, ◌&&◌, nat_le, List, [], ◌∷◌, length, map, filter, Option, Some, None}
-use Rattle.std.specs.List.{filter_map, list_all, list_any, range_with_len}
+use Rattle.std.specs.Prelude.{ℕ, Bool, true, false, not, ◌&&◌, nat_le, List, [], ◌∷◌, length, map, Option, Some, None}
+use Rattle.std.specs.List.{count_by, filter_map, list_all, list_any, range_with_len}
 use Rattle.mt_types.specs.declared.ty.Agg.{Agg}
 use Rattle.mt_types.specs.declared.ty.Agg.TheVariants.{Sum, Min, Max}
 use Rattle.mt_syntax.specs.declared.tree.Selection.{Selection}
@@ -53,19 +53,20 @@ is_over columns _ = true
 -- each aggregate stands once
 abbrev pub aggregates_differ : List Selection → Bool
 aggregates_differ items =
-    nat_le (length (filter is_count items)) 1
+    nat_le (count_by is_count items) 1
     && (names_differ (filter_map sum_column items)
     && (names_differ (filter_map min_column items) && names_differ (filter_map max_column items)))
 
--- the plain items are the keys, each once
-abbrev pub selects_keys : List (List ℕ) → List (List ℕ) → Bool
-selects_keys plain keys = names_differ plain && (are_among keys plain && are_among plain keys)
+-- the two are the same names, each once, in any order
+abbrev pub are_same : List (List ℕ) → List (List ℕ) → Bool
+are_same names others =
+    (names_differ names && names_differ others) && (are_among others names && are_among names others)
 
 -- it has keys, selects them, and selects aggregates beside them
 abbrev pub is_grouped : List Column → List Selection → List (List ℕ) → Bool
 is_grouped columns items keys =
     is_key columns keys
-    && (selects_keys (filter_map item_column items) keys
+    && (are_same (filter_map item_column items) keys
     && (list_any is_aggregate items && (aggregates_differ items && list_all (is_over columns) items)))
 
 -- ---- both

@@ -37,11 +37,14 @@ use Rattle.mt_table.specs.SettingTexts.{settings_of}
 -- ---- TwoNames
 
 -- no two columns share a name, no two indexes and no two projections do, and no column is named `skp_idx_` and an index's name
+abbrev pub are_own : (columns indexes projections : List (List ℕ)) → Bool
+are_own columns indexes projections =
+    (names_differ columns && names_differ indexes)
+    && (names_differ projections && are_apart columns indexes)
+
+-- the names of a table's elements are such names
 abbrev pub has_own_names : List Element → Bool
-has_own_names elements =
-    names_differ (column_names elements)
-    && (names_differ (index_names elements)
-    && (names_differ (projection_names elements) && are_apart (column_names elements) (index_names elements)))
+has_own_names elements = are_own (column_names elements) (index_names elements) (projection_names elements)
 
 -- ---- NoSuchColumn
 
@@ -140,7 +143,7 @@ is_short names = nat_le (length names) MAX_KEY
 -- at most 16 aggregates
 abbrev pub has_few_aggregates : Selected → Bool
 has_few_aggregates All = true
-has_few_aggregates (Items items) = nat_le (length (filter is_aggregate items)) MAX_KEY
+has_few_aggregates (Items items) = nat_le (count_by is_aggregate items) MAX_KEY
 
 -- a projection has short keys and few aggregates
 abbrev pub is_small : Element → Bool

@@ -1,28 +1,28 @@
 -- The type of a column as it is written: docs/LANGUAGE.md, "Table text".
 use Rattle.std.specs.Prelude.{ℕ, List, [], ◌∷◌, ◌++◌, codes, Option, Some, None, if◌then◌else◌}
 use Rattle.std.specs.Fmt.{decimal}
+use Rattle.std.specs.List.{flat_map}
 use Rattle.mt_types.specs.declared.ty.Ty.{Ty}
 use Rattle.mt_types.specs.NameReading.{type_named}
 use Rattle.mt_syntax.specs.declared.tree.TypeText.{TypeText}
+use Rattle.mt_syntax.specs.declared.tree.TypeArg.{TypeArg}
 use Rattle.mt_syntax.specs.declared.tree.TypeArg.TheOpen.{TypeArg-F, TypeText-F}
-use Rattle.mt_syntax.specs.declared.tree.TypeArg.TheFolds.{fold-TypeText}
-use Rattle.mt_table.specs.ColumnTypes.{is_column_type}
-
--- texts with a comma and a blank between them
-abbrev pub comma_separated : List (List ℕ) → List ℕ
-comma_separated [] = []
-comma_separated (text ∷ []) = text
-comma_separated (text ∷ next ∷ texts) = text ++ (codes ", " ++ comma_separated (next ∷ texts))
+use Rattle.mt_syntax.specs.declared.tree.TypeArg.TheFolds.{fold-TypeArg, fold-TypeText}
+use Rattle.mt_table.specs.ColumnTypes.{is_state_type}
 
 -- the argument, where the types inside it are given by their texts
 abbrev pub arg_step : TypeArg-F (List ℕ) (List ℕ) → List ℕ
 arg_step (TypeArg-F.Number n) = decimal n
 arg_step (TypeArg-F.Type text) = text
 
--- in parentheses, if there is something
+-- a text behind a comma and a blank
+abbrev pub behind_comma : List ℕ → List ℕ
+behind_comma text = codes ", " ++ text
+
+-- in parentheses, if there is something, with commas between
 abbrev pub in_parentheses : List (List ℕ) → List ℕ
 in_parentheses [] = []
-in_parentheses (text ∷ texts) = codes "(" ++ (comma_separated (text ∷ texts) ++ codes ")")
+in_parentheses (text ∷ texts) = codes "(" ++ (text ++ (flat_map behind_comma texts ++ codes ")"))
 
 -- a type, where its arguments are given by their texts
 abbrev pub text_step : TypeText-F (List ℕ) (List ℕ) → List ℕ
@@ -32,10 +32,14 @@ text_step text = text.word ++ in_parentheses text.args
 abbrev pub type_text : TypeText → List ℕ
 type_text = fold-TypeText (List ℕ) (List ℕ) arg_step text_step
 
--- a type that a column may have
+-- an argument as it is printed
+abbrev pub arg_text : TypeArg → List ℕ
+arg_text = fold-TypeArg (List ℕ) (List ℕ) arg_step text_step
+
+-- a type, unless it is a state's
 abbrev pub column_type_if : Option Ty → Option Ty
 column_type_if None = None
-column_type_if (Some ty) = if is_column_type ty then Some ty else None
+column_type_if (Some ty) = if is_state_type ty then None else Some ty
 
 -- the type that a text names, if it is one of a column
 abbrev pub column_type_of : TypeText → Option Ty

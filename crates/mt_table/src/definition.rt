@@ -43,4 +43,3 @@ pub struct PartDef {
     /// How many columns of the sort key are the primary key.
     pub primary: u32,
 }
-

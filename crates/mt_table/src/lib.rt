@@ -4,6 +4,7 @@
 #![tactic(auto)]
 
 mod column;
+mod columns;
 mod definition;
 mod limits;
 mod names;
@@ -12,14 +13,15 @@ mod projection;
 mod sentence;
 mod settings;
 mod skip;
+mod type_text;
 mod why;
 
 pub use column::Column;
 pub use definition::{PartDef, Table};
 pub use limits::{
     DEFAULT_GRANULE_BYTES, DEFAULT_GRANULE_ROWS, DEFAULT_WIDE_BYTES, DEFAULT_WIDE_ROWS, MAX_CELLS,
-    MAX_COLUMNS, MAX_GRANULARITY, MAX_GRANULE_BYTES, MAX_GRANULE_ROWS, MAX_KEY, MAX_NAME,
-    MAX_PARTITION, MAX_PROJECTIONS, MAX_ROWS, MAX_SET_ROWS, MAX_SKIPS,
+    MAX_COLUMNS, MAX_GRANULARITY, MAX_GRANULE_BYTES, MAX_GRANULE_ROWS, MAX_KEY, MAX_PARTITION,
+    MAX_PROJECTIONS, MAX_ROWS, MAX_SET_ROWS, MAX_SKIPS,
 };
 pub use partition::PartExpr;
 pub use projection::{Aggregate, Projection};

@@ -1,7 +1,5 @@
 //! Limits of table texts and of their rows, and the settings that stand where a text gives none.
 
-/// The most bytes of a name.
-pub const MAX_NAME: usize = 64;
 /// The most columns of a table.
 pub const MAX_COLUMNS: usize = 256;
 /// The most skip indexes of a table.

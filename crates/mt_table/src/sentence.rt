@@ -39,19 +39,22 @@ impl ElementNames {
             → AreOfElements self.new (before ++ element.now ∷ [])) }
     {
         match element {
-            Element::Column { name, .. } => self.columns.push(List::of_bytes(alloc, name.as_slice())?)?,
-            Element::Index { name, .. } => self.indexes.push(List::of_bytes(alloc, name.as_slice())?)?,
-            Element::Projection { name, .. } => self.projections.push(List::of_bytes(alloc, name.as_slice())?)?,
+            Element::Column { name, .. } => self
+                .columns
+                .push(List::of_bytes(alloc, name.as_slice())?)?,
+            Element::Index { name, .. } => self
+                .indexes
+                .push(List::of_bytes(alloc, name.as_slice())?)?,
+            Element::Projection { name, .. } => self
+                .projections
+                .push(List::of_bytes(alloc, name.as_slice())?)?,
         }
         Ok(())
     }
 }
 
 /// The names of a table's elements.
-pub(crate) fn element_names(
-    alloc: Global,
-    elements: &[Element],
-) -> Result<ElementNames, NoMemory>
+pub(crate) fn element_names(alloc: Global, elements: &[Element]) -> Result<ElementNames, NoMemory>
     ensures { IfOk result (λ names. AreOfElements names elements.now) }
 {
     let mut names = ElementNames::new(alloc);
@@ -88,7 +91,9 @@ impl PartitionNames {
     {
         match expression {
             PartitionText::Plain(name) => self.plain.push(List::of_bytes(alloc, name.as_slice())?)?,
-            PartitionText::Month(name) => self.months.push(List::of_bytes(alloc, name.as_slice())?)?,
+            PartitionText::Month(name) => self
+                .months
+                .push(List::of_bytes(alloc, name.as_slice())?)?,
         }
         Ok(())
     }
