@@ -3,14 +3,22 @@
 //! `Table::read` gives the table that a text defines, or the first rule that the text breaks.
 #![tactic(auto)]
 
+mod codecs;
 mod column;
 mod columns;
 mod definition;
+mod expressions;
+mod forms;
+mod indexes;
+mod keys;
 mod limits;
 mod names;
+mod own_names;
 mod partition;
+mod present;
 mod projection;
 mod sentence;
+mod setting_texts;
 mod settings;
 mod skip;
 mod type_text;

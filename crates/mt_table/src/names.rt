@@ -1,7 +1,7 @@
 //! Lists of different names, in which a name is found at once.
 
 ghost use Rattle.std.specs.Prelude.{◌≡◌, IfOk, MatchOption, false};
-ghost use Rattle.mt_table.specs.Names.{is_among, names_differ};
+ghost use Rattle.mt_table.specs.Names.{are_among, is_among, names_differ};
 ghost use Rattle.mt_table.specs.NameSets.{AreListed, listed};
 ghost use Rattle.mt_table.specs.Sentence.{place_in};
 
@@ -50,4 +50,20 @@ impl<'a> Names<'a> {
             None => self.set.len(),
         }
     }
+}
+
+impl<'a> Names<'a> {
+    /// Whether each of some names is one of them.
+    pub(crate) fn contains_all(&self, some: &[List<u8>]) -> bool
+        ensures { result ≡ are_among (listed self.now) some.now }
+    {
+        some.iter().all(|name| self.contains(name.as_slice()))
+    }
+}
+
+/// Whether no name stands twice.
+pub(crate) fn differ(alloc: Global, names: &[List<u8>]) -> Result<bool, NoMemory>
+    ensures { IfOk result (λ they_do. they_do ≡ names_differ names.now) }
+{
+    Ok(distinct(alloc, names)?.is_some())
 }
