@@ -38,6 +38,13 @@ fn count_of_counts(items: &[Selection]) -> usize
     items.iter().filter(|item| is_count(item)).count()
 }
 
+/// How many aggregates are selected.
+pub(crate) fn count_of_aggregates(items: &[Selection]) -> usize
+    ensures { result ≡ count_by sentence.is_aggregate items.now }
+{
+    items.iter().filter(|item| is_aggregate(item)).count()
+}
+
 /// Whether plain columns are selected, each once, among them those of the sort key.
 fn selects_key(alloc: Global, items: &[Selection], sort: &[List<u8>]) -> Result<bool, NoMemory>
     ensures { IfOk result (λ it_does. it_does ≡ defined.selects_key items.now sort.now) }

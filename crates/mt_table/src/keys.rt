@@ -59,8 +59,8 @@ fn begins(first: &[List<u8>], names: &[List<u8>]) -> bool
     if first.len() > names.len() {
         return false;
     }
-    for (name, other) in first.iter().zip(names.iter()) {
-        if name.as_slice() != other.as_slice() {
+    for (place, name) in first.iter().enumerate() {
+        if name.as_slice() != names[place].as_slice() {
             return false;
         }
     }

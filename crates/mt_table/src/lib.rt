@@ -6,6 +6,7 @@
 mod codecs;
 mod column;
 mod columns;
+mod counts;
 mod definition;
 mod expressions;
 mod forms;
@@ -15,6 +16,7 @@ mod limits;
 mod names;
 mod own_names;
 mod partition;
+mod places;
 mod present;
 mod projection;
 mod sentence;

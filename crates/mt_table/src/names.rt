@@ -1,6 +1,6 @@
 //! Lists of different names, in which a name is found at once.
 
-ghost use Rattle.std.specs.Prelude.{◌≡◌, IfOk, MatchOption, false};
+ghost use Rattle.std.specs.Prelude.{◌≡◌, length, IfOk, MatchOption, false};
 ghost use Rattle.mt_table.specs.Names.{are_among, is_among, names_differ};
 ghost use Rattle.mt_table.specs.NameSets.{AreListed, listed};
 ghost use Rattle.mt_table.specs.Sentence.{place_in};
@@ -39,6 +39,13 @@ impl<'a> Names<'a> {
         ensures { result ≡ is_among (listed self.now) name.now }
     {
         self.set.contains(name)
+    }
+
+    /// How many there are.
+    pub(crate) fn len(&self) -> usize
+        ensures { result ≡ length (listed self.now) }
+    {
+        self.set.len()
     }
 
     /// Where the name stands, or how many there are.
