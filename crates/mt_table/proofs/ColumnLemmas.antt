@@ -15,7 +15,7 @@ use Rattle.mt_syntax.specs.declared.tree.Element.TheVariants.{Column as Column',
 use Rattle.mt_syntax.specs.declared.tree.TypeText.{TypeText}
 use Rattle.mt_table.specs.ColumnTypes.{column_named}
 use Rattle.mt_table.specs.Kept.{names_of}
-use Rattle.mt_table.specs.Sentence.{columns_of, place_in, with_column}
+use Rattle.mt_table.specs.Sentence.{column_names, columns_of, place_in, with_column}
 use Rattle.mt_table.specs.TypeTexts.{column_type_of}
 use Rattle.mt_table.specs.declared.column.Column.{Column}
 
@@ -92,3 +92,18 @@ passed_over elements front new i element d h is other same read =
 pub got : {X : Type 0} (xs : List X) (i : ℕ) (r : Option (Bor X)) → IsGetResult xs i i r → option_copied r ≡ slice_get xs i
 got xs i None g = sym (slice_get_past xs i (ltb-false i (length xs) (sym g.0)))
 got xs i (Some x) g = ap Some g.1 ∙ sym (slice_get-get_or xs i x.now (ltb-true i (length xs) (sym g.0)))
+
+-- ---- their names
+
+-- the columns that were read have the names of the columns
+pub read_names : (elements : List Element) (columns : List Column) → Some columns ≡ columns_of elements → column_names elements ≡ names_of columns
+read_names [] columns read = let none : columns ≡ [] = cc in sym (ap names_of none)
+read_names (Column' name text codecs ∷ elements) columns read = by_type (column_type_of text) (columns_of elements) refl read
+  where
+    by_type : (ty : Option Ty) (rest : Option (List Column)) → columns_of elements ≡ rest → Some columns ≡ with_column name ty rest → (name ∷ column_names elements) ≡ names_of columns
+    by_type None rest is e = cc
+    by_type (Some ty) None is e = cc
+    by_type (Some ty) (Some others) is e =
+        let here : columns ≡ record { name = name; ty = ty } ∷ others = cc in ?
+read_names (Index name column kind granularity ∷ elements) columns read = read_names elements columns read
+read_names (Projection name items group order ∷ elements) columns read = read_names elements columns read

@@ -4,3 +4,6 @@ pub mod TypeTextLemmas
 pub mod ColumnLemmas
 pub mod KeyLemmas
 pub mod PlaceLemmas
+pub mod KeptLemmas
+pub mod JudgeLemmas
+pub mod KeepingLemmas

@@ -43,6 +43,12 @@ table_of_fields f = table_if f (keeps_rules f) refl
 unfoldable pub judged : TableText → Result Table TableWhy
 judged text = fields_judged text >>= table_of_fields
 
+-- a call's result is the table of these fields, or this rule is broken, out of memory aside
+abbrev pub GivesFields : Result Table TableError → Result Fields TableWhy → Type 0
+GivesFields (Ok table) judging = judging ≡ Ok (fields_of_table table)
+GivesFields (Err (error.Bad why)) judging = judging ≡ Err why
+GivesFields (Err error.NoMemory) judging = Unit {0}
+
 -- a call's result is what its text defines, out of memory aside
 abbrev pub GivesTable : Result Table TableError → Result Table TableWhy → Type 0
 GivesTable (Ok table) reading = reading ≡ Ok table

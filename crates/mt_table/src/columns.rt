@@ -36,15 +36,15 @@ pub(crate) fn read_columns(
 
 /// Columns of different names.
 #[derive(Drop)]
-pub(crate) struct Columns<'a> {
+pub(crate) struct Columns<'n, 'c> {
     /// Their names.
-    pub(crate) names: Names<'a>,
+    pub(crate) names: Names<'n>,
     /// The columns, in the order of the names.
-    pub(crate) columns: &'a [Column],
+    pub(crate) columns: &'c [Column],
     pub(crate) ghost same: { listed names ≡ names_of columns.now },
 }
 
-impl<'a> Columns<'a> {
+impl<'n, 'c> Columns<'n, 'c> {
     /// The column of a name.
     fn named(&self, name: &[u8]) -> Option<&Column>
         ensures { option_copied result ≡ column_named self.now.columns.now name.now }

@@ -11,7 +11,7 @@ use mt_syntax::PartitionText;
 use mt_types::NoMemory;
 use std::alloc::Global;
 
-impl<'a> Columns<'a> {
+impl<'n, 'c> Columns<'n, 'c> {
     /// Whether a column is of the types of a key, and toYYYYMM has a Date.
     fn is_expression(&self, expression: &PartitionText) -> bool
         ensures { result ≡ defined.is_expression self.now.columns.now expression.now }

@@ -106,7 +106,7 @@ fn aggregates_differ(
     differ(alloc, names.maxs.as_slice())
 }
 
-impl<'a> Columns<'a> {
+impl<'n, 'c> Columns<'n, 'c> {
     /// Whether an aggregate may be over a column.
     fn takes(&self, agg: Agg, name: &[u8]) -> bool
         ensures { result ≡ defined.takes agg self.now.columns.now name.now }

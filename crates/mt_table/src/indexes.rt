@@ -17,7 +17,7 @@ fn is_kind(kind: IndexKind) -> bool
     }
 }
 
-impl<'a> Columns<'a> {
+impl<'n, 'c> Columns<'n, 'c> {
     /// Whether an element is as it should be, if it is an index.
     fn is_index(&self, element: &Element) -> bool
         ensures { result ≡ defined.is_index self.now.columns.now element.now }

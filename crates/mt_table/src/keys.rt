@@ -13,7 +13,7 @@ use mt_syntax::TableText;
 use mt_types::{List, NoMemory};
 use std::alloc::Global;
 
-impl<'a> Columns<'a> {
+impl<'n, 'c> Columns<'n, 'c> {
     /// Whether all are columns of types that a key may have.
     fn are_keys(&self, names: &[List<u8>]) -> bool
         ensures { result ≡ list_all (named_has is_key_type self.now.columns.now) names.now }

@@ -11,6 +11,7 @@ mod definition;
 mod expressions;
 mod forms;
 mod indexes;
+mod judge;
 mod keys;
 mod limits;
 mod names;
