@@ -109,10 +109,10 @@ fits_state agg t s = ap (λ f. f (State s)) (fits_at (StateOf agg t) (Ty-F.State
 pub fits_count : (s : AggState) → fits_of CountState (State s) ≡ is_count s
 fits_count s = ap (λ f. f (State s)) (fits_at CountState Ty-F.CountState outs-CountState) ∙ ap (state_at is_count) (outs-State s)
 
-item_state : (agg : Agg) (t : Ty) (s : AggState) → item_bytes (StateOf agg t) (State s) ≡ state_bytes (item_bytes t) s
+pub item_state : (agg : Agg) (t : Ty) (s : AggState) → item_bytes (StateOf agg t) (State s) ≡ state_bytes (item_bytes t) s
 item_state agg t s = ap (λ f. f (State s)) (item_at (StateOf agg t) (Ty-F.State agg t) (outs-StateOf agg t)) ∙ ap (state_of_level (item_bytes t)) (outs-State s)
 
-item_count : (s : AggState) → item_bytes CountState (State s) ≡ state_bytes (λ _. []) s
+pub item_count : (s : AggState) → item_bytes CountState (State s) ≡ state_bytes (λ _. []) s
 item_count s = ap (λ f. f (State s)) (item_at CountState Ty-F.CountState outs-CountState) ∙ ap (state_of_level (λ _. [])) (outs-State s)
 
 -- a count that fits is stored as its number
@@ -148,7 +148,7 @@ stored_kind Min _ is = cc
 stored_kind Max _ is = cc
 
 -- the types of a number's kind
-number_known : (t : Ty) → Known t → IsNumber (kind_of t) → is_number_type t ≡ true
+pub number_known : (t : Ty) → Known t → IsNumber (kind_of t) → is_number_type t ≡ true
 number_known t (unsigned w is k) number = ap is_number_type is ∙ ap is_number_at (outs-UInt w)
 number_known t (signed w is k) number = ap is_number_type is ∙ ap is_number_at (outs-Int w)
 number_known t (day is k) number = ap is_number_type is ∙ ap is_number_at outs-Date

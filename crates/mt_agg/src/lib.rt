@@ -13,3 +13,4 @@ mod tests;
 
 pub use folding::Folding;
 pub use law::merged_states_are_folds;
+pub use number::number_size;

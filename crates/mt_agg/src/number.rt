@@ -46,7 +46,7 @@ pub fn put_held(ty: &Ty, number: Option<i128>, out: &mut List<u8>) -> Result<(),
 }
 
 /// The bytes of an item of integers or dates.
-fn number_size(ty: &Ty) -> usize
+pub fn number_size(ty: &Ty) -> usize
     requires { IsTrue (defined.is_number_type ty.now) }
     ensures { result ≡ defined.number_size ty.now }
 {

@@ -24,6 +24,7 @@ use Rattle.mt_types.proofs.KindLemmas.{IsScalar, Known, unsigned, signed, day, t
 use Rattle.mt_defs.specs.Encoding.{is_null, is_null_at, null_byte, size_bytes}
 use Rattle.mt_defs.specs.WrittenStreams.{Encoder, encoder_step, streams_step, written_streams, or_default, arrays_of, elements_at}
 use Rattle.mt_agg.proofs.StateLemmas.{fits_at}
+use Rattle.mt_item.specs.ItemTypes.{has_items, has_items_at}
 use Rattle.mt_codec.specs.StreamOrder.{array_levels, levels_of_kind}
 use Rattle.mt_codec.specs.Runs.{null_item, size_item, written_item, fits_or_null}
 
@@ -135,20 +136,20 @@ single_at t level is single = record {
   no_null = λ v fits. single_not_null level single v (ap (λ f. f v) (sym (fits_at t level is)) ∙ fits);
 }
 
+level_single : (t : Ty) → ((u : Ty) → t ≡ Nullable u → ⊥) → ((u : Ty) → t ≡ Array u → ⊥) → (level : Ty-F Ty) → out-Ty t ≡ level → IsSingleLevel level
+level_single t not_nullable not_array (Ty-F.Nullable u) is = not_nullable u (same_level t (Nullable u) (is ∙ sym (outs-Nullable u)))
+level_single t not_nullable not_array (Ty-F.Array u) is = not_array u (same_level t (Array u) (is ∙ sym (outs-Array u)))
+level_single t not_nullable not_array (Ty-F.UInt w) is = tt
+level_single t not_nullable not_array (Ty-F.Int w) is = tt
+level_single t not_nullable not_array (Ty-F.FixedString n) is = tt
+level_single t not_nullable not_array Ty-F.Str is = tt
+level_single t not_nullable not_array Ty-F.Date is = tt
+level_single t not_nullable not_array (Ty-F.State agg u) is = tt
+level_single t not_nullable not_array Ty-F.CountState is = tt
+
 -- a type that is neither Nullable nor an Array
 pub single_of : (t : Ty) → ((u : Ty) → t ≡ Nullable u → ⊥) → ((u : Ty) → t ≡ Array u → ⊥) → IsSingle t
-single_of t not_nullable not_array = single_at t (out-Ty t) refl (level_single (out-Ty t) refl)
-  where
-    level_single : (level : Ty-F Ty) → out-Ty t ≡ level → IsSingleLevel level
-    level_single (Ty-F.Nullable u) is = not_nullable u (same_level t (Nullable u) (is ∙ sym (outs-Nullable u)))
-    level_single (Ty-F.Array u) is = not_array u (same_level t (Array u) (is ∙ sym (outs-Array u)))
-    level_single (Ty-F.UInt w) is = tt
-    level_single (Ty-F.Int w) is = tt
-    level_single (Ty-F.FixedString n) is = tt
-    level_single Ty-F.Str is = tt
-    level_single Ty-F.Date is = tt
-    level_single (Ty-F.State agg u) is = tt
-    level_single Ty-F.CountState is = tt
+single_of t not_nullable not_array = single_at t (out-Ty t) refl (level_single t not_nullable not_array (out-Ty t) refl)
 
 -- a type that may stand in Nullable
 scalar_level : (t : Ty) → Known t → IsScalar (kind_of t) → IsSingleLevel (out-Ty t)
@@ -178,6 +179,37 @@ nullable_level t profile = scalar_level t (known t) (optional_scalar (kind_of t)
 
 pub nullable_single : (t : Ty) → is_profile (Nullable t) ≡ true → IsSingle t
 nullable_single t profile = single_at t (out-Ty t) refl (nullable_level t profile)
+
+-- a type with one substream has items
+level_items : (t : Ty) (level : Ty-F Ty) → is_profile t ≡ true → IsSingleLevel level → has_items_at t level ≡ true
+level_items t (Ty-F.Nullable u) profile single = absurd single
+level_items t (Ty-F.Array u) profile single = absurd single
+level_items t (Ty-F.UInt w) profile single = refl
+level_items t (Ty-F.Int w) profile single = refl
+level_items t (Ty-F.FixedString n) profile single = refl
+level_items t Ty-F.Str profile single = refl
+level_items t Ty-F.Date profile single = refl
+level_items t (Ty-F.State agg u) profile single = profile
+level_items t Ty-F.CountState profile single = refl
+
+pub single_items : (t : Ty) → is_profile t ≡ true → ((u : Ty) → t ≡ Nullable u → ⊥) → ((u : Ty) → t ≡ Array u → ⊥) → has_items t ≡ true
+single_items t profile not_nullable not_array = level_items t (out-Ty t) profile (level_single t not_nullable not_array (out-Ty t) refl)
+
+scalar_known : (k : Kind) → IsScalar k → is_known k ≡ true
+scalar_known Whole scalar = refl
+scalar_known Day scalar = refl
+scalar_known Bytes scalar = refl
+scalar_known Optional scalar = absurd scalar
+scalar_known (Nested depth) scalar = absurd scalar
+scalar_known Stored scalar = absurd scalar
+scalar_known Unknown scalar = absurd scalar
+
+-- what stands in a Nullable type of the profile has items, and is of the profile
+pub nullable_inside : (t : Ty) → is_profile (Nullable t) ≡ true → is_profile t ≡ true
+nullable_inside t profile = scalar_known (kind_of t) (optional_scalar (kind_of t) (ap is_known (sym (kind-Nullable t)) ∙ profile))
+
+pub nullable_items : (t : Ty) → is_profile (Nullable t) ≡ true → has_items t ≡ true
+nullable_items t profile = level_items t (out-Ty t) (nullable_inside t profile) (nullable_level t profile)
 
 -- the kinds of what stands in an array
 array_of_kind : (k : Kind) → is_known (array_kind k) ≡ true → (is_known k ≡ true) × (levels_of_kind (array_kind k) ≡ suc (levels_of_kind k))

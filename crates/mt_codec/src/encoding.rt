@@ -6,10 +6,11 @@ ghost use Rattle.mt_types.specs.declared.value.Value.{out-Value};
 ghost use Rattle.mt_types.specs.Defaults.{default_of};
 ghost use Rattle.mt_types.specs.Fits.{fits_of};
 ghost use Rattle.mt_types.specs.Profile.{is_profile};
+ghost use Rattle.mt_item.specs.ItemTypes.{has_items};
 ghost use Rattle.mt_defs.specs.WrittenStreams.{elements_at, or_default, written_streams};
 ghost use Rattle.mt_codec.specs.Runs.{fits_or_null, null_item, size_item, values_of, written_item};
 
-use crate::item::append_item;
+use mt_item::put_item;
 use mt_types::{List, NoMemory, Ty, Value};
 use std::alloc::Global;
 
@@ -128,7 +129,7 @@ fn append_nulls(values: &[Value], out: &mut List<u8>) -> Result<(), NoMemory>
 
 /// The items of values, the default's in the place of NULL.
 fn items_of(alloc: Global, ty: &Ty, runs: &[&[Value]]) -> Result<List<u8>, NoMemory>
-    requires profile { IsTrue (is_profile ty.now) }
+    requires items { IsTrue (has_items ty.now) }
     requires fit { IsTrue (list_all (fits_or_null ty.now) (values_of runs.now)) }
     ensures { IfOk result (λ bytes. bytes ≡ flat_map (written_item ty.now) (values_of runs.now)) }
 {
@@ -143,7 +144,7 @@ fn items_with(
     default: &Value,
     runs: &[&[Value]],
 ) -> Result<List<u8>, NoMemory>
-    requires profile { IsTrue (is_profile ty.now) }
+    requires items { IsTrue (has_items ty.now) }
     requires default { default.now ≡ default_of ty.now }
     requires fit { IsTrue (list_all (fits_or_null ty.now) (values_of runs.now)) }
     ensures { IfOk result (λ bytes. bytes ≡ flat_map (written_item ty.now) (values_of runs.now)) }
@@ -161,13 +162,13 @@ fn append_items(
     values: &[Value],
     out: &mut List<u8>,
 ) -> Result<(), NoMemory>
-    requires profile { IsTrue (is_profile ty.now) }
+    requires items { IsTrue (has_items ty.now) }
     requires default { default.now ≡ default_of ty.now }
     requires fit { IsTrue (list_all (fits_or_null ty.now) values.now) }
     ensures { OnOk result (out.new ≡ out.old ++ flat_map (written_item ty.now) values.now) }
 {
     for value in values {
-        append_item(ty, value_or(default, value), out)?;
+        put_item(ty, value_or(default, value), out)?;
     }
     Ok(())
 }

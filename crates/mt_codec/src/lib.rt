@@ -4,7 +4,6 @@
 #![tactic(auto)]
 
 mod encoding;
-mod item;
 mod law;
 mod stream;
 #[cfg(test)]
@@ -12,4 +11,5 @@ mod tests;
 
 pub use encoding::encode;
 pub use law::written_streams_encode_their_values;
+pub use mt_item::CodecWhy;
 pub use stream::{Stream, streams_of};

@@ -1,8 +1,5 @@
 mod DigitLemmas
-mod NumberLemmas
-mod ItemReading
 mod KeyReadingLemmas
-mod ItemLemmas
 mod KeyLemmas
 mod PlainLemmas
 mod ListedLemmas

@@ -1,4 +1,5 @@
 -- primary.idx, read: docs/FORMAT.md, "Primary index".
+pub use Rattle.mt_item.specs.Results.{IsFirst}
 use Rattle.std.specs.Prelude.{◌≡◌, ◌≢◌, ℕ, ◌<◌, Bool, true, false, ◌&&◌, IfSome, List, [], ◌∷◌, ◌++◌, length, map, take, Option, Some, None, option_map, Result, Ok, Err, ◌⊎◌}
 use Rattle.std.specs.List.{list_all, flat_map}
 use denote.Ref.{Bor}
@@ -45,11 +46,6 @@ pub record AreKeysOf (types : List Ty) (count : ℕ) (bytes : List ℕ) (keys : 
   pub items : bytes ≡ flat_map (key_items types) keys
 
 -- ---- what some bytes begin with
-
--- the one value that the bytes begin with, and what follows it; or nothing, where there is none
-pub record IsFirst {V : Type 0} (fits : V → Bool) (bytes_of : V → List ℕ) (bytes : List ℕ) (read : Option (V × List ℕ)) : Type 0 where
-  pub found : IfSome read (λ first. (fits first.0 ≡ true) × (bytes ≡ bytes_of first.0 ++ first.1))
-  pub only : (value : V) (rest : List ℕ) → fits value ≡ true → bytes ≡ bytes_of value ++ rest → read ≡ Some (value, rest)
 
 -- what was read, without its references
 abbrev pub read_of : {V : Type 0} → Option (V × Bor (List ℕ)) → Option (V × List ℕ)

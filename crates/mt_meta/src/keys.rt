@@ -1,15 +1,15 @@
 //! primary.idx, read as keys.
 
-ghost use Rattle.std.specs.Prelude.{◌≡◌, ◌≤◌, ◌+◌, IfOk, List as Seq, length};
+ghost use Rattle.std.specs.Prelude.{◌≡◌, ◌≤◌, ◌+◌, IfOk, IsTrue, List as Seq, length};
 ghost use Rattle.mt_defs.specs.Rows.{Row as Values};
-ghost use Rattle.mt_meta.specs.Keys.{AreKeys};
-ghost use Rattle.mt_meta.specs.KeyReading.{AreKeysOf, GivesAll, GivesKeys, IsFirstKey, ReturnsKeys, key_types, types_of};
+ghost use Rattle.mt_meta.specs.Keys.{AreKeys, is_scalar};
+ghost use Rattle.mt_meta.specs.KeyReading.{AreKeysOf, GivesAll, GivesKeys, IsFirstItem, IsFirstKey, ReturnsKeys, key_types, types_of};
 
 use crate::fault::at_fault;
-use crate::item_reading::read_item;
+use mt_item::{ItemError, read_item};
 use mt_shelf::{ReadError, Why};
 use mt_table::{Column, PartDef};
-use mt_types::{List, NoMemory, Row};
+use mt_types::{List, NoMemory, Row, Ty, Value};
 use std::alloc::Global;
 
 const INDEX_FILE: &[u8] = b"primary.idx";
@@ -75,11 +75,27 @@ fn read_key<'a>(
     let mut rest = bytes;
     for column_index in keys {
         let ty = &columns[*column_index as usize].ty;
-        let Some((value, after)) = read_item(alloc, ty, rest)? else {
+        let Some((value, after)) = first_item(alloc, ty, rest)? else {
             return Ok(None);
         };
         key.push(value)?;
         rest = after;
     }
     Ok(Some((key, rest)))
+}
+
+/// The value whose item some bytes begin with, and what follows it.
+fn first_item<'a>(
+    alloc: Global,
+    ty: &Ty,
+    bytes: &'a [u8],
+) -> Result<Option<(Value, &'a [u8])>, NoMemory>
+    requires { IsTrue (is_scalar ty.now) }
+    ensures { IfOk result (λ read. IsFirstItem ty.now bytes.now read) }
+{
+    match read_item(alloc, ty, bytes) {
+        Ok((value, rest)) => Ok(Some((value, rest))),
+        Err(ItemError::Bad(_)) => Ok(None),
+        Err(ItemError::NoMemory) => Err(NoMemory),
+    }
 }

@@ -8,7 +8,7 @@ ghost use Rattle.mt_types.specs.Fits.{fits_of};
 ghost use Rattle.mt_types.specs.Items.{item_bytes};
 ghost use Rattle.mt_meta.specs.Keys.{AreKeys, is_scalar};
 
-use crate::item::append_item;
+use mt_item::put_item;
 use mt_table::{Column, PartDef};
 use mt_types::{List, NoMemory, Row, Ty, Value};
 use std::alloc::Global;
@@ -33,7 +33,7 @@ pub fn primary_bytes(
     let columns = def.columns.as_slice();
     let (keys, _) = def.sort.as_slice().split_at(def.primary as usize);
     let values = granules.len().saturating_add(1).saturating_mul(keys.len());
-    let mut bytes = Vec::with_capacity(alloc, values.saturating_mul(VALUE_BYTES))?;
+    let mut bytes = List::with_capacity(alloc, values.saturating_mul(VALUE_BYTES))?;
     let mut rest = rows;
     for count in granules {
         let (granule, after) = rest.split_at(*count as usize);
@@ -43,7 +43,7 @@ pub fn primary_bytes(
     }
     let (_, last) = rows.split_at(rows.len().saturating_sub(1));
     append_keys(columns, keys, last, &mut bytes)?;
-    Ok(List::of(bytes))
+    Ok(bytes)
 }
 
 /// Appends the keys of some rows.
@@ -51,12 +51,12 @@ fn append_keys(
     columns: &[Column],
     keys: &[u32],
     rows: &[Row],
-    out: &mut Vec<u8>,
+    out: &mut List<u8>,
 ) -> Result<(), NoMemory>
     requires keys { AreKeys columns.now keys.now }
     requires fit { All (RowFits columns.now) rows.now }
-    ensures { OnOk result (out.new.items ≡
-        out.old.items ++ flat_map (key_bytes columns.now keys.now) rows.now) }
+    ensures { OnOk result (out.new ≡
+        out.old ++ flat_map (key_bytes columns.now keys.now) rows.now) }
 {
     for row in rows {
         append_key(columns, keys, row, out)?;
@@ -69,11 +69,11 @@ fn append_key(
     columns: &[Column],
     keys: &[u32],
     row: &Row,
-    out: &mut Vec<u8>,
+    out: &mut List<u8>,
 ) -> Result<(), NoMemory>
     requires keys { AreKeys columns.now keys.now }
     requires fits { RowFits columns.now row.now }
-    ensures { OnOk result (out.new.items ≡ out.old.items ++ key_bytes columns.now keys.now row.now) }
+    ensures { OnOk result (out.new ≡ out.old ++ key_bytes columns.now keys.now row.now) }
 {
     for key in keys {
         let column_index = *key as usize;
@@ -83,11 +83,11 @@ fn append_key(
 }
 
 /// Appends a row's value in a column, which a row that fits has.
-fn append_cell(ty: &Ty, column_index: usize, row: &Row, out: &mut Vec<u8>) -> Result<(), NoMemory>
+fn append_cell(ty: &Ty, column_index: usize, row: &Row, out: &mut List<u8>) -> Result<(), NoMemory>
     requires scalar { IsTrue (is_scalar ty.now) }
     requires fits { IsTrue (fits_of ty.now (cell row.now column_index)) }
-    ensures { OnOk result (out.new.items ≡ out.old.items ++ item_bytes ty.now (cell row.now column_index)) }
+    ensures { OnOk result (out.new ≡ out.old ++ item_bytes ty.now (cell row.now column_index)) }
 {
     let value = row.as_slice().get(column_index).unwrap_or(&Value::Null);
-    append_item(ty, value, out)
+    put_item(ty, value, out)
 }

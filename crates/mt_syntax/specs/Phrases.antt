@@ -8,7 +8,6 @@ infixl 50 ◌◃◌
 infixl 45 ◌◂◌
 infixr 40 ◌&◌
 infixr 30 ◌∣◌
-
 -- the tokens begin with what has this tree, and the rest follows it
 abbrev pub Phrase : Type 0 → Type 1
 Phrase A = (tokens : List Tok) → (tree : A) → (rest : List Tok) → Type 0
@@ -56,20 +55,29 @@ abbrev pub Kept : {A B : Type 0} → (make : A → Option B) → Phrase A → Ph
 Kept {A = A} make P tokens tree rest = (of : A) × (make of ≡ Some tree) × P tokens of rest
 
 -- a token for each test, in order
-abbrev pub Marks : List (Tok → Bool) → (tokens rest : List Tok) → Type 0
-Marks [] tokens rest = tokens ≡ rest
-Marks (test ∷ tests) [] rest = ⊥
-Marks (test ∷ tests) (token ∷ tokens) rest = (test token ≡ true) × Marks tests tokens rest
+abbrev pub OneEach : List (Tok → Bool) → (tokens rest : List Tok) → Type 0
+OneEach [] tokens rest = tokens ≡ rest
+OneEach (test ∷ tests) [] rest = ⊥
+OneEach (test ∷ tests) (token ∷ tokens) rest = (test token ≡ true) × OneEach tests tokens rest
 
 -- a token for each test, or none; then the phrase
 abbrev pub Perhaps : {A : Type 0} → List (Tok → Bool) → Phrase A → Phrase A
 Perhaps tests P tokens tree rest =
-    (middle : List Tok) × ((tokens ≡ middle) ⊎ Marks tests tokens middle) × P middle tree rest
+    (middle : List Tok) × ((tokens ≡ middle) ⊎ OneEach tests tokens middle) × P middle tree rest
 
--- the phrase, which begins with none of these tokens
+-- the first token passes
+abbrev pub first_is : (test : Tok → Bool) → List Tok → Bool
+first_is test [] = false
+first_is test (token ∷ tokens) = test token
+
+-- the second token passes
+abbrev pub second_is : (test : Tok → Bool) → List Tok → Bool
+second_is test [] = false
+second_is test (token ∷ tokens) = first_is test tokens
+
+-- the phrase, which doesn't begin with such a token
 abbrev pub NotWith : {A : Type 0} → (test : Tok → Bool) → Phrase A → Phrase A
-NotWith test P [] tree rest = ⊥
-NotWith test P (token ∷ tokens) tree rest = (test token ≡ false) × P (token ∷ tokens) tree rest
+NotWith test P tokens tree rest = (first_is test tokens ≡ false) × P tokens tree rest
 
 -- nothing
 abbrev pub Nothing : Phrase (Unit {0})

@@ -4,12 +4,24 @@
 #![tactic(auto)]
 
 mod clause;
+mod column;
+mod element;
 mod error;
+mod index;
+mod law;
 mod limits;
+mod names;
+mod partition;
+mod projection;
 mod reading;
+mod sentence;
+mod setting;
+mod token;
 mod tree;
+mod types;
 
 pub use error::SyntaxError;
+pub use law::a_text_is_one_sentence;
 pub use limits::MAX_TYPE_DEPTH;
 pub use reading::read_table_text;
 pub use tree::{

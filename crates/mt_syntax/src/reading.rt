@@ -6,7 +6,9 @@ ghost use Rattle.mt_syntax.specs.Grammar.{IsTableText};
 ghost use Rattle.mt_syntax.specs.Answers.{GivesSentence};
 
 use crate::error::SyntaxError;
+use crate::sentence::sentence;
 use crate::tree::TableText;
+use mt_tokens::{TokenError, read_tokens};
 use std::alloc::Global;
 
 /// The sentence that a text is (docs/LANGUAGE.md, "Table text"; ClickHouse: `ParserCreateTableQuery`).
@@ -18,7 +20,9 @@ pub fn read_table_text(alloc: Global, text: &[u8]) -> Result<TableText, SyntaxEr
     ensures only { (sentence : TableText) → IsTableText text.now sentence
         → GivesSentence result sentence }
 {
-    let _ = alloc;
-    let _ = text;
-    Err(SyntaxError::NoMemory)
+    match read_tokens(alloc, text) {
+        Ok(tokens) => sentence(alloc, tokens.as_slice()),
+        Err(TokenError::Bad) => Err(SyntaxError::Bad),
+        Err(TokenError::NoMemory) => Err(SyntaxError::NoMemory),
+    }
 }

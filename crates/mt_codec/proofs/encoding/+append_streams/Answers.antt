@@ -9,11 +9,11 @@ use Rattle.mt_types.proofs.Levels.{kind-Array}
 use Rattle.mt_defs.specs.WrittenStreams.{elements_at, written_streams}
 use Rattle.mt_codec.specs.StreamOrder.{array_levels}
 use Rattle.mt_codec.specs.Runs.{values_of, written_item, null_item, size_item}
-use Rattle.mt_codec.proofs.WrittenLemmas.{single_of, fit_or_null, nullable_fit, nullable_single, nullable_written, array_fit, array_written, written_items, one_more, two_more, more_after, array_inside}
+use Rattle.mt_codec.proofs.WrittenLemmas.{single_items, nullable_items, single_of, fit_or_null, nullable_fit, nullable_single, nullable_written, array_fit, array_written, written_items, one_more, two_more, more_after, array_inside}
 use Rattle.mt_codec.proofs.encoding.+append_streams.Goals as goal
 
 pub items_of-requires-in_default : goal.items_of-requires-in_default
-items_of-requires-in_default t c = record { profile = c.requires.profile; fit = fit_or_null c.args.ty.now (values_of c.args.runs.now) c.requires.fit }
+items_of-requires-in_default t c = record { items = single_items c.args.ty.now c.requires.profile c.in_default.not-Nullable c.in_default.not-Array; fit = fit_or_null c.args.ty.now (values_of c.args.runs.now) c.requires.fit }
 
 pub returns-in_ok-items_of-in-Nullable : goal.returns-in_ok-items_of-in-Nullable
 returns-in_ok-items_of-in-Nullable t c =

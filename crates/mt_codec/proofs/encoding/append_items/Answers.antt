@@ -8,8 +8,8 @@ use Rattle.mt_codec.proofs.RunLemmas.{all_of_one}
 use Rattle.mt_codec.proofs.WrittenLemmas.{default_fits_too}
 use Rattle.mt_codec.proofs.encoding.append_items.Goals as goal
 
-pub append_item-requires-clause-fits : goal.append_item-requires-clause-fits
-append_item-requires-clause-fits c =
+pub put_item-requires-clause-fits : goal.put_item-requires-clause-fits
+put_item-requires-clause-fits c =
     let ty = c.args.ty.now in
     let one = all_of_one (fits_or_null ty) c.args.values.now c.loop-value.value-index c.value-item.result c.loop-value-test.true c.requires.fit in
     let fits : fits_or_null ty c.value-item.result ≡ true = ap (fits_or_null ty) c.value-item.is ∙ one in

@@ -3,4 +3,4 @@ use Rattle.mt_defs.specs.PrimaryIndex.{key_bytes}
 use Rattle.mt_meta.proofs.primary.append_key.Given as goal
 
 abbrev pub invariant-loop-key : goal.invariant-loop-key
-invariant-loop-key l = l.out.items ≡ l.initial.out.items ++ key_bytes l.columns (take l.key-index l.keys) l.row
+invariant-loop-key l = l.out ≡ l.initial.out ++ key_bytes l.columns (take l.key-index l.keys) l.row

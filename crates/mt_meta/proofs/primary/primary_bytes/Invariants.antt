@@ -9,7 +9,7 @@ use Rattle.mt_meta.proofs.primary.primary_bytes.Given as goal
 abbrev pub invariant-loop-count : goal.invariant-loop-count
 invariant-loop-count l =
     record {
-      ahead : l.bytes.items ++ flat_map (key_bytes l.columns l.keys) (flat_map (take 1) (granule_rows (drop l.count-index l.granules) l.rest))
+      ahead : l.bytes ++ flat_map (key_bytes l.columns l.keys) (flat_map (take 1) (granule_rows (drop l.count-index l.granules) l.rest))
           ≡ flat_map (key_bytes l.columns l.keys) (flat_map (take 1) (granule_rows l.granules l.rows));
       cut : sum (drop l.count-index l.granules) ≡ length l.rest;
       fit : All (RowFits l.columns) l.rest;

@@ -1,0 +1,6 @@
+pub mod LengthLemmas
+pub mod TypeLemmas
+pub mod ExactLemmas
+pub mod NumberLemmas
+pub mod ItemLemmas
+pub mod ReadingLemmas

@@ -1,0 +1,3 @@
+pub mod ItemTypes
+pub mod ItemReading
+pub mod Results

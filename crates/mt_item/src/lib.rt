@@ -1,0 +1,20 @@
+//! The bytes of one value: items of integers, dates, texts and states.
+//!
+//! A value that fits is written (`put_item`), and any bytes are read (`read_item`): the one value whose
+//! item they begin with, or the first thing that is wrong.
+#![tactic(auto)]
+
+mod fault;
+mod law;
+mod number;
+mod reading;
+mod state;
+#[cfg(test)]
+mod tests;
+mod text;
+mod writing;
+
+pub use fault::{CodecWhy, ItemError};
+pub use law::{only_items_are_read, written_items_are_read};
+pub use reading::read_item;
+pub use writing::put_item;
