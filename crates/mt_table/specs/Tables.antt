@@ -1,11 +1,12 @@
 -- Tables: their fields, and the table of fields that keep the rules.
-use Rattle.std.specs.Prelude.{◌≡◌, ℕ, Bool, true, false, IsTrue, List, Result, Ok, Err}
+use Rattle.std.specs.Prelude.{◌≡◌, ◌⊎◌, ℕ, Bool, true, false, IsTrue, List, Result, Ok, Err}
 use Rattle.std.proofs.Common.{refl}
 use Rattle.mt_types.specs.Steps.{◌>>=◌}
 use Rattle.mt_syntax.specs.declared.tree.TableText.{TableText}
+use Rattle.mt_syntax.specs.Grammar.{IsTableText}
 use Rattle.mt_table.specs.declared.definition.Table.{Table}
 use Rattle.mt_table.specs.declared.why.TableWhy.{TableWhy}
-use Rattle.mt_table.specs.declared.why.TableWhy.TheVariants.{TooMany}
+use Rattle.mt_table.specs.declared.why.TableWhy.TheVariants.{Syntax, TooMany}
 use Rattle.mt_table.specs.declared.why.TableError.{TableError}
 use Rattle.mt_table.specs.declared.why.TableError.TheVariants as error
 use Rattle.mt_table.specs.Fields.{Fields, fields}
@@ -42,6 +43,12 @@ table_of_fields f = table_if f (keeps_rules f) refl
 -- the table of a sentence, or the first rule that the sentence breaks
 unfoldable pub judged : TableText → Result Table TableWhy
 judged text = fields_judged text >>= table_of_fields
+
+-- What a text defines: the table of its sentence, or the first rule that it breaks. Syntax is broken where it is no sentence.
+abbrev pub Defines : List ℕ → Result Table TableWhy → Type 0
+Defines text answer =
+    ((sentence : TableText) × IsTableText text sentence × (judged sentence ≡ answer))
+    ⊎ (((sentence : TableText) → IsTableText text sentence → ⊥) × (answer ≡ Err Syntax))
 
 -- a call's result is the table of these fields, or this rule is broken, out of memory aside
 abbrev pub GivesFields : Result Table TableError → Result Fields TableWhy → Type 0

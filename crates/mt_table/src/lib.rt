@@ -20,6 +20,7 @@ mod partition;
 mod places;
 mod present;
 mod projection;
+mod reading;
 mod sentence;
 mod setting_texts;
 mod settings;

@@ -7,7 +7,7 @@ use Rattle.mt_table.specs.Sentence.{column_names, columns_of}
 use Rattle.mt_table.specs.SentenceNames.{AreOfElements}
 use Rattle.mt_table.specs.SettingTexts.{settings_of}
 use Rattle.mt_table.specs.Tables.{GivesFields, fields_of_table}
-use Rattle.mt_table.proofs.JudgeLemmas.{begun, broken, from_codecs, from_counts, from_forms, from_indexes, from_keys, from_partition, from_present, from_settings, kept, no_setting, owned, set}
+use Rattle.mt_table.proofs.JudgeLemmas.{begun, broken, from_codecs, from_counts, from_forms, from_indexes, from_keys, from_partition, from_present, from_settings, kept, no_setting, no_types, owned, set, two_names}
 use Rattle.mt_table.specs.Kept.{names_of}
 use Rattle.mt_table.proofs.ColumnLemmas.{read_names}
 use Rattle.mt_table.proofs.KeepingLemmas.{rules_are_kept}
@@ -102,6 +102,17 @@ returns-then-not-are_uncompressed c =
     let forms = ap (λ columns. list_all (has_form columns) c.args.text.now.elements) (sym c.as_slice.ensures) ∙ ap (list_all (has_form c.as_slice.result.now)) (sym c.as_slice-elements.ensures) ∙ sym c.in_ok-has_forms.ensures ∙ c.if-not-branch-3.false in
     let after_forms = kept _ _ (from_codecs c.in-Some.list c.args.text.now) (fields_judged c.args.text.now) after_indexes forms in
     broken _ _ (from_settings c.in-Some.list c.args.text.now) (fields_judged c.args.text.now) after_forms (ap (list_all is_uncompressed) (sym c.as_slice-elements.ensures) ∙ sym c.are_uncompressed.ensures ∙ c.if-not-are_uncompressed.true)
+
+pub returns-in_default : goal.returns-in_default
+returns-in_default c =
+    no_types c.args.text.now (sym c.in_default.is ∙ c.in_ok-list.ensures ∙ ap columns_of c.as_slice-elements.ensures)
+
+pub returns-in_default-2 : goal.returns-in_default-2
+returns-in_default-2 c =
+    let are = subst (AreOfElements c.in_ok-names.names) c.as_slice-elements.ensures c.in_ok-names.ensures in
+    let read = sym c.in-Some.is ∙ c.in_ok-list.ensures ∙ ap columns_of c.as_slice-elements.ensures in
+    let none = subst (λ o. MatchOption o (are_own c.in_ok-names.names.columns c.in_ok-names.names.indexes c.in_ok-names.names.projections ≡ false) (λ names. (are_own c.in_ok-names.names.columns c.in_ok-names.names.indexes c.in_ok-names.names.projections ≡ true) × AreListed names c.in_ok-names.names.columns)) c.in_default-2.is c.in_ok-set.ensures in
+    two_names c.args.text.now c.in-Some.list read (owned c.in_ok-names.names c.args.text.now.elements false are none)
 
 pub invariant_of-columns : goal.invariant_of-columns
 invariant_of-columns c =
