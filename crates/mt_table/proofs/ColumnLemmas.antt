@@ -98,12 +98,12 @@ got xs i (Some x) g = ap Some g.1 ∙ sym (slice_get-get_or xs i x.now (ltb-true
 -- the columns that were read have the names of the columns
 pub read_names : (elements : List Element) (columns : List Column) → Some columns ≡ columns_of elements → column_names elements ≡ names_of columns
 read_names [] columns read = let none : columns ≡ [] = cc in sym (ap names_of none)
-read_names (Column' name text codecs ∷ elements) columns read = by_type (column_type_of text) (columns_of elements) refl read
+read_names (Column' name text codecs ∷ elements) columns read = by_type (column_type_of text) (columns_of elements) refl read (read_names elements)
   where
-    by_type : (ty : Option Ty) (rest : Option (List Column)) → columns_of elements ≡ rest → Some columns ≡ with_column name ty rest → (name ∷ column_names elements) ≡ names_of columns
-    by_type None rest is e = cc
-    by_type (Some ty) None is e = cc
-    by_type (Some ty) (Some others) is e =
-        let here : columns ≡ record { name = name; ty = ty } ∷ others = cc in ?
+    by_type : (ty : Option Ty) (rest : Option (List Column)) → columns_of elements ≡ rest → Some columns ≡ with_column name ty rest → ((others : List Column) → Some others ≡ columns_of elements → column_names elements ≡ names_of others) → (name ∷ column_names elements) ≡ names_of columns
+    by_type None rest is e later = cc
+    by_type (Some ty) None is e later = cc
+    by_type (Some ty) (Some others) is e later =
+        let here : columns ≡ record { name = name; ty = ty } ∷ others = cc in ap (λ list. name ∷ list) (later others (sym is)) ∙ sym (ap names_of here)
 read_names (Index name column kind granularity ∷ elements) columns read = read_names elements columns read
 read_names (Projection name items group order ∷ elements) columns read = read_names elements columns read

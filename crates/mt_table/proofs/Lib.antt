@@ -7,3 +7,7 @@ pub mod PlaceLemmas
 pub mod KeptLemmas
 pub mod JudgeLemmas
 pub mod KeepingLemmas
+pub mod PlacesDiffer
+pub mod ReadLemmas
+pub mod ColumnsKept
+pub mod PartitionKept
