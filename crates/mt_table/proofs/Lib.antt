@@ -11,3 +11,4 @@ pub mod PlacesDiffer
 pub mod ReadLemmas
 pub mod ColumnsKept
 pub mod PartitionKept
+pub mod ProjectionsKept
