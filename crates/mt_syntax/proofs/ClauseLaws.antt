@@ -1,11 +1,11 @@
 -- Clauses: what is read is one, and each is read.
-use Rattle.std.proofs.Common.{◌≡◌, ℕ, zero, suc, ◌+◌, ◌<◌, ◌≤◌, Bool, true, false, List, [], ◌∷◌, ◌++◌, length, Option, Some, None, refl, sym, ap, subst, ◌∙◌, ◌⊎◌, inl, inr, arith}
+use Rattle.std.proofs.Common.{◌≡◌, ℕ, zero, suc, ◌<◌, ◌≤◌, Bool, true, false, List, [], ◌∷◌, length, Option, Some, refl, sym, ap, subst, ◌∙◌, inl, inr, arith}
 use Rattle.std.specs.Prelude.{codes}
 use Rattle.mt_tokens.specs.declared.sign.Sign.{Sign}
-use Rattle.mt_tokens.specs.declared.sign.Sign.TheVariants.{Open, Close, Comma, Dot, Semicolon, Star, Equal}
-use Rattle.mt_tokens.specs.Tokens.{Tok, Word, Quoted, Text, Digits, OfSign}
+use Rattle.mt_tokens.specs.declared.sign.Sign.TheVariants.{Open, Close, Comma, Equal}
+use Rattle.mt_tokens.specs.Tokens.{Tok}
 use Rattle.mt_tokens.specs.Words.{is_keyword, is_word, is_sign, name_of}
-use Rattle.mt_syntax.specs.Phrases.{Phrase, One, ◌▹◌, ◌◃◌, ◌&◌, ◌∣◌, ◌◂◌, Maybe, Many, Made, Kept, OneEach, Perhaps, NotWith, Nothing, first_is, second_is}
+use Rattle.mt_syntax.specs.Phrases.{Phrase, ◌▹◌, ◌◃◌, ◌∣◌, Many, Made, first_is, second_is}
 use Rattle.std.specs.Prelude.{◌||◌, option_and_then}
 use Rattle.std.proofs.lemmas.Bool.{cases_Bool}
 use Rattle.mt_types.proofs.OptionLemmas.{then_is, some_is}
@@ -15,13 +15,13 @@ use Rattle.mt_syntax.specs.declared.clause.Clause.{Clause}
 use Rattle.mt_syntax.specs.declared.clause.Clause.TheVariants as clause
 use Rattle.mt_syntax.specs.declared.clause.Clauses.{Clauses}
 use Rattle.mt_syntax.specs.Grammar.{IsName, Chain, InParens, IsKey, IsExpression, IsExpressions, IsSetting, IsClause, IsClauses, IsEngine}
-use Rattle.mt_syntax.specs.Trees.{alone, setting_of, with_clause, with_clauses, no_clauses}
+use Rattle.mt_syntax.specs.Trees.{singleton, setting_of, with_clause, with_clauses, no_clauses}
 use Rattle.mt_syntax.specs.Terminals.{value_of}
-use Rattle.mt_syntax.specs.Readers.{Reader, after, made, chain, closed}
+use Rattle.mt_syntax.specs.Readers.{after, with_tree, chain}
 use Rattle.mt_syntax.specs.Reading.{expression_at, expressions_at, setting_at, is_clause_key, clause_at, more_clauses, clauses_at, key_at, engine_at}
-use Rattle.mt_syntax.proofs.PhraseLaws.{IsRead, Any, Not, narrowed, one_law, after_law, after_strict, both_law, then_law, made_law, either_law, either_if_law}
+use Rattle.mt_syntax.proofs.PhraseLaws.{IsRead, Any, Not, narrowed, one_law, after_law, after_strict, then_law, made_law, either_law, either_if_law}
 use Rattle.mt_syntax.proofs.ListLaws.{chain_law, closed_law, parens_law, perhaps_law}
-use Rattle.mt_syntax.proofs.TokenTests.{Apart, keys_apart, signs_apart, key_no_sign, word_no_sign, name_no_sign, one_begins, after_begins, after_is}
+use Rattle.mt_syntax.proofs.TokenTests.{Apart, keys_apart, key_no_sign, word_no_sign, name_no_sign, one_begins, after_begins, after_is}
 use Rattle.mt_syntax.proofs.ElementLaws.{name_law, word_law, name_is_over, key_law, close_no_comma, close_no_open, comma_no_open, NoOpen, NoMore}
 
 -- ---- partition keys
@@ -46,7 +46,7 @@ expressions_law : IsRead IsExpressions expressions_at NoOpen
 expressions_law =
     let expressions = chain_law NoMore expression_law (λ token rest e. comma_no_open token e) (λ rest s. s) in
     either_law (is_sign Open) (narrowed NoOpen (closed_law expressions (λ token rest e. (close_no_comma token e, close_no_open token e))) (λ rest s. tt))
-    (made_law alone expression_law) (λ tokens tree rest h s. expression_begins tokens h.0 rest h.2)
+    (made_law singleton expression_law) (λ tokens tree rest h s. expression_begins tokens h.0 rest h.2)
 
 -- ---- settings
 
@@ -82,16 +82,16 @@ IsOrderBody = is_keyword (codes "BY") ▹ Made clause.Order IsKey
 abbrev IsSettingsBody : Phrase Clause
 IsSettingsBody = Made clause.Settings (Chain IsSetting)
 
-partition_body : IsRead IsPartitionBody (after (is_keyword (codes "BY")) (made clause.Partition expressions_at)) NoMore
+partition_body : IsRead IsPartitionBody (after (is_keyword (codes "BY")) (with_tree clause.Partition expressions_at)) NoMore
 partition_body = after_law (is_keyword (codes "BY")) (made_law clause.Partition (narrowed NoMore expressions_law (λ rest s. s.1)))
 
-primary_body : IsRead IsPrimaryBody (after (is_keyword (codes "KEY")) (made clause.Primary key_at)) NoMore
+primary_body : IsRead IsPrimaryBody (after (is_keyword (codes "KEY")) (with_tree clause.Primary key_at)) NoMore
 primary_body = after_law (is_keyword (codes "KEY")) (made_law clause.Primary (narrowed NoMore key_law (λ rest s. tt)))
 
-order_body : IsRead IsOrderBody (after (is_keyword (codes "BY")) (made clause.Order key_at)) NoMore
+order_body : IsRead IsOrderBody (after (is_keyword (codes "BY")) (with_tree clause.Order key_at)) NoMore
 order_body = after_law (is_keyword (codes "BY")) (made_law clause.Order (narrowed NoMore key_law (λ rest s. tt)))
 
-settings_body : IsRead IsSettingsBody (made clause.Settings (chain setting_at)) NoMore
+settings_body : IsRead IsSettingsBody (with_tree clause.Settings (chain setting_at)) NoMore
 settings_body = made_law clause.Settings (narrowed NoMore settings_law (λ rest s. s.0))
 
 settings_begins : (test : Tok → Bool) → Apart settings_key test → (tokens : List Tok) (tree : Clause) (rest : List Tok) → (settings_key ▹ IsSettingsBody) tokens tree rest → Not test tokens
@@ -147,10 +147,10 @@ clause_begins (token ∷ tokens) tree rest (inr (inr (inl h))) = third_of (parti
 clause_begins (token ∷ tokens) tree rest (inr (inr (inr h))) = fourth_of (partition_key token) (primary_key token) (order_key token) (settings_key token) h.0
 
 clause_strict : (tokens : List Tok) (tree : Clause) (rest : List Tok) → IsClause tokens tree rest → length rest < length tokens
-clause_strict tokens tree rest (inl h) = after_strict partition_key IsPartitionBody (after (is_keyword (codes "BY")) (made clause.Partition expressions_at)) NoMore partition_body tokens tree rest h
-clause_strict tokens tree rest (inr (inl h)) = after_strict primary_key IsPrimaryBody (after (is_keyword (codes "KEY")) (made clause.Primary key_at)) NoMore primary_body tokens tree rest h
-clause_strict tokens tree rest (inr (inr (inl h))) = after_strict order_key IsOrderBody (after (is_keyword (codes "BY")) (made clause.Order key_at)) NoMore order_body tokens tree rest h
-clause_strict tokens tree rest (inr (inr (inr h))) = after_strict settings_key IsSettingsBody (made clause.Settings (chain setting_at)) NoMore settings_body tokens tree rest h
+clause_strict tokens tree rest (inl h) = after_strict partition_key IsPartitionBody (after (is_keyword (codes "BY")) (with_tree clause.Partition expressions_at)) NoMore partition_body tokens tree rest h
+clause_strict tokens tree rest (inr (inl h)) = after_strict primary_key IsPrimaryBody (after (is_keyword (codes "KEY")) (with_tree clause.Primary key_at)) NoMore primary_body tokens tree rest h
+clause_strict tokens tree rest (inr (inr (inl h))) = after_strict order_key IsOrderBody (after (is_keyword (codes "BY")) (with_tree clause.Order key_at)) NoMore order_body tokens tree rest h
+clause_strict tokens tree rest (inr (inr (inr h))) = after_strict settings_key IsSettingsBody (with_tree clause.Settings (chain setting_at)) NoMore settings_body tokens tree rest h
 
 -- ---- clauses
 
@@ -163,8 +163,8 @@ Together c tokens x = (trees : List Clause) × (with_clauses c trees ≡ Some x.
 
 none_more : (c : Clauses) (tokens : List Tok) (x : Clauses × List Tok) → (let o : Option (Clauses × List Tok) = Some (c, tokens) in o) ≡ Some x → Together c tokens x
 none_more c tokens x e =
-    let made : Clauses × List Tok = (c, tokens) in
-    subst (Together c tokens) (some_is made x e) ([], refl, refl)
+    let pair : Clauses × List Tok = (c, tokens) in
+    subst (Together c tokens) (some_is pair x e) ([], refl, refl)
 
 with_more : (c d all : Clauses) (tree : Clause) (trees : List Clause) → with_clause c tree ≡ Some d → with_clauses d trees ≡ Some all → with_clauses c (tree ∷ trees) ≡ Some all
 with_more c d all tree trees e f = rw e f

@@ -1,5 +1,5 @@
 -- Clauses one after the other, as a loop reads them.
-use Rattle.std.proofs.Common.{◌≡◌, ℕ, suc, ◌+◌, ◌-◌, ◌<◌, ◌≤◌, List, Bool, true, false, Option, Some, None, refl, sym, ap, ◌∙◌, arith}
+use Rattle.std.proofs.Common.{◌≡◌, ℕ, suc, ◌+◌, ◌-◌, ◌<◌, ◌≤◌, List, true, false, Option, Some, None, refl, sym, ◌∙◌, arith}
 use Rattle.mt_tokens.specs.Tokens.{Tok}
 use Rattle.mt_syntax.specs.declared.error.SyntaxError.{SyntaxError}
 use Rattle.mt_syntax.specs.declared.error.SyntaxError.TheVariants as error

@@ -1,11 +1,10 @@
 -- Names, types, columns and indexes: what is read is one, and each is read.
-use Rattle.std.proofs.Common.{◌≡◌, ℕ, zero, suc, ◌+◌, ◌<◌, ◌≤◌, Bool, true, false, List, [], ◌∷◌, ◌++◌, length, Option, Some, None, refl, sym, ap, subst, ◌∙◌, ◌⊎◌, inl, inr, arith}
+use Rattle.std.proofs.Common.{◌≡◌, ℕ, zero, suc, true, false, List, [], ◌∷◌, Option, None, refl, sym, subst}
 use Rattle.std.specs.Prelude.{codes}
-use Rattle.mt_tokens.specs.declared.sign.Sign.{Sign}
-use Rattle.mt_tokens.specs.declared.sign.Sign.TheVariants.{Open, Close, Comma, Dot, Semicolon, Star, Equal}
-use Rattle.mt_tokens.specs.Tokens.{Tok, Word, Quoted, Text, Digits, OfSign}
+use Rattle.mt_tokens.specs.declared.sign.Sign.TheVariants.{Open, Close, Comma}
+use Rattle.mt_tokens.specs.Tokens.{Tok}
 use Rattle.mt_tokens.specs.Words.{is_keyword, is_word, is_sign, name_of}
-use Rattle.mt_syntax.specs.Phrases.{Phrase, One, ◌▹◌, ◌◃◌, ◌&◌, ◌∣◌, Maybe, Many, Made, Kept, OneEach, Perhaps, NotWith, first_is, second_is}
+use Rattle.mt_syntax.specs.Phrases.{Phrase, One, ◌▹◌, ◌◃◌, ◌&◌, Maybe, Made, Perhaps, first_is, second_is}
 use Rattle.mt_syntax.specs.declared.limits.TheConstants.{MAX_TYPE_DEPTH}
 use Rattle.mt_syntax.specs.declared.tree.TypeText.{TypeText}
 use Rattle.mt_syntax.specs.declared.tree.TypeArg.{TypeArg}
@@ -15,10 +14,10 @@ use Rattle.mt_syntax.specs.declared.tree.IndexKind.{IndexKind}
 use Rattle.mt_syntax.specs.declared.tree.IndexKind.TheVariants.{Minmax, Set}
 use Rattle.mt_syntax.specs.declared.tree.Element.{Element}
 use Rattle.mt_syntax.specs.Grammar.{IsName, IsWord, IsNumber, Chain, InParens, IsList, IsKey, IsArg, IsType, IsCodec, IsCodecs, IsKind}
-use Rattle.mt_syntax.specs.Trees.{alone, type_of, codec_of, column_of, index_of}
-use Rattle.mt_syntax.specs.Terminals.{word_of, number_in, is_text, given}
-use Rattle.mt_syntax.specs.Readers.{Reader, chain, closed}
-use Rattle.mt_syntax.specs.Reading.{name_at, word_at, number_at, names_at, list_at, key_at, arg_at, nested_at, type_at, codec_at, codecs_at, column_at, kind_at, granularity_at, index_at}
+use Rattle.mt_syntax.specs.Trees.{singleton, type_of, codec_of, column_of, index_of}
+use Rattle.mt_syntax.specs.Terminals.{word_of, number_in, is_text, tree_if}
+use Rattle.mt_syntax.specs.Readers.{Reader, chain, to_close}
+use Rattle.mt_syntax.specs.Reading.{name_at, word_at, number_at, names_at, list_at, key_at, arg_at, type_at, codec_at, codecs_at, column_at, kind_at, index_at}
 use Rattle.mt_syntax.specs.Terminals.{is_number}
 use Rattle.mt_syntax.proofs.PhraseLaws.{IsRead, Any, Not, narrowed, one_law, after_law, both_law, then_law, made_law, either_law, either_if_law, maybe_law}
 use Rattle.mt_syntax.proofs.ListLaws.{chain_law, closed_law, parens_law, perhaps_law}
@@ -49,7 +48,7 @@ comma_no_open = signs_apart Comma Open refl
 pub names_law : IsRead (Chain IsName) names_at (Not (is_sign Comma))
 names_law = chain_law (Not (is_sign Comma)) name_law (λ token rest e. tt) (λ rest s. (s, tt))
 
-pub closed_names_law : IsRead (Chain IsName ◃ is_sign Close) (closed names_at) Any
+pub closed_names_law : IsRead (Chain IsName ◃ is_sign Close) (to_close names_at) Any
 closed_names_law = closed_law names_law (λ token rest e. close_no_comma token e)
 
 pub list_law : IsRead IsList list_at (Not (is_sign Comma))
@@ -59,7 +58,7 @@ list_law =
 
 pub key_law : IsRead IsKey key_at Any
 key_law =
-    either_law (is_sign Open) closed_names_law (made_law alone name_law)
+    either_law (is_sign Open) closed_names_law (made_law singleton name_law)
     (λ tokens tree rest h s. one_begins name_of (is_sign Open) (name_no_sign Open) tokens h.0 rest h.2)
 
 -- ---- types
@@ -135,13 +134,13 @@ column_law =
 
 -- ---- indexes
 
-minmax_begins : (tokens : List Tok) (tree : IndexKind) (rest : List Tok) → One (given (is_word (codes "minmax")) Minmax) tokens tree rest → first_is (is_word (codes "minmax")) tokens ≡ true
+minmax_begins : (tokens : List Tok) (tree : IndexKind) (rest : List Tok) → One (tree_if (is_word (codes "minmax")) Minmax) tokens tree rest → first_is (is_word (codes "minmax")) tokens ≡ true
 minmax_begins [] tree rest h = absurd h
 minmax_begins (token ∷ tokens) tree rest h = given_is (is_word (codes "minmax")) Minmax token tree h.0
 
 pub kind_law : IsRead IsKind kind_at Any
 kind_law =
-    either_if_law (first_is (is_word (codes "minmax"))) (one_law (given (is_word (codes "minmax")) Minmax))
+    either_if_law (first_is (is_word (codes "minmax"))) (one_law (tree_if (is_word (codes "minmax")) Minmax))
     (after_law (is_word (codes "set")) (made_law Set (parens_law number_law (λ token rest e. tt))))
     minmax_begins
     (λ tokens tree rest h s. after_begins (is_word (codes "set")) (is_word (codes "minmax")) (Made Set (InParens IsNumber)) (words_apart (codes "set") (codes "minmax") refl) tokens tree rest h)

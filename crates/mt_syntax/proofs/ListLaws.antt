@@ -1,17 +1,14 @@
 -- Laws of phrases with optional tokens before them, and of lists.
-use Rattle.std.proofs.Common.{◌≡◌, ℕ, zero, suc, ◌+◌, ◌<◌, ◌≤◌, Bool, true, false, List, [], ◌∷◌, ◌++◌, length, Option, Some, None, refl, sym, ap, subst, ◌∙◌, append_assoc, ◌⊎◌, inl, inr, arith}
-use Rattle.std.specs.Prelude.{option_map, option_and_then}
+use Rattle.std.proofs.Common.{◌≡◌, ℕ, zero, suc, ◌≤◌, Bool, true, false, List, [], ◌∷◌, ◌++◌, length, Option, Some, refl, sym, ap, subst, ◌∙◌, append_assoc, ◌⊎◌, inl, inr, arith}
 use Rattle.std.proofs.lemmas.Bool.{cases_Bool}
 use Rattle.std.proofs.lemmas.List.{append-nil}
-use Rattle.mt_types.proofs.OptionLemmas.{mapped_is, then_is, some_is}
+use Rattle.mt_types.proofs.OptionLemmas.{then_is, some_is}
 use Rattle.mt_tokens.specs.declared.sign.Sign.TheVariants.{Open, Close, Comma}
 use Rattle.mt_tokens.specs.Tokens.{Tok}
 use Rattle.mt_tokens.specs.Words.{is_sign}
-use Rattle.mt_tokens.specs.Splits.{after_if}
-use Rattle.mt_syntax.specs.Phrases.{Phrase, ◌▹◌, ◌◃◌, ◌&◌, Many, Made, OneEach, Perhaps, first_is}
+use Rattle.mt_syntax.specs.Phrases.{Phrase, ◌▹◌, ◌◃◌, Many, OneEach, Perhaps}
 use Rattle.mt_syntax.specs.Grammar.{Chain, InParens}
-use Rattle.mt_syntax.specs.Trees.{joined}
-use Rattle.mt_syntax.specs.Readers.{Reader, one_each, skip, skip_if, perhaps, perhaps_if, more, chain, closed, in_parens}
+use Rattle.mt_syntax.specs.Readers.{Reader, one_each, skip, skip_if, perhaps, perhaps_if, more, chain, to_close, in_parens}
 use Rattle.mt_syntax.proofs.PhraseLaws.{IsRead, Any, Not, after_law, after_strict, before_law}
 
 -- ---- optional tokens
@@ -124,8 +121,8 @@ module _ {A : Type 0} (P : Phrase A) (p : Reader A) (S T : List Tok → Type 0) 
 
   none_more : (found : List A) (tokens : List Tok) (x : List A × List Tok) → (let o : Option (List A × List Tok) = Some (found, tokens) in o) ≡ Some x → MoreOf found tokens x
   none_more found tokens x e =
-      let made : List A × List Tok = (found, tokens) in
-      subst (MoreOf found tokens) (some_is made x e) ([], sym (append-nil found), refl)
+      let pair : List A × List Tok = (found, tokens) in
+      subst (MoreOf found tokens) (some_is pair x e) ([], sym (append-nil found), refl)
 
   more_sound : (count : ℕ) (found : List A) (tokens : List Tok) (x : List A × List Tok) → more p count found tokens ≡ Some x → MoreOf found tokens x
   unfolding more
@@ -192,7 +189,7 @@ pub chain_law : {A : Type 0} {P : Phrase A} {p : Reader A} {S : List Tok → Typ
 chain_law {P = P} {p = p} {S = S} T law at_comma at_end = chain_is_read P p S T law at_comma at_end
 
 -- ( P )
-pub closed_law : {A : Type 0} {P : Phrase A} {p : Reader A} {S : List Tok → Type 0} → IsRead P p S → ((token : Tok) (rest : List Tok) → is_sign Close token ≡ true → S (token ∷ rest)) → IsRead (P ◃ is_sign Close) (closed p) Any
+pub closed_law : {A : Type 0} {P : Phrase A} {p : Reader A} {S : List Tok → Type 0} → IsRead P p S → ((token : Tok) (rest : List Tok) → is_sign Close token ≡ true → S (token ∷ rest)) → IsRead (P ◃ is_sign Close) (to_close p) Any
 closed_law law stops = before_law (is_sign Close) law stops
 
 pub parens_law : {A : Type 0} {P : Phrase A} {p : Reader A} {S : List Tok → Type 0} → IsRead P p S → ((token : Tok) (rest : List Tok) → is_sign Close token ≡ true → S (token ∷ rest)) → IsRead (InParens P) (in_parens p) Any

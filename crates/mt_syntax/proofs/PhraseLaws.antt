@@ -1,17 +1,12 @@
 -- What is read is the phrase, and each phrase is read: one law for each form of phrase.
-use Rattle.std.proofs.Common.{◌≡◌, ℕ, zero, suc, ◌+◌, ◌<◌, ◌≤◌, Bool, true, false, List, [], ◌∷◌, ◌++◌, length, Option, Some, None, refl, sym, ap, subst, ◌∙◌, append_assoc, ◌⊎◌, inl, inr, arith}
-use Rattle.std.specs.Prelude.{option_map, option_and_then}
+use Rattle.std.proofs.Common.{◌≡◌, ◌<◌, ◌≤◌, Bool, true, false, List, [], ◌∷◌, length, Option, Some, None, refl, sym, ap, subst, inl, inr, arith}
+use Rattle.std.specs.Prelude.{option_map}
 use Rattle.std.proofs.lemmas.Bool.{cases_Bool}
-use Rattle.std.proofs.lemmas.List.{append-nil}
 use Rattle.mt_types.proofs.OptionLemmas.{mapped_is, then_is, some_is}
-use Rattle.mt_tokens.specs.declared.sign.Sign.TheVariants.{Open, Close, Comma}
 use Rattle.mt_tokens.specs.Tokens.{Tok}
-use Rattle.mt_tokens.specs.Words.{is_sign}
 use Rattle.mt_tokens.specs.Splits.{after_if}
-use Rattle.mt_syntax.specs.Phrases.{Phrase, One, ◌▹◌, ◌◃◌, ◌&◌, ◌∣◌, Maybe, Many, Made, Kept, OneEach, Perhaps, first_is, second_is}
-use Rattle.mt_syntax.specs.Grammar.{Chain, InParens}
-use Rattle.mt_syntax.specs.Trees.{joined}
-use Rattle.mt_syntax.specs.Readers.{Reader, one, after, before, both, made, kept, either, either_if, maybe, one_each, skip, skip_if, perhaps, perhaps_if, more, chain, closed, in_parens}
+use Rattle.mt_syntax.specs.Phrases.{Phrase, One, ◌▹◌, ◌◃◌, ◌&◌, ◌∣◌, Maybe, Made, Kept, first_is}
+use Rattle.mt_syntax.specs.Readers.{Reader, one, after, before, both, with_tree, with_tree_if, either, either_if, maybe}
 
 -- What is read is the phrase; the phrase is read where what follows it doesn't go on with it; and it
 -- takes tokens away.
@@ -154,43 +149,43 @@ then_law first second = both_law first second (λ middle tree rest h s. tt)
 -- ---- trees that are made
 
 module _ {A B : Type 0} (make : A → B) (P : Phrase A) (p : Reader A) (S : List Tok → Type 0) (law : IsRead P p S) where
-  made_sound : (tokens : List Tok) (x : B × List Tok) → made make p tokens ≡ Some x → Made make P tokens x.0 x.1
+  made_sound : (tokens : List Tok) (x : B × List Tok) → with_tree make p tokens ≡ Some x → Made make P tokens x.0 x.1
   made_sound tokens x e =
       let y = mapped_is (λ (y : A × List Tok). (make y.0, y.1)) (p tokens) x e in
       subst (λ (w : B × List Tok). Made make P tokens w.0 w.1) (sym y.2) (y.0.0, refl, law.sound tokens y.0 y.1)
 
-  made_complete : (tokens : List Tok) (tree : B) (rest : List Tok) → Made make P tokens tree rest → S rest → made make p tokens ≡ Some (tree, rest)
+  made_complete : (tokens : List Tok) (tree : B) (rest : List Tok) → Made make P tokens tree rest → S rest → with_tree make p tokens ≡ Some (tree, rest)
   made_complete tokens tree rest h s =
-      rw (law.complete tokens h.0 rest h.2 s) (ap (λ (made : B). let o : Option (B × List Tok) = Some (made, rest) in o) (sym h.1))
+      rw (law.complete tokens h.0 rest h.2 s) (ap (λ (tree : B). let o : Option (B × List Tok) = Some (tree, rest) in o) (sym h.1))
 
-  pub made_is_read : IsRead (Made make P) (made make p) S
+  pub made_is_read : IsRead (Made make P) (with_tree make p) S
   made_is_read = record {
     sound = made_sound;
     complete = made_complete;
     within = λ tokens tree rest h. law.within tokens h.0 rest h.2;
   }
 
-pub made_law : {A B : Type 0} (make : A → B) {P : Phrase A} {p : Reader A} {S : List Tok → Type 0} → IsRead P p S → IsRead (Made make P) (made make p) S
+pub made_law : {A B : Type 0} (make : A → B) {P : Phrase A} {p : Reader A} {S : List Tok → Type 0} → IsRead P p S → IsRead (Made make P) (with_tree make p) S
 made_law make {P = P} {p = p} {S = S} law = made_is_read make P p S law
 
 module _ {A B : Type 0} (make : A → Option B) (P : Phrase A) (p : Reader A) (S : List Tok → Type 0) (law : IsRead P p S) where
-  kept_sound : (tokens : List Tok) (x : B × List Tok) → kept make p tokens ≡ Some x → Kept make P tokens x.0 x.1
+  kept_sound : (tokens : List Tok) (x : B × List Tok) → with_tree_if make p tokens ≡ Some x → Kept make P tokens x.0 x.1
   kept_sound tokens x e =
       let y = then_is (λ (y : A × List Tok). option_map (λ (tree : B). (tree, y.1)) (make y.0)) (p tokens) x e in
       let z = mapped_is (λ (tree : B). (tree, y.0.1)) (make y.0.0) x y.2 in
       subst (λ (w : B × List Tok). Kept make P tokens w.0 w.1) (sym z.2) (y.0.0, z.1, law.sound tokens y.0 y.1)
 
-  kept_complete : (tokens : List Tok) (tree : B) (rest : List Tok) → Kept make P tokens tree rest → S rest → kept make p tokens ≡ Some (tree, rest)
+  kept_complete : (tokens : List Tok) (tree : B) (rest : List Tok) → Kept make P tokens tree rest → S rest → with_tree_if make p tokens ≡ Some (tree, rest)
   kept_complete tokens tree rest h s = rw (law.complete tokens h.0 rest h.2 s, h.1) refl
 
-  pub kept_is_read : IsRead (Kept make P) (kept make p) S
+  pub kept_is_read : IsRead (Kept make P) (with_tree_if make p) S
   kept_is_read = record {
     sound = kept_sound;
     complete = kept_complete;
     within = λ tokens tree rest h. law.within tokens h.0 rest h.2;
   }
 
-pub kept_law : {A B : Type 0} (make : A → Option B) {P : Phrase A} {p : Reader A} {S : List Tok → Type 0} → IsRead P p S → IsRead (Kept make P) (kept make p) S
+pub kept_law : {A B : Type 0} (make : A → Option B) {P : Phrase A} {p : Reader A} {S : List Tok → Type 0} → IsRead P p S → IsRead (Kept make P) (with_tree_if make p) S
 kept_law make {P = P} {p = p} {S = S} law = kept_is_read make P p S law
 
 -- ---- one phrase or another
@@ -254,14 +249,14 @@ either_if_law begins {P = P} {p = p} {Q = Q} {q = q} {S = S} first second one_be
 module _ {A : Type 0} (test : Tok → Bool) (P : Phrase A) (p : Reader A) (S T : List Tok → Type 0) (law : IsRead P p S) (stops : (rest : List Tok) → T rest → Not test rest × S rest) where
   maybe_sound : (tokens : List Tok) (x : Option A × List Tok) → maybe test p tokens ≡ Some x → Maybe (test ▹ P) tokens x.0 x.1
   maybe_sound [] x e =
-      let made : Option A × List Tok = (None, []) in
-      subst (λ (w : Option A × List Tok). Maybe (test ▹ P) [] w.0 w.1) (some_is made x e) refl
+      let pair : Option A × List Tok = (None, []) in
+      subst (λ (w : Option A × List Tok). Maybe (test ▹ P) [] w.0 w.1) (some_is pair x e) refl
   maybe_sound (token ∷ tokens) x e = elim (cases_Bool (test token)) [
     | inl here ↦ (let y = mapped_is (λ (y : A × List Tok). (let o : Option A = Some y.0 in o, y.1)) (p tokens) x (rw here at e) in
         subst (λ (w : Option A × List Tok). Maybe (test ▹ P) (token ∷ tokens) w.0 w.1) (sym y.2) (here, law.sound tokens y.0 y.1))
-    | inr none ↦ (let made : Option A × List Tok = (None, token ∷ tokens) in
-        let k : (let o : Option (Option A × List Tok) = Some made in o) ≡ Some x = rw none at e in
-        subst (λ (w : Option A × List Tok). Maybe (test ▹ P) (token ∷ tokens) w.0 w.1) (some_is made x k) refl)
+    | inr none ↦ (let pair : Option A × List Tok = (None, token ∷ tokens) in
+        let k : (let o : Option (Option A × List Tok) = Some pair in o) ≡ Some x = rw none at e in
+        subst (λ (w : Option A × List Tok). Maybe (test ▹ P) (token ∷ tokens) w.0 w.1) (some_is pair x k) refl)
   ]
 
   nothing_complete : (tokens : List Tok) → Not test tokens → maybe test p tokens ≡ Some (None, tokens)

@@ -1,37 +1,37 @@
 -- Projections and elements: what is read is one, and each is read.
-use Rattle.std.proofs.Common.{◌≡◌, ℕ, zero, suc, ◌+◌, ◌<◌, ◌≤◌, Bool, true, false, List, [], ◌∷◌, ◌++◌, length, Option, Some, None, refl, sym, ap, subst, ◌∙◌, ◌⊎◌, inl, inr, arith}
+use Rattle.std.proofs.Common.{◌≡◌, ℕ, ◌≤◌, Bool, true, List, [], ◌∷◌, length, Option, Some, refl, sym, subst, inl, inr, arith}
 use Rattle.std.specs.Prelude.{codes}
 use Rattle.mt_tokens.specs.declared.sign.Sign.{Sign}
-use Rattle.mt_tokens.specs.declared.sign.Sign.TheVariants.{Open, Close, Comma, Dot, Semicolon, Star, Equal}
-use Rattle.mt_tokens.specs.Tokens.{Tok, Word, Quoted, Text, Digits, OfSign}
-use Rattle.mt_tokens.specs.Words.{is_keyword, is_word, is_sign, name_of}
-use Rattle.mt_syntax.specs.Phrases.{Phrase, One, ◌▹◌, ◌◃◌, ◌&◌, ◌∣◌, Maybe, Many, Made, Kept, OneEach, Perhaps, NotWith, first_is, second_is}
+use Rattle.mt_tokens.specs.declared.sign.Sign.TheVariants.{Open, Close, Comma, Star}
+use Rattle.mt_tokens.specs.Tokens.{Tok}
+use Rattle.mt_tokens.specs.Words.{is_keyword, is_sign, name_of}
+use Rattle.mt_syntax.specs.Phrases.{Phrase, One, ◌▹◌, ◌◃◌, ◌&◌, ◌∣◌, Made, NotWith, first_is, second_is}
 use Rattle.mt_syntax.specs.declared.tree.Selection.{Selection}
 use Rattle.mt_syntax.specs.declared.tree.Selection.TheVariants as item
 use Rattle.mt_syntax.specs.declared.tree.Selected.{Selected}
 use Rattle.mt_syntax.specs.declared.tree.Selected.TheVariants.{All, Items}
 use Rattle.mt_syntax.specs.declared.tree.Element.{Element}
-use Rattle.mt_syntax.specs.Grammar.{IsName, Chain, InParens, IsList, IsCall, IsItem, IsSelected, IsGroup, IsOrder, IsIndex, IsProjection, IsColumn, IsElement, IsElements}
+use Rattle.mt_syntax.specs.Grammar.{IsName, InParens, IsList, IsCall, IsItem, IsSelected, IsGroup, IsOrder, IsElement, IsElements}
 use Rattle.mt_syntax.specs.Trees.{projection_of}
-use Rattle.mt_syntax.specs.Terminals.{given, agg_of}
-use Rattle.mt_syntax.specs.Readers.{Reader, chain, closed, either}
-use Rattle.mt_syntax.specs.Reading.{count_at, aggregate_at, call_at, item_at, selects_at, group_at, order_at, selection_at, projection_at, index_at, column_at, element_at, elements_at}
+use Rattle.mt_syntax.specs.Terminals.{tree_if, agg_of}
+use Rattle.mt_syntax.specs.Readers.{Reader, either}
+use Rattle.mt_syntax.specs.Reading.{count_at, aggregate_at, call_at, item_at, selects_at, group_at, order_at, selection_at, projection_at, element_at, elements_at}
 use Rattle.std.proofs.lemmas.Bool.{cases_Bool}
-use Rattle.mt_syntax.proofs.PhraseLaws.{IsRead, Any, Not, after_strict, narrowed, one_law, after_law, both_law, then_law, made_law, either_law, either_if_law, maybe_law}
-use Rattle.mt_syntax.proofs.ListLaws.{chain_law, closed_law, parens_law}
-use Rattle.mt_syntax.proofs.TokenTests.{Apart, keys_apart, signs_apart, key_no_sign, sign_no_key, name_no_sign, given_is, agg_no_count, agg_no_sign, one_begins, after_begins, after_is, maybe_begins}
+use Rattle.mt_syntax.proofs.PhraseLaws.{IsRead, Any, Not, after_strict, narrowed, one_law, after_law, both_law, then_law, made_law, either_if_law, maybe_law}
+use Rattle.mt_syntax.proofs.ListLaws.{chain_law, parens_law}
+use Rattle.mt_syntax.proofs.TokenTests.{Apart, keys_apart, key_no_sign, sign_no_key, name_no_sign, given_is, agg_no_count, agg_no_sign, one_begins, after_begins, after_is, maybe_begins}
 use Rattle.mt_syntax.proofs.ElementLaws.{name_law, name_is_over, list_law, close_no_comma, close_no_open, comma_no_open, NoOpen, NoMore, EndsColumn, NoGranularity, IsAnyColumn, column_law, IsIndexBody, index_law}
 
 -- ---- items
 
 abbrev IsCount : Phrase Selection
-IsCount = is_keyword (codes "count") ▹ is_sign Open ▹ One (given (is_sign Close) item.Count)
+IsCount = is_keyword (codes "count") ▹ is_sign Open ▹ One (tree_if (is_sign Close) item.Count)
 
 abbrev IsAggregate : Phrase Selection
 IsAggregate = Made (λ x. item.Of x.0 x.1) (One agg_of & InParens IsName)
 
 count_law : IsRead IsCount count_at Any
-count_law = after_law (is_keyword (codes "count")) (after_law (is_sign Open) (one_law (given (is_sign Close) item.Count)))
+count_law = after_law (is_keyword (codes "count")) (after_law (is_sign Open) (one_law (tree_if (is_sign Close) item.Count)))
 
 aggregate_law : IsRead IsAggregate aggregate_at Any
 aggregate_law = made_law (λ x. item.Of x.0 x.1) (then_law (one_law agg_of) (parens_law name_law (λ token rest e. tt)))
@@ -39,7 +39,7 @@ aggregate_law = made_law (λ x. item.Of x.0 x.1) (then_law (one_law agg_of) (par
 call_law : IsRead IsCall call_at Any
 call_law =
     either_if_law (first_is (is_keyword (codes "count"))) count_law aggregate_law
-    (λ tokens tree rest h. after_is (is_keyword (codes "count")) (is_sign Open ▹ One (given (is_sign Close) item.Count)) tokens tree rest h)
+    (λ tokens tree rest h. after_is (is_keyword (codes "count")) (is_sign Open ▹ One (tree_if (is_sign Close) item.Count)) tokens tree rest h)
     (λ tokens tree rest h s. one_begins agg_of (is_keyword (codes "count")) agg_no_count tokens h.0.0 h.2.0 h.2.1)
 
 second_opens : (tokens middle : List Tok) → first_is (is_sign Open) middle ≡ true → tokens ≡ middle → first_is (is_sign Open) tokens ≡ true
@@ -47,7 +47,7 @@ second_opens tokens middle e same = subst (λ (us : List Tok). first_is (is_sign
 
 call_opens : (tokens : List Tok) (tree : Selection) (rest : List Tok) → IsCall tokens tree rest → second_is (is_sign Open) tokens ≡ true
 call_opens [] tree rest (inl h) = absurd h
-call_opens (token ∷ tokens) tree rest (inl h) = after_is (is_sign Open) (One (given (is_sign Close) item.Count)) tokens tree rest h.1
+call_opens (token ∷ tokens) tree rest (inl h) = after_is (is_sign Open) (One (tree_if (is_sign Close) item.Count)) tokens tree rest h.1
 call_opens [] tree rest (inr h) = absurd h.2.1
 call_opens (token ∷ tokens) tree rest (inr h) =
     second_opens tokens h.2.0 (after_is (is_sign Open) (IsName ◃ is_sign Close) h.2.0 h.0.1 rest h.2.2) h.2.1.1
@@ -59,17 +59,17 @@ item_law =
     call_opens (λ tokens tree rest h s. name_is_over tokens h.0 rest h.2 s)
 
 item_no_star : (tokens : List Tok) (tree : Selection) (rest : List Tok) → IsItem tokens tree rest → Not (is_sign Star) tokens
-item_no_star tokens tree rest (inl (inl h)) = after_begins (is_keyword (codes "count")) (is_sign Star) (is_sign Open ▹ One (given (is_sign Close) item.Count)) (key_no_sign (codes "count") Star) tokens tree rest h
+item_no_star tokens tree rest (inl (inl h)) = after_begins (is_keyword (codes "count")) (is_sign Star) (is_sign Open ▹ One (tree_if (is_sign Close) item.Count)) (key_no_sign (codes "count") Star) tokens tree rest h
 item_no_star tokens tree rest (inl (inr h)) = one_begins agg_of (is_sign Star) (agg_no_sign Star) tokens h.0.0 h.2.0 h.2.1
 item_no_star tokens tree rest (inr h) = one_begins name_of (is_sign Star) (name_no_sign Star) tokens h.0 rest h.2
 
-star_begins : (tokens : List Tok) (tree : Selected) (rest : List Tok) → One (given (is_sign Star) All) tokens tree rest → first_is (is_sign Star) tokens ≡ true
+star_begins : (tokens : List Tok) (tree : Selected) (rest : List Tok) → One (tree_if (is_sign Star) All) tokens tree rest → first_is (is_sign Star) tokens ≡ true
 star_begins [] tree rest h = absurd h
 star_begins (token ∷ tokens) tree rest h = given_is (is_sign Star) All token tree h.0
 
 selects_law : IsRead IsSelected selects_at NoMore
 selects_law =
-    either_if_law (first_is (is_sign Star)) (narrowed NoMore (one_law (given (is_sign Star) All)) (λ rest s. tt))
+    either_if_law (first_is (is_sign Star)) (narrowed NoMore (one_law (tree_if (is_sign Star) All)) (λ rest s. tt))
     (made_law Items (chain_law NoMore item_law (λ token rest e. comma_no_open token e) (λ rest s. s)))
     star_begins
     (λ tokens tree rest h s. item_no_star tokens h.2.0.0 h.2.2.0 h.2.2.1)

@@ -1,24 +1,24 @@
 -- The sentence: what is read is one, and each is read.
-use Rattle.std.proofs.Common.{◌≡◌, ℕ, Bool, true, false, List, [], ◌∷◌, Option, Some, None, Result, Ok, Err, refl, sym, ap, subst, ◌∙◌, ◌⊎◌, inl, inr}
+use Rattle.std.proofs.Common.{◌≡◌, ℕ, Bool, true, false, List, [], ◌∷◌, Option, Some, Result, Ok, Err, refl, sym, ap, subst, ◌∙◌, inl, inr}
 use Rattle.std.specs.Prelude.{IfOk, codes, option_and_then}
 use Rattle.mt_types.proofs.OptionLemmas.{then_is, some_is}
-use Rattle.mt_tokens.specs.declared.sign.Sign.TheVariants.{Open, Close, Comma, Dot, Semicolon, Equal}
+use Rattle.mt_tokens.specs.declared.sign.Sign.TheVariants.{Open, Close, Comma, Dot, Semicolon}
 use Rattle.mt_tokens.specs.Tokens.{Tok}
-use Rattle.mt_tokens.specs.Words.{is_keyword, is_sign, name_of}
+use Rattle.mt_tokens.specs.Words.{is_keyword, is_sign}
 use Rattle.mt_tokens.specs.Lexis.{token_at, skip_blanks, AreTokens, IsTokens}
 use Rattle.mt_syntax.specs.declared.tree.TableText.{TableText}
 use Rattle.mt_syntax.specs.declared.tree.Element.{Element}
 use Rattle.mt_syntax.specs.declared.clause.Clauses.{Clauses}
 use Rattle.mt_syntax.specs.declared.error.SyntaxError.{SyntaxError}
 use Rattle.mt_syntax.specs.declared.error.SyntaxError.TheVariants as error
-use Rattle.mt_syntax.specs.Phrases.{Phrase, ◌▹◌, ◌◃◌, ◌&◌, ◌◂◌, OneEach, Kept, Perhaps, Nothing, first_is, second_is}
+use Rattle.mt_syntax.specs.Phrases.{Phrase, ◌◃◌, ◌&◌, ◌◂◌, OneEach, Kept, Perhaps, second_is}
 use Rattle.mt_syntax.specs.Grammar.{IsName, Chain, IsElement, IsElements, IsEngine, IsBody, IsEnd, IsSentence, IsTableText}
-use Rattle.mt_syntax.specs.Trees.{said}
+use Rattle.mt_syntax.specs.Trees.{sentence_of}
 use Rattle.mt_syntax.specs.Terminals.{is_text, is_name}
-use Rattle.mt_syntax.specs.Readers.{kept, one_each, skip, skip_if}
+use Rattle.mt_syntax.specs.Readers.{with_tree_if, one_each, skip, skip_if}
 use Rattle.mt_syntax.specs.Reading.{is_clause_key, body_at, end_at, whole, rest_at, sentence_at}
 use Rattle.mt_syntax.specs.Answers.{Gives, GivesSentence}
-use Rattle.mt_syntax.proofs.PhraseLaws.{IsRead, Any, Not, then_law, kept_law}
+use Rattle.mt_syntax.proofs.PhraseLaws.{IsRead, Not, then_law, kept_law}
 use Rattle.mt_syntax.proofs.ListLaws.{Skips, one_each_sound, one_each_complete, skip_sound, skip_none, skip_all, skip_if_sound, perhaps_law, perhaps_if_law}
 use Rattle.mt_syntax.proofs.TokenTests.{Apart, keys_apart, signs_apart, key_no_sign, sign_no_key, comment_no_clause, sign_no_clause, after_begins, skips_begin}
 use Rattle.mt_syntax.proofs.ElementLaws.{name_law}
@@ -97,16 +97,16 @@ whole_is read tree (token ∷ tokens) e = absurd cc
 
 -- the sentence behind IF NOT EXISTS
 abbrev IsRest : Phrase TableText
-IsRest = Kept said IsBody ◂ IsEnd
+IsRest = Kept sentence_of IsBody ◂ IsEnd
 
 rest_sound : (tokens : List Tok) (tree : TableText) → rest_at tokens ≡ Some tree → IsRest tokens tree []
 unfolding rest_at
 rest_sound tokens tree e =
-    let y = then_is (λ (x : TableText × List Tok). option_and_then (whole x.0) (end_at x.1)) (kept said body_at tokens) tree e in
+    let y = then_is (λ (x : TableText × List Tok). option_and_then (whole x.0) (end_at x.1)) (with_tree_if sentence_of body_at tokens) tree e in
     let z = then_is (whole y.0.0) (end_at y.0.1) tree y.2 in
     let w = whole_is y.0.0 tree z.0 z.2 in
-    let read = (kept_law said body_law).sound tokens y.0 y.1 in
-    (y.0.1, subst (λ (t : TableText). Kept said IsBody tokens t y.0.1) w.1 read, subst (λ (us : List Tok). IsEnd y.0.1 tt us) w.0 (end_sound y.0.1 z.0 z.1))
+    let read = (kept_law sentence_of body_law).sound tokens y.0 y.1 in
+    (y.0.1, subst (λ (t : TableText). Kept sentence_of IsBody tokens t y.0.1) w.1 read, subst (λ (us : List Tok). IsEnd y.0.1 tt us) w.0 (end_sound y.0.1 z.0 z.1))
 
 rest_complete : (tokens : List Tok) (tree : TableText) → IsRest tokens tree [] → rest_at tokens ≡ Some tree
 unfolding rest_at
@@ -118,7 +118,7 @@ rest_complete tokens tree h =
         end_begins (is_sign Open) (key_no_sign (codes "COMMENT") Open) (signs_apart Semicolon Open refl) h.0 h.2,
       ),
     ) in
-    let read = (kept_law said body_law).complete tokens tree h.0 h.1 ends in
+    let read = (kept_law sentence_of body_law).complete tokens tree h.0 h.1 ends in
     rw (read, end_complete h.0 h.2) refl
 
 abbrev not_key : Tok → Bool

@@ -1,6 +1,6 @@
 -- Tests of tokens that no token passes both of, and what phrases begin with.
-use Rattle.std.proofs.Common.{◌≡◌, ℕ, Bool, true, false, map, List, [], ◌∷◌, Option, Some, None, refl, sym, ap, subst, ◌∙◌, ◌⊎◌, inl, inr}
-use Rattle.std.specs.Prelude.{codes, ◌==◌, ◌||◌, is_some}
+use Rattle.std.proofs.Common.{◌≡◌, ℕ, Bool, true, false, map, List, [], ◌∷◌, Option, Some, None, refl, sym, subst, ◌⊎◌, inl, inr}
+use Rattle.std.specs.Prelude.{codes, ◌==◌, ◌||◌}
 use Rattle.std.specs.Char.{to_ascii_lowercase}
 use Rattle.std.specs.Str.{bytes_eq}
 use Rattle.std.proofs.lemmas.Bool.{cases_Bool, eqb-true}
@@ -9,8 +9,8 @@ use Rattle.mt_types.specs.declared.ty.Agg.{Agg}
 use Rattle.mt_tokens.specs.declared.sign.Sign.{Sign}
 use Rattle.mt_tokens.specs.Tokens.{Tok, Word, Quoted, Text, Digits, OfSign}
 use Rattle.mt_tokens.specs.Words.{rank, is_same_in_any_case, is_keyword, is_word, is_sign, name_of}
-use Rattle.mt_syntax.specs.Phrases.{Phrase, One, ◌▹◌, Maybe, OneEach, Perhaps, first_is, second_is}
-use Rattle.mt_syntax.specs.Terminals.{word_of, number_in, is_text, is_name, given, agg_of}
+use Rattle.mt_syntax.specs.Phrases.{Phrase, One, ◌▹◌, Maybe, OneEach, Perhaps, first_is}
+use Rattle.mt_syntax.specs.Terminals.{word_of, number_in, tree_if, agg_of}
 use Rattle.mt_syntax.specs.Reading.{is_clause_key}
 use Rattle.mt_syntax.specs.Terminals.{is_number}
 use Rattle.mt_syntax.proofs.PhraseLaws.{Not}
@@ -88,7 +88,7 @@ number_is (Text w) tree e = absurd cc
 number_is (Digits w) tree e = refl
 number_is (OfSign s) tree e = absurd cc
 
-pub given_is : {A : Type 0} (test : Tok → Bool) (is : A) (token : Tok) (tree : A) → given test is token ≡ Some tree → test token ≡ true
+pub given_is : {A : Type 0} (test : Tok → Bool) (is : A) (token : Tok) (tree : A) → tree_if test is token ≡ Some tree → test token ≡ true
 given_is test is token tree e = elim (cases_Bool (test token)) [
   | inl here ↦ here
   | inr other ↦ absurd (let k = rw other at e in cc)

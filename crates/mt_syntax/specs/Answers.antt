@@ -1,5 +1,5 @@
 -- What readers return.
-use Rattle.std.specs.Prelude.{◌≡◌, List, Option, Some, None, Result, Ok, Err}
+use Rattle.std.specs.Prelude.{◌≡◌, Option, Some, None, Result, Ok, Err}
 use Rattle.mt_syntax.specs.declared.tree.TableText.{TableText}
 use Rattle.mt_syntax.specs.declared.error.SyntaxError.{SyntaxError}
 use Rattle.mt_syntax.specs.declared.error.SyntaxError.TheVariants.{Bad, NoMemory}

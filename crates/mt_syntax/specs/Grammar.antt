@@ -15,7 +15,7 @@
 --
 -- An element that begins with plain INDEX or PROJECTION is one. Each clause stands at most once, and
 -- ORDER BY must. There is at least one column.
-use Rattle.std.specs.Prelude.{◌≡◌, ℕ, zero, suc, List, [], ◌∷◌, Option, None}
+use Rattle.std.specs.Prelude.{ℕ, zero, suc, List, [], ◌∷◌, Option, None}
 use Rattle.mt_tokens.specs.declared.sign.Sign.TheVariants.{Open, Close, Comma, Dot, Semicolon, Star, Equal}
 use Rattle.mt_tokens.specs.Tokens.{Tok}
 use Rattle.mt_tokens.specs.Words.{is_sign, name_of}
@@ -32,7 +32,6 @@ use Rattle.mt_syntax.specs.declared.tree.Selection.TheVariants as item
 use Rattle.mt_syntax.specs.declared.tree.Selected.{Selected}
 use Rattle.mt_syntax.specs.declared.tree.Selected.TheVariants.{All, Items}
 use Rattle.mt_syntax.specs.declared.tree.Element.{Element}
-use Rattle.mt_syntax.specs.declared.tree.Element.TheVariants as element
 use Rattle.mt_syntax.specs.declared.tree.PartitionText.{PartitionText}
 use Rattle.mt_syntax.specs.declared.tree.PartitionText.TheVariants.{Plain, Month}
 use Rattle.mt_syntax.specs.declared.tree.SettingText.{SettingText}
@@ -40,8 +39,8 @@ use Rattle.mt_syntax.specs.declared.tree.TableText.{TableText}
 use Rattle.mt_syntax.specs.declared.clause.Clause.{Clause}
 use Rattle.mt_syntax.specs.declared.clause.Clause.TheVariants as clause
 use Rattle.mt_syntax.specs.declared.clause.Clauses.{Clauses}
-use Rattle.mt_syntax.specs.Terminals.{key, fixed, word_of, number_in, is_text, is_name, given, agg_of, value_of}
-use Rattle.mt_syntax.specs.Trees.{joined, alone, type_of, codec_of, column_of, index_of, projection_of, setting_of, no_clauses, with_clauses, said}
+use Rattle.mt_syntax.specs.Terminals.{key, fixed, word_of, number_in, is_text, is_name, tree_if, agg_of, value_of}
+use Rattle.mt_syntax.specs.Trees.{list_of, singleton, type_of, codec_of, column_of, index_of, projection_of, setting_of, no_clauses, with_clauses, sentence_of}
 use Rattle.mt_syntax.specs.Phrases.{Phrase, One, ◌▹◌, ◌◃◌, ◌◂◌, ◌&◌, ◌∣◌, Maybe, Many, Made, Kept, Perhaps, NotWith, Nothing}
 
 -- ---- tokens
@@ -62,7 +61,7 @@ IsNumber = One number_in
 
 -- P {, P}
 abbrev pub Chain : {A : Type 0} → Phrase A → Phrase (List A)
-Chain P = Made joined (P & Many (is_sign Comma ▹ P))
+Chain P = Made list_of (P & Many (is_sign Comma ▹ P))
 
 -- ( P )
 abbrev pub InParens : {A : Type 0} → Phrase A → Phrase A
@@ -74,13 +73,13 @@ IsList = InParens (Chain IsName) ∣ Chain IsName
 
 -- key := name | ( name {, name} )
 abbrev pub IsKey : Phrase (List (List ℕ))
-IsKey = InParens (Chain IsName) ∣ Made alone IsName
+IsKey = InParens (Chain IsName) ∣ Made singleton IsName
 
 -- ---- types
 
--- arg := number | type
+-- arg := number | type, where types are such phrases
 abbrev pub IsArg : Phrase TypeText → Phrase TypeArg
-IsArg IsType = Made arg.Number IsNumber ∣ Made arg.Type IsType
+IsArg P = Made arg.Number IsNumber ∣ Made arg.Type P
 
 -- type := word [( arg {, arg} )], with at most so many parentheses around one another
 unfoldable pub IsType : (depth : ℕ) → Phrase TypeText
@@ -109,7 +108,7 @@ IsColumn =
 -- minmax | set ( number )
 abbrev pub IsKind : Phrase IndexKind
 IsKind =
-    One (given (fixed "minmax") Minmax)
+    One (tree_if (fixed "minmax") Minmax)
     ∣ (fixed "set" ▹ Made Set (InParens IsNumber))
 
 -- INDEX name name TYPE kind [GRANULARITY number]
@@ -123,7 +122,7 @@ IsIndex =
 -- count ( ) | (sum | min | max) ( name )
 abbrev pub IsCall : Phrase Selection
 IsCall =
-    (key "count" ▹ is_sign Open ▹ One (given (is_sign Close) item.Count))
+    (key "count" ▹ is_sign Open ▹ One (tree_if (is_sign Close) item.Count))
     ∣ Made (λ x. item.Of x.0 x.1) (One agg_of & InParens IsName)
 
 -- item := name | count ( ) | (sum | min | max) ( name )
@@ -132,7 +131,7 @@ IsItem = IsCall ∣ Made item.Column IsName
 
 -- * | item {, item}
 abbrev pub IsSelected : Phrase Selected
-IsSelected = One (given (is_sign Star) All) ∣ Made Items (Chain IsItem)
+IsSelected = One (tree_if (is_sign Star) All) ∣ Made Items (Chain IsItem)
 
 -- [GROUP BY list]
 abbrev pub IsGroup : Phrase (Option (List (List ℕ)))
@@ -168,7 +167,7 @@ IsExpression =
 
 -- pexpr | ( pexpr {, pexpr} )
 abbrev pub IsExpressions : Phrase (List PartitionText)
-IsExpressions = InParens (Chain IsExpression) ∣ Made alone IsExpression
+IsExpressions = InParens (Chain IsExpression) ∣ Made singleton IsExpression
 
 -- setting := word = (number | text | word)
 abbrev pub IsSetting : Phrase SettingText
@@ -210,7 +209,7 @@ abbrev pub IsSentence : Phrase TableText
 IsSentence =
     key "CREATE" ▹ key "TABLE"
     ▹ Perhaps (key "IF" ∷ key "NOT" ∷ key "EXISTS" ∷ [])
-    (Kept said IsBody ◂ IsEnd)
+    (Kept sentence_of IsBody ◂ IsEnd)
 
 -- the text is this sentence
 abbrev pub IsTableText : (text : List ℕ) → TableText → Type 0

@@ -1,5 +1,5 @@
 -- Readers, one for each form of phrase. They look at a token, or at the one behind it, and never go back.
-use Rattle.std.specs.Prelude.{ℕ, zero, suc, List, [], ◌∷◌, ◌++◌, length, Option, Some, None, option_map, option_and_then, Bool, true, false, if◌then◌else◌}
+use Rattle.std.specs.Prelude.{ℕ, zero, suc, List, [], ◌∷◌, ◌++◌, length, Option, Some, None, option_map, option_and_then, Bool, if◌then◌else◌}
 use Rattle.mt_tokens.specs.Tokens.{Tok}
 use Rattle.mt_tokens.specs.Splits.{after_if}
 use Rattle.mt_tokens.specs.declared.sign.Sign.TheVariants.{Open, Close, Comma}
@@ -34,12 +34,12 @@ both p q tokens =
     option_and_then (λ x. option_map (λ y. ((x.0, y.0), y.1)) (q x.1)) (p tokens)
 
 -- with a tree made of the one that is read
-abbrev pub made : {A B : Type 0} → (make : A → B) → Reader A → Reader B
-made make p tokens = option_map (λ x. (make x.0, x.1)) (p tokens)
+abbrev pub with_tree : {A B : Type 0} → (make : A → B) → Reader A → Reader B
+with_tree make p tokens = option_map (λ x. (make x.0, x.1)) (p tokens)
 
 -- the same, where there is one
-abbrev pub kept : {A B : Type 0} → (make : A → Option B) → Reader A → Reader B
-kept make p tokens =
+abbrev pub with_tree_if : {A B : Type 0} → (make : A → Option B) → Reader A → Reader B
+with_tree_if make p tokens =
     option_and_then (λ x. option_map (λ tree. (tree, x.1)) (make x.0)) (p tokens)
 
 -- by the first token
@@ -89,9 +89,9 @@ abbrev pub chain : {A : Type 0} → Reader A → Reader (List A)
 chain p tokens = option_and_then (λ x. more p (length x.1) (x.0 ∷ []) x.1) (p tokens)
 
 -- behind an opening parenthesis
-abbrev pub closed : {A : Type 0} → Reader A → Reader A
-closed p = before p (is_sign Close)
+abbrev pub to_close : {A : Type 0} → Reader A → Reader A
+to_close p = before p (is_sign Close)
 
 -- in parentheses
 abbrev pub in_parens : {A : Type 0} → Reader A → Reader A
-in_parens p = after (is_sign Open) (closed p)
+in_parens p = after (is_sign Open) (to_close p)

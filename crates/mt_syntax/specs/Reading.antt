@@ -1,8 +1,8 @@
 -- The grammar read from left to right: each reader has its phrase's name.
-use Rattle.std.specs.Prelude.{ℕ, zero, suc, List, [], ◌∷◌, length, Option, Some, None, option_map, option_and_then, Bool, true, false, codes, unwrap_or, ◌||◌, if◌then◌else◌}
-use Rattle.mt_tokens.specs.declared.sign.Sign.TheVariants.{Open, Close, Comma, Dot, Semicolon, Star, Equal}
-use Rattle.mt_tokens.specs.Tokens.{Tok, Digits}
-use Rattle.mt_tokens.specs.Words.{is_keyword, is_word, is_sign, name_of}
+use Rattle.std.specs.Prelude.{ℕ, zero, suc, List, [], ◌∷◌, length, Option, Some, None, option_and_then, Bool, ◌||◌, if◌then◌else◌}
+use Rattle.mt_tokens.specs.declared.sign.Sign.TheVariants.{Open, Close, Dot, Semicolon, Star, Equal}
+use Rattle.mt_tokens.specs.Tokens.{Tok}
+use Rattle.mt_tokens.specs.Words.{is_sign, name_of}
 use Rattle.mt_syntax.specs.declared.limits.TheConstants.{MAX_TYPE_DEPTH}
 use Rattle.mt_syntax.specs.declared.tree.TypeText.{TypeText}
 use Rattle.mt_syntax.specs.declared.tree.TypeArg.{TypeArg}
@@ -23,9 +23,9 @@ use Rattle.mt_syntax.specs.declared.clause.Clause.{Clause}
 use Rattle.mt_syntax.specs.declared.clause.Clause.TheVariants as clause
 use Rattle.mt_syntax.specs.declared.clause.Clauses.{Clauses}
 use Rattle.mt_syntax.specs.Phrases.{first_is, second_is}
-use Rattle.mt_syntax.specs.Trees.{alone, type_of, codec_of, column_of, index_of, projection_of, setting_of, with_clause, no_clauses, said}
-use Rattle.mt_syntax.specs.Terminals.{key, fixed, is_number, word_of, number_in, is_text, is_name, given, agg_of, value_of}
-use Rattle.mt_syntax.specs.Readers.{Reader, one, after, before, both, made, kept, either, either_if, maybe, one_each, skip, skip_if, perhaps, perhaps_if, chain, closed, in_parens}
+use Rattle.mt_syntax.specs.Trees.{singleton, type_of, codec_of, column_of, index_of, projection_of, setting_of, with_clause, no_clauses, sentence_of}
+use Rattle.mt_syntax.specs.Terminals.{key, fixed, is_number, word_of, number_in, is_text, is_name, tree_if, agg_of, value_of}
+use Rattle.mt_syntax.specs.Readers.{Reader, one, after, both, with_tree, with_tree_if, either, either_if, maybe, one_each, skip, skip_if, perhaps, perhaps_if, chain, to_close, in_parens}
 
 -- a name
 abbrev pub name_at : Reader (List ℕ)
@@ -45,32 +45,32 @@ names_at = chain name_at
 
 -- a list, with or without parentheses
 abbrev pub list_at : Reader (List (List ℕ))
-list_at = either (is_sign Open) (closed names_at) names_at
+list_at = either (is_sign Open) (to_close names_at) names_at
 
 -- a key: names in parentheses, or one name
 abbrev pub key_at : Reader (List (List ℕ))
-key_at = either (is_sign Open) (closed names_at) (made alone name_at)
+key_at = either (is_sign Open) (to_close names_at) (with_tree singleton name_at)
 
 -- ---- types
 
 -- an argument, by what reads types
 abbrev pub arg_at : Reader TypeText → Reader TypeArg
-arg_at p = either_if (first_is is_number) (made arg.Number number_at) (made arg.Type p)
+arg_at p = either_if (first_is is_number) (with_tree arg.Number number_at) (with_tree arg.Type p)
 
 -- a type, by what reads the types inside its parentheses
 abbrev pub nested_at : Reader TypeText → Reader TypeText
-nested_at p = made type_of (both word_at (maybe (is_sign Open) (closed (chain (arg_at p)))))
+nested_at p = with_tree type_of (both word_at (maybe (is_sign Open) (to_close (chain (arg_at p)))))
 
 -- a type, with at most so many parentheses around one another
 unfoldable pub type_at : (depth : ℕ) → Reader TypeText
-type_at zero = made (λ word. type_of (word, None)) word_at
+type_at zero = with_tree (λ word. type_of (word, None)) word_at
 type_at (suc depth) = nested_at (type_at depth)
 
 -- ---- columns
 
 -- a codec
 abbrev pub codec_at : Reader CodecText
-codec_at = made codec_of (both word_at (maybe (is_sign Open) (closed number_at)))
+codec_at = with_tree codec_of (both word_at (maybe (is_sign Open) (to_close number_at)))
 
 -- the codecs of CODEC, where it is given
 abbrev pub codecs_at : Reader (Option (List CodecText))
@@ -79,7 +79,7 @@ codecs_at = maybe (key "CODEC") (in_parens (chain codec_at))
 -- a column
 unfoldable pub column_at : Reader Element
 column_at =
-    made column_of (both name_at (both (type_at MAX_TYPE_DEPTH)
+    with_tree column_of (both name_at (both (type_at MAX_TYPE_DEPTH)
     (perhaps (key "COMMENT") (is_text ∷ []) codecs_at)))
 
 -- ---- indexes
@@ -87,8 +87,8 @@ column_at =
 -- the kind of an index
 abbrev pub kind_at : Reader IndexKind
 kind_at =
-    either_if (first_is (fixed "minmax")) (one (given (fixed "minmax") Minmax))
-    (after (fixed "set") (made Set (in_parens number_at)))
+    either_if (first_is (fixed "minmax")) (one (tree_if (fixed "minmax") Minmax))
+    (after (fixed "set") (with_tree Set (in_parens number_at)))
 
 -- the number of GRANULARITY, where it is given
 abbrev pub granularity_at : Reader (Option ℕ)
@@ -97,18 +97,18 @@ granularity_at = maybe (key "GRANULARITY") number_at
 -- an index behind INDEX
 unfoldable pub index_at : Reader Element
 index_at =
-    made index_of (both name_at (both name_at
+    with_tree index_of (both name_at (both name_at
     (after (key "TYPE") (both kind_at granularity_at))))
 
 -- ---- projections
 
 -- count()
 abbrev pub count_at : Reader Selection
-count_at = after (key "count") (after (is_sign Open) (one (given (is_sign Close) item.Count)))
+count_at = after (key "count") (after (is_sign Open) (one (tree_if (is_sign Close) item.Count)))
 
 -- sum, min or max of a column
 abbrev pub aggregate_at : Reader Selection
-aggregate_at = made (λ x. item.Of x.0 x.1) (both (one agg_of) (in_parens name_at))
+aggregate_at = with_tree (λ x. item.Of x.0 x.1) (both (one agg_of) (in_parens name_at))
 
 -- a call
 abbrev pub call_at : Reader Selection
@@ -116,12 +116,12 @@ call_at = either_if (first_is (key "count")) count_at aggregate_at
 
 -- an item
 unfoldable pub item_at : Reader Selection
-item_at = either_if (second_is (is_sign Open)) call_at (made item.Column name_at)
+item_at = either_if (second_is (is_sign Open)) call_at (with_tree item.Column name_at)
 
 -- * or items
 abbrev pub selects_at : Reader Selected
 selects_at =
-    either_if (first_is (is_sign Star)) (one (given (is_sign Star) All)) (made Items (chain item_at))
+    either_if (first_is (is_sign Star)) (one (tree_if (is_sign Star) All)) (with_tree Items (chain item_at))
 
 -- the names of GROUP BY, where it is given
 abbrev pub group_at : Reader (Option (List (List ℕ)))
@@ -138,7 +138,7 @@ selection_at = after (key "SELECT") (both selects_at (both group_at order_at))
 -- a projection behind PROJECTION
 unfoldable pub projection_at : Reader Element
 projection_at =
-    made projection_of (both name_at
+    with_tree projection_of (both name_at
     (in_parens selection_at))
 
 -- ---- elements
@@ -159,17 +159,17 @@ elements_at = in_parens (chain element_at)
 unfoldable pub expression_at : Reader PartitionText
 expression_at =
     either_if (second_is (is_sign Open))
-    (after (fixed "toYYYYMM") (made Month (in_parens name_at)))
-    (made Plain name_at)
+    (after (fixed "toYYYYMM") (with_tree Month (in_parens name_at)))
+    (with_tree Plain name_at)
 
 -- expressions in parentheses, or one
 abbrev pub expressions_at : Reader (List PartitionText)
 expressions_at =
-    either (is_sign Open) (closed (chain expression_at)) (made alone expression_at)
+    either (is_sign Open) (to_close (chain expression_at)) (with_tree singleton expression_at)
 
 -- a setting
 abbrev pub setting_at : Reader SettingText
-setting_at = made setting_of (both word_at (after (is_sign Equal) (one value_of)))
+setting_at = with_tree setting_of (both word_at (after (is_sign Equal) (one value_of)))
 
 -- a clause begins with this token
 abbrev pub is_clause_key : Tok → Bool
@@ -180,10 +180,10 @@ is_clause_key token =
 -- a clause
 unfoldable pub clause_at : Reader Clause
 clause_at =
-    either (key "PARTITION") (after (key "BY") (made clause.Partition expressions_at))
-    (either (key "PRIMARY") (after (key "KEY") (made clause.Primary key_at))
-    (either (key "ORDER") (after (key "BY") (made clause.Order key_at))
-    (after (key "SETTINGS") (made clause.Settings (chain setting_at)))))
+    either (key "PARTITION") (after (key "BY") (with_tree clause.Partition expressions_at))
+    (either (key "PRIMARY") (after (key "KEY") (with_tree clause.Primary key_at))
+    (either (key "ORDER") (after (key "BY") (with_tree clause.Order key_at))
+    (after (key "SETTINGS") (with_tree clause.Settings (chain setting_at)))))
 
 -- clauses beside others, at most so many
 unfoldable pub more_clauses : (count : ℕ) → Clauses → Reader Clauses
@@ -229,7 +229,7 @@ whole tree (token ∷ tokens) = None
 -- the sentence behind [IF NOT EXISTS]
 unfoldable pub rest_at : List Tok → Option TableText
 rest_at tokens =
-    option_and_then (λ x. option_and_then (whole x.0) (end_at x.1)) (kept said body_at tokens)
+    option_and_then (λ x. option_and_then (whole x.0) (end_at x.1)) (with_tree_if sentence_of body_at tokens)
 
 -- the whole sentence
 unfoldable pub sentence_at : List Tok → Option TableText

@@ -42,8 +42,8 @@ abbrev pub is_name : Tok → Bool
 is_name token = is_some (name_of token)
 
 -- the tree, where a token passes
-abbrev pub given : {A : Type 0} → (test : Tok → Bool) → (tree : A) → Tok → Option A
-given test tree token = if test token then Some tree else None
+abbrev pub tree_if : {A : Type 0} → (test : Tok → Bool) → (tree : A) → Tok → Option A
+tree_if test tree token = if test token then Some tree else None
 
 -- the aggregate that a token names, in any case
 abbrev pub agg_of : Tok → Option Agg

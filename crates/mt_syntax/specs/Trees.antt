@@ -8,7 +8,6 @@ use Rattle.mt_syntax.specs.declared.tree.IndexKind.{IndexKind}
 use Rattle.mt_syntax.specs.declared.tree.Selected.{Selected}
 use Rattle.mt_syntax.specs.declared.tree.Element.{Element}
 use Rattle.mt_syntax.specs.declared.tree.Element.TheVariants as element
-use Rattle.mt_syntax.specs.declared.tree.PartitionText.{PartitionText}
 use Rattle.mt_syntax.specs.declared.tree.SettingValue.{SettingValue}
 use Rattle.mt_syntax.specs.declared.tree.SettingText.{SettingText}
 use Rattle.mt_syntax.specs.declared.tree.TableText.{TableText}
@@ -17,12 +16,12 @@ use Rattle.mt_syntax.specs.declared.clause.Clause.TheVariants as clause
 use Rattle.mt_syntax.specs.declared.clause.Clauses.{Clauses}
 
 -- a list with one element more at its front
-abbrev pub joined : {A : Type 0} → A × List A → List A
-joined x = x.0 ∷ x.1
+abbrev pub list_of : {A : Type 0} → A × List A → List A
+list_of x = x.0 ∷ x.1
 
 -- a list of one element
-abbrev pub alone : {A : Type 0} → A → List A
-alone x = x ∷ []
+abbrev pub singleton : {A : Type 0} → A → List A
+singleton x = x ∷ []
 
 -- a type of its word and its arguments
 abbrev pub type_of : List ℕ × Option (List TypeArg) → TypeText
@@ -74,8 +73,8 @@ is_column (element.Column name ty codecs) = true
 is_column _ = false
 
 -- what a name, elements, clauses and the names of ORDER BY say
-abbrev pub ordered : List ℕ → List Element → Clauses → List (List ℕ) → TableText
-ordered name elements clauses order = record {
+abbrev pub ordered_sentence : List ℕ → List Element → Clauses → List (List ℕ) → TableText
+ordered_sentence name elements clauses order = record {
   name = name;
   elements = elements;
   partition = unwrap_or clauses.partition [];
@@ -85,6 +84,6 @@ ordered name elements clauses order = record {
 }
 
 -- what a name, elements and clauses say, where there are a column and ORDER BY
-abbrev pub said : List ℕ × (List Element × Clauses) → Option TableText
-said x =
-    if list_any is_column x.1.0 then option_map (ordered x.0 x.1.0 x.1.1) x.1.1.order else None
+abbrev pub sentence_of : List ℕ × (List Element × Clauses) → Option TableText
+sentence_of x =
+    if list_any is_column x.1.0 then option_map (ordered_sentence x.0 x.1.0 x.1.1) x.1.1.order else None

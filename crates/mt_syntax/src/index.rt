@@ -6,7 +6,8 @@ ghost use Rattle.mt_syntax.specs.Reading.{granularity_at, index_at, kind_at};
 ghost use Rattle.mt_syntax.specs.Answers.{Gives};
 
 use crate::error::SyntaxError;
-use crate::token::{begins_with_word, fixed_word, keyword, name, number, sign};
+use crate::lookahead::begins_with_word;
+use crate::token::{fixed_word, keyword, name, number, sign};
 use crate::tree::{Element, IndexKind};
 use mt_tokens::{Sign, Token, after_keyword};
 use std::alloc::Global;

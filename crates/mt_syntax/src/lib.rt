@@ -3,13 +3,18 @@
 //! `read_table_text` gives the sentence that a text is by the grammar of docs/LANGUAGE.md, "Table text".
 #![tactic(auto)]
 
+mod body;
 mod clause;
+mod clauses;
 mod column;
 mod element;
 mod error;
 mod index;
+mod item;
 mod law;
 mod limits;
+mod lists;
+mod lookahead;
 mod names;
 mod partition;
 mod projection;

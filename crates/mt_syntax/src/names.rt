@@ -1,15 +1,15 @@
 //! Lists of names.
 
-ghost use Rattle.std.specs.Prelude.{◌≡◌, ◌∷◌, [], IfOk};
 ghost use Rattle.mt_tokens.specs.Tokens.{plains};
-ghost use Rattle.mt_syntax.specs.Readers.{closed};
+ghost use Rattle.mt_syntax.specs.Readers.{to_close};
 ghost use Rattle.mt_syntax.specs.Reading.{name_at, names_at, list_at, key_at};
 ghost use Rattle.mt_syntax.specs.Answers.{Gives};
 
 use crate::error::SyntaxError;
+use crate::lists::singleton;
 use crate::token::{name, sign};
 use mt_tokens::{Sign, Token, after_sign};
-use mt_types::{List, NoMemory};
+use mt_types::List;
 use std::alloc::Global;
 
 /// Names with commas between them.
@@ -38,7 +38,7 @@ fn closed_names<'a, 't>(
     alloc: Global,
     tokens: &'t [Token<'a>],
 ) -> Result<(List<List<u8>>, &'t [Token<'a>]), SyntaxError>
-    ensures { Gives (λ x. (x.0, plains x.1.now)) result (closed names_at (plains tokens.now)) }
+    ensures { Gives (λ x. (x.0, plains x.1.now)) result (to_close names_at (plains tokens.now)) }
 {
     let (names, rest) = names(alloc, tokens)?;
     let rest = sign(rest, Sign::Close)?;
@@ -69,16 +69,7 @@ pub(crate) fn key<'a, 't>(
         Some(inner) => closed_names(alloc, inner),
         None => {
             let (only, rest) = name(alloc, tokens)?;
-            Ok((alone(alloc, only)?, rest))
+            Ok((singleton(alloc, only)?, rest))
         }
     }
-}
-
-/// A list of one name.
-fn alone(alloc: Global, name: List<u8>) -> Result<List<List<u8>>, NoMemory>
-    ensures { IfOk result (λ names. names ≡ name ∷ []) }
-{
-    let mut names = List::new(alloc);
-    names.push(name)?;
-    Ok(names)
 }

@@ -1,16 +1,17 @@
 //! Partition keys.
 
-ghost use Rattle.std.specs.Prelude.{◌≡◌, ◌∷◌, [], IfOk};
 ghost use Rattle.mt_tokens.specs.Tokens.{plains};
-ghost use Rattle.mt_syntax.specs.Readers.{chain, closed};
+ghost use Rattle.mt_syntax.specs.Readers.{chain, to_close};
 ghost use Rattle.mt_syntax.specs.Reading.{expression_at, expressions_at};
 ghost use Rattle.mt_syntax.specs.Answers.{Gives};
 
 use crate::error::SyntaxError;
-use crate::token::{fixed_word, name, second_is_sign, sign};
+use crate::lists::singleton;
+use crate::lookahead::second_is_sign;
+use crate::token::{fixed_word, name, sign};
 use crate::tree::PartitionText;
 use mt_tokens::{Sign, Token, after_sign};
-use mt_types::{List, NoMemory};
+use mt_types::List;
 use std::alloc::Global;
 
 /// Expressions in parentheses, or one expression.
@@ -28,18 +29,9 @@ pub(crate) fn expressions<'a, 't>(
         }
         None => {
             let (only, rest) = expression(alloc, tokens)?;
-            Ok((alone(alloc, only)?, rest))
+            Ok((singleton(alloc, only)?, rest))
         }
     }
-}
-
-/// A list of one expression.
-fn alone(alloc: Global, expression: PartitionText) -> Result<List<PartitionText>, NoMemory>
-    ensures { IfOk result (λ expressions. expressions ≡ expression ∷ []) }
-{
-    let mut expressions = List::new(alloc);
-    expressions.push(expression)?;
-    Ok(expressions)
 }
 
 /// Expressions with commas between them.

@@ -1,19 +1,15 @@
 //! Single tokens of a sentence.
 
-ghost use Rattle.std.specs.Prelude.{◌≡◌};
-ghost use Rattle.mt_tokens.specs.Tokens.{plain, plains};
+ghost use Rattle.mt_tokens.specs.Tokens.{plains};
 ghost use Rattle.mt_tokens.specs.Splits.{after_if};
 ghost use Rattle.mt_tokens.specs.Words.{is_keyword, is_word, is_sign};
-ghost use Rattle.mt_syntax.specs.Phrases.{first_is, second_is};
 ghost use Rattle.mt_syntax.specs.Terminals.{is_text, is_name};
 ghost use Rattle.mt_syntax.specs.Reading.{name_at, word_at, number_at};
-ghost use Rattle.mt_syntax.specs.Terminals.{is_number};
 ghost use Rattle.mt_syntax.specs.Answers.{Gives};
 
 use crate::error::SyntaxError;
 use mt_tokens::{
-    Sign, Token, after_keyword, after_sign, after_word, is_keyword, is_sign, is_word, name_of,
-    number_of, split_first, split_name,
+    Sign, Token, after_keyword, after_sign, after_word, name_of, number_of, split_first, split_name,
 };
 use mt_types::List;
 use std::alloc::Global;
@@ -116,65 +112,5 @@ pub(crate) fn any_name<'a, 't>(tokens: &'t [Token<'a>]) -> Result<&'t [Token<'a>
     match name_of(first) {
         Some(_) => Ok(rest),
         None => Err(SyntaxError::Bad),
-    }
-}
-
-/// Whether the first token is this keyword.
-pub(crate) fn begins_with_keyword(tokens: &[Token<'_>], key: &[u8]) -> bool
-    ensures { result ≡ first_is (is_keyword key.now) (plains tokens.now) }
-{
-    match split_first(tokens) {
-        Some((first, _)) => is_keyword(first, key),
-        None => false,
-    }
-}
-
-/// Whether the first token is this word, as it is written.
-pub(crate) fn begins_with_word(tokens: &[Token<'_>], fixed: &[u8]) -> bool
-    ensures { result ≡ first_is (is_word fixed.now) (plains tokens.now) }
-{
-    match split_first(tokens) {
-        Some((first, _)) => is_word(first, fixed),
-        None => false,
-    }
-}
-
-/// Whether the first token is this sign.
-pub(crate) fn begins_with_sign(tokens: &[Token<'_>], sign: Sign) -> bool
-    ensures { result ≡ first_is (is_sign sign) (plains tokens.now) }
-{
-    match split_first(tokens) {
-        Some((first, _)) => is_sign(first, sign),
-        None => false,
-    }
-}
-
-/// Whether the first token is digits.
-pub(crate) fn begins_with_digits(tokens: &[Token<'_>]) -> bool
-    ensures { result ≡ first_is is_number (plains tokens.now) }
-{
-    match split_first(tokens) {
-        Some((Token::Digits(_), _)) => true,
-        _ => false,
-    }
-}
-
-/// Whether the second token is this keyword.
-pub(crate) fn second_is_keyword(tokens: &[Token<'_>], key: &[u8]) -> bool
-    ensures { result ≡ second_is (is_keyword key.now) (plains tokens.now) }
-{
-    match split_first(tokens) {
-        Some((_, rest)) => begins_with_keyword(rest, key),
-        None => false,
-    }
-}
-
-/// Whether the second token is this sign.
-pub(crate) fn second_is_sign(tokens: &[Token<'_>], sign: Sign) -> bool
-    ensures { result ≡ second_is (is_sign sign) (plains tokens.now) }
-{
-    match split_first(tokens) {
-        Some((_, rest)) => begins_with_sign(rest, sign),
-        None => false,
     }
 }

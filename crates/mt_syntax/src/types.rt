@@ -2,12 +2,13 @@
 
 ghost use Rattle.std.specs.Prelude.{suc};
 ghost use Rattle.mt_tokens.specs.Tokens.{plains};
-ghost use Rattle.mt_syntax.specs.Readers.{chain, closed};
+ghost use Rattle.mt_syntax.specs.Readers.{chain, to_close};
 ghost use Rattle.mt_syntax.specs.Reading.{arg_at, nested_at, type_at};
 ghost use Rattle.mt_syntax.specs.Answers.{Gives};
 
 use crate::error::SyntaxError;
-use crate::token::{begins_with_digits, number, sign, word};
+use crate::lookahead::begins_with_digits;
+use crate::token::{number, sign, word};
 use crate::tree::{TypeArg, TypeText};
 use mt_tokens::{Sign, Token, after_sign};
 use mt_types::List;
@@ -60,7 +61,7 @@ fn closed_args<'a, 't>(
     tokens: &'t [Token<'a>],
     depth: u8,
 ) -> Result<(List<TypeArg>, &'t [Token<'a>]), SyntaxError>
-    ensures { Gives (λ x. (x.0, plains x.1.now)) result (closed (chain (arg_at (type_at depth))) (plains tokens.now)) }
+    ensures { Gives (λ x. (x.0, plains x.1.now)) result (to_close (chain (arg_at (type_at depth))) (plains tokens.now)) }
 {
     let (args, rest) = args(alloc, tokens, depth)?;
     let rest = sign(rest, Sign::Close)?;

@@ -1,7 +1,7 @@
-use Rattle.std.proofs.Common.{sym, length}
+use Rattle.std.proofs.Common.{sym}
 use Rattle.std.proofs.lemmas.Result.{err_from_is_err_and}
 use Rattle.mt_tokens.specs.Tokens.{plains}
-use Rattle.mt_syntax.specs.Reading.{name_at, names_at}
+use Rattle.mt_syntax.specs.Reading.{name_at}
 use Rattle.mt_syntax.proofs.LoopLemmas.{goes_on, goes_wrong, goes_out, goes_no_more}
 use Rattle.mt_syntax.proofs.names.names.Goals as goal
 use Rattle.mt_syntax.proofs.names.names.Goals.{else-loop-test, then-loop-test+in_default}

@@ -1,6 +1,4 @@
-use Rattle.std.proofs.Common.{sym, ap, subst, ◌∙◌}
 use Rattle.mt_tokens.specs.Tokens.{plains}
-use Rattle.mt_syntax.specs.Reading.{sentence_at}
 use Rattle.mt_syntax.proofs.SentenceLaws.{sentence_is_found, sentence_is_only}
 use Rattle.mt_syntax.proofs.reading.read_table_text.Goals as goal
 

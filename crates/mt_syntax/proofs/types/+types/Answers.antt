@@ -1,4 +1,4 @@
-use Rattle.std.proofs.Common.{sym, length}
+use Rattle.std.proofs.Common.{sym}
 use Rattle.std.proofs.lemmas.Result.{err_from_is_err_and}
 use Rattle.mt_tokens.specs.Tokens.{plains}
 use Rattle.mt_syntax.specs.Reading.{arg_at, type_at}

@@ -2,8 +2,8 @@ use Rattle.std.proofs.Common.{sym, ◌∙◌}
 use Rattle.std.proofs.lemmas.Result.{err_from_is_err_and}
 use Rattle.mt_tokens.specs.Tokens.{plains}
 use Rattle.mt_syntax.proofs.ClauseLoop.{clauses_go_on, clause_is_wrong, clause_is_twice, clauses_run_out, no_clause_begins}
-use Rattle.mt_syntax.proofs.clause.read_clauses.Goals as goal
-use Rattle.mt_syntax.proofs.clause.read_clauses.Goals.{else-loop-test, then-loop-test+then-not-begins_with_clause}
+use Rattle.mt_syntax.proofs.clauses.read_clauses.Goals as goal
+use Rattle.mt_syntax.proofs.clauses.read_clauses.Goals.{else-loop-test, then-loop-test+then-not-begins_with_clause}
 
 pub returns-in_err-next : goal.returns-in_err-next
 returns-in_err-next c =

@@ -1,10 +1,10 @@
-use Rattle.std.proofs.Common.{sym, length}
+use Rattle.std.proofs.Common.{sym}
 use Rattle.std.proofs.lemmas.Result.{err_from_is_err_and}
 use Rattle.mt_tokens.specs.Tokens.{plains}
 use Rattle.mt_syntax.specs.Reading.{item_at}
 use Rattle.mt_syntax.proofs.LoopLemmas.{goes_on, goes_wrong, goes_out, goes_no_more}
-use Rattle.mt_syntax.proofs.projection.items.Goals as goal
-use Rattle.mt_syntax.proofs.projection.items.Goals.{else-loop-test, then-loop-test+in_default}
+use Rattle.mt_syntax.proofs.item.items.Goals as goal
+use Rattle.mt_syntax.proofs.item.items.Goals.{else-loop-test, then-loop-test+in_default}
 
 pub returns-in_err-next : goal.returns-in_err-next
 returns-in_err-next c =
