@@ -17,7 +17,7 @@ use Rattle.mt_syntax.specs.declared.tree.TypeText.{TypeText}
 use Rattle.mt_table.specs.declared.column.Column.{Column}
 use Rattle.mt_table.specs.declared.limits.TheConstants.{MAX_COLUMNS, MAX_KEY}
 use Rattle.mt_table.specs.ColumnTypes.{is_column_type, is_key_type, is_state_type, named_has}
-use Rattle.mt_table.specs.Formed.{has_one, is_formed_element}
+use Rattle.mt_syntax.specs.Formed.{has_one, is_formed_element}
 use Rattle.mt_table.specs.Kept.{is_column, keeps_columns, keeps_key, names_of}
 use Rattle.mt_table.specs.Names.{are_among, begins, names_differ}
 use Rattle.mt_table.specs.Projections.{is_key}

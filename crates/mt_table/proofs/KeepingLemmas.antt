@@ -1,12 +1,13 @@
 -- A sentence that was judged keeps the rules of a table.
-use Rattle.std.proofs.Common.{◌≡◌, ℕ, ◌≤◌, Bool, true, false, List, [], ◌∷◌, length, map, ap, sym, ◌∙◌, subst, refl}
-use Rattle.std.specs.Prelude.{◌&&◌, ◌-◌, ◌^◌, codes, if◌then◌else◌, nat_le, Option, Some, None}
-use Rattle.std.specs.List.{filter_map, list_all}
+use Rattle.std.proofs.Common.{◌≡◌, ℕ, ◌≤◌, Bool, true, false, List, [], ◌∷◌, length, map, ap, sym, ◌∙◌, subst, refl, arith}
+use Rattle.std.specs.Prelude.{◌&&◌, ◌-◌, ◌^◌, codes, if◌then◌else◌, nat_le, Option, Some, None, unwrap_or}
+use Rattle.std.specs.List.{filter_map, list_all, list_any}
 use Rattle.std.proofs.lemmas.Bool.{le-leb}
 use Rattle.std.proofs.lemmas.List.{length-map}
 use Rattle.mt_types.proofs.StepLemmas.{both_of, both_true}
 use Rattle.mt_tokens.specs.Words.{is_name}
 use Rattle.mt_syntax.specs.declared.tree.Element.{Element}
+use Rattle.mt_syntax.specs.declared.tree.Element.TheVariants as element
 use Rattle.mt_syntax.specs.declared.tree.SettingText.{SettingText}
 use Rattle.mt_syntax.specs.declared.tree.SettingValue.{SettingValue}
 use Rattle.mt_syntax.specs.declared.tree.SettingValue.TheVariants.{Number, Text, Word}
@@ -14,7 +15,8 @@ use Rattle.mt_syntax.specs.declared.tree.TableText.{TableText}
 use Rattle.mt_table.specs.declared.column.Column.{Column}
 use Rattle.mt_table.specs.declared.limits.TheConstants.{DEFAULT_GRANULE_BYTES, DEFAULT_GRANULE_ROWS, DEFAULT_WIDE_BYTES, DEFAULT_WIDE_ROWS, MAX_COLUMNS, MAX_GRANULE_BYTES, MAX_GRANULE_ROWS, MAX_KEY, MAX_PARTITION, MAX_PROJECTIONS, MAX_SKIPS}
 use Rattle.mt_table.specs.declared.settings.Settings.{Settings}
-use Rattle.mt_table.specs.Formed.{has_one, is_formed, is_formed_element}
+use Rattle.mt_syntax.specs.Formed.{has_one, has_one_given, is_formed, is_formed_element}
+use Rattle.mt_syntax.specs.Trees.{is_column}
 use Rattle.mt_table.specs.Kept.{keeps_columns, keeps_key, keeps_primary, keeps_rules, keeps_settings, names_of}
 use Rattle.mt_table.specs.Names.{are_among, are_apart, begins, names_differ}
 use Rattle.mt_table.specs.Projections.{is_key}
@@ -61,6 +63,18 @@ settings_kept texts settings e =
     same_some : (a b : Settings) → Some a ≡ Some b → a ≡ b
     same_some a b e = cc
 
+-- ---- what a sentence has
+
+has_column : (elements : List Element) → list_any is_column elements ≡ true → has_one (column_names elements) ≡ true
+has_column [] any = cc
+has_column (element.Column name ty codecs ∷ elements) any = le-leb 1 (length (name ∷ column_names elements)) (omega arith)
+has_column (element.Index name column kind granularity ∷ elements) any = has_column elements any
+has_column (element.Projection name items group order ∷ elements) any = has_column elements any
+
+primary_named : (primary : Option (List (List ℕ))) (order : List (List ℕ)) → has_one_given primary ≡ true → has_one order ≡ true → has_one (unwrap_or primary order) ≡ true
+primary_named None order given some = some
+primary_named (Some names) order given some = given
+
 -- ---- all of it
 
 pub rules_are_kept : (text : TableText) (columns : List Column) (settings : Settings) → is_formed text ≡ true
@@ -72,8 +86,8 @@ rules_are_kept text columns settings formed read own there keys partition indexe
     let are : names ≡ names_of columns = read_names text.elements columns read in
     let f_name = both_true (is_name text.name) _ formed in
     let f_elements = both_true (list_all is_formed_element text.elements) _ f_name.1 in
-    let f_columns = both_true (has_one names) _ f_elements.1 in
-    let f_keys = both_true (has_one text.order) (has_one (primary_names text)) f_columns.1 in
+    let f_columns = both_true (list_any is_column text.elements) _ f_elements.1 in
+    let f_keys = both_true (has_one_given text.primary) (has_one text.order) f_columns.1 in
     let o = both_true (names_differ names && names_differ (index_names text.elements)) _ own in
     let o_two = both_true (names_differ names) (names_differ (index_names text.elements)) o.0 in
     let o_rest = both_true (names_differ (projection_names text.elements)) (are_apart names (index_names text.elements)) o.1 in
@@ -89,9 +103,9 @@ rules_are_kept text columns settings formed read own there keys partition indexe
     let as_many : length text.order ≡ length (places_in names text.order) = sym (length-map text.order _) in
     let within : length (primary_names text) ≤ length (places_in names text.order) = subst (λ n. length (primary_names text) ≤ n) as_many (begins_within (primary_names text) text.order k.1) in
     both_of _ _ f_name.0
-    (both_of _ _ (columns_kept text.elements columns read are f_elements.0 f_columns.0 c.0 o_two.0)
-    (both_of _ _ (key_kept columns names text.order are k.0 t_keys.1 f_keys.0 c_keys.0)
-    (both_of _ _ (both_of _ _ f_keys.1 (le-leb _ _ within))
+    (both_of _ _ (columns_kept text.elements columns read are f_elements.0 (has_column text.elements f_columns.0) c.0 o_two.0)
+    (both_of _ _ (key_kept columns names text.order are k.0 t_keys.1 f_keys.1 c_keys.0)
+    (both_of _ _ (both_of _ _ (primary_named text.primary text.order f_keys.0 f_keys.1) (le-leb _ _ within))
     (both_of _ _ (partition_kept columns names text.partition are partition t_partition.0 c_keys.1)
     (both_of _ _ (skips_kept columns names text.elements are f_elements.0 indexes c_skips.0 o_two.1 o_rest.1)
     (both_of _ _ (projections_kept columns names text.elements are f_elements.0 t.0 forms c_small.0 c_projections.0 o_rest.0) (settings_kept text.settings settings setting)))))))

@@ -16,7 +16,7 @@ use Rattle.mt_table.specs.declared.column.Column.{Column}
 use Rattle.mt_table.specs.declared.limits.TheConstants.{MAX_GRANULARITY, MAX_PARTITION, MAX_SKIPS}
 use Rattle.mt_table.specs.declared.skip.Skip.{Skip}
 use Rattle.mt_table.specs.ColumnTypes.{is_date_type, is_key_type, named_has}
-use Rattle.mt_table.specs.Formed.{is_formed_element}
+use Rattle.mt_syntax.specs.Formed.{is_formed_element}
 use Rattle.mt_table.specs.Kept.{keeps_expression, keeps_kind, keeps_partition, keeps_skip, keeps_skips, month_place, names_of, plain_place, skip_names}
 use Rattle.mt_table.specs.Names.{are_among, are_apart, is_among, names_differ, places_differ}
 use Rattle.mt_table.specs.Rules.{expression_is_there, expression_of, is_expression, is_index, is_kind, is_partition, kind_of, skip_of}

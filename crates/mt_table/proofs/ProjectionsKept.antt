@@ -25,7 +25,7 @@ use Rattle.mt_table.specs.declared.projection.Aggregate.{Aggregate}
 use Rattle.mt_table.specs.declared.projection.Aggregate.TheVariants.{Count}
 use Rattle.mt_table.specs.declared.projection.Projection.{Projection}
 use Rattle.mt_table.specs.ColumnTypes.{is_integer_type, is_number_type}
-use Rattle.mt_table.specs.Formed.{has_one, has_one_given, is_formed_element}
+use Rattle.mt_syntax.specs.Formed.{has_one, has_one_given, is_formed_element}
 use Rattle.mt_table.specs.Kept as kept
 use Rattle.mt_table.specs.Kept.{is_one_of, is_place, keeps_aggregate, keeps_grouped, keeps_key, keeps_normal, keeps_projection, keeps_projections, max_place, min_place, name_of, names_of, sum_place}
 use Rattle.mt_table.specs.Names.{are_among, is_among, names_differ, places_differ}

@@ -1,7 +1,7 @@
 //! The rules behind the grammar, in order, and the table of a sentence that keeps them.
 
 ghost use Rattle.std.specs.Prelude.{◌≡◌, ◌≤◌, length, IfOk, IsTrue};
-ghost use Rattle.mt_table.specs.Formed.{is_formed};
+ghost use Rattle.mt_syntax.specs.Formed.{is_formed};
 ghost use Rattle.mt_table.specs.Kept.{keeps_rules};
 ghost use Rattle.mt_table.specs.NameSets.{listed};
 ghost use Rattle.mt_table.specs.Rules.{fields_of, fields_judged};

@@ -5,11 +5,12 @@ use Rattle.mt_syntax.specs.declared.error.SyntaxError.{SyntaxError}
 use Rattle.mt_syntax.specs.declared.error.SyntaxError.TheVariants as syntax
 use Rattle.mt_syntax.specs.Answers.{GivesSentence}
 use Rattle.mt_syntax.specs.Grammar.{IsTableText}
+use Rattle.mt_syntax.proofs.FormedLemmas.{text_is_formed}
 use Rattle.mt_table.proofs.ReadLemmas.{bad, bad_syntax, found, only, only_syntax}
 use Rattle.mt_table.proofs.definition.Table.read.Goals as goal
 
 pub judge-requires : goal.judge-requires
-judge-requires c = ?
+judge-requires c = text_is_formed c.args.text.now c.in-Ok.sentence c.in-Ok.ensures.found
 
 pub returns-in-Ok-clause-found : goal.returns-in-Ok-clause-found
 returns-in-Ok-clause-found c = found c.args.text.now c.in-Ok.sentence c.judge.result c.in-Ok.ensures.found c.judge.ensures
