@@ -7,3 +7,5 @@ pub mod ElementLaws
 pub mod ProjectionLaws
 pub mod ClauseLaws
 pub mod SentenceLaws
+pub mod PhrasesHold
+pub mod FormedLemmas

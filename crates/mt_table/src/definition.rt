@@ -1,16 +1,15 @@
 //! The definition of a table, and of one stored part of it.
 
-ghost use Rattle.std.specs.Prelude.{IfOk, Ok};
+ghost use Rattle.std.specs.Prelude.{IsTrue};
+ghost use Rattle.mt_table.specs.Fields.{fields};
+ghost use Rattle.mt_table.specs.Kept.{keeps_rules};
 
 use crate::column::Column;
-use crate::numbers::read_numbers;
 use crate::partition::PartExpr;
 use crate::projection::Projection;
 use crate::settings::Settings;
 use crate::skip::Skip;
-use crate::why::TableError;
 use mt_types::List;
-use std::alloc::Global;
 
 /// A MergeTree table. A `u32` names a column by its place in `columns`, from 0.
 #[derive(Debug, Drop)]
@@ -31,21 +30,7 @@ pub struct Table {
     pub projections: List<Projection>,
     /// What the layout depends on.
     pub settings: Settings,
-}
-
-impl Table {
-    ghost use Rattle.mt_table.specs.Form.{IsFormText, IsNumbersTable};
-    ghost use Rattle.mt_table.specs.Reading.{table_reading, GivesTable};
-
-    /// The table that a text of the two-column form defines. Any other text is `Bad(Syntax)`.
-    pub fn read(alloc: Global, text: &[u8]) -> Result<Table, TableError>
-        ensures reads { GivesTable result (table_reading text.now) }
-        ensures found { IfOk result (λ table. IsFormText text.now table) }
-        ensures only { (table : Table) → IsFormText text.now table → GivesTable result (Ok table) }
-        ensures form { IfOk result (λ table. IsNumbersTable table) }
-    {
-        read_numbers(alloc, text)
-    }
+    pub ghost rules: { IsTrue (keeps_rules (fields name columns partition sort primary skips projections settings)) },
 }
 
 /// What one folder stores: the base part of a table, or one of its projections.
@@ -57,44 +42,4 @@ pub struct PartDef {
     pub sort: List<u32>,
     /// How many columns of the sort key are the primary key.
     pub primary: u32,
-}
-
-#[cfg(test)]
-mod tests {
-    use super::*;
-    use crate::why::TableWhy;
-
-    const LINE: &[u8] = b"CREATE TABLE t (k UInt64, v UInt64) ENGINE = MergeTree ORDER BY v \
-        SETTINGS index_granularity = 2, min_bytes_for_wide_part = 0\n";
-
-    #[test]
-    fn the_worked_table_is_read(rt: HostRuntime) -> Result<(), TableError> {
-        let table = Table::read(rt.alloc(), LINE)?;
-        assert_eq!(rt; table.name.as_slice(), b"t".as_slice());
-        assert_eq!(rt; table.columns.len(), 2);
-        assert_eq!(rt; table.sort.as_slice(), [1u32].as_slice());
-        assert_eq!(rt; table.settings.granule_rows, 2);
-        Ok(())
-    }
-
-    #[test]
-    fn other_texts_are_refused(rt: HostRuntime) {
-        for text in [
-            b"".as_slice(),
-            b"CREATE TABLE t (k UInt64, k UInt64) ENGINE = MergeTree ORDER BY k \
-                SETTINGS min_bytes_for_wide_part = 0",
-            b"CREATE TABLE t (k UInt64, v UInt64) ENGINE = MergeTree ORDER BY z \
-                SETTINGS min_bytes_for_wide_part = 0",
-            b"CREATE TABLE t (k UInt64, v UInt64) ENGINE = MergeTree ORDER BY k \
-                SETTINGS index_granularity = 8193, min_bytes_for_wide_part = 0",
-            b"CREATE TABLE t (k UInt64, v UInt64) ENGINE = MergeTree ORDER BY k \
-                SETTINGS min_bytes_for_wide_part = 0\n\n",
-        ] {
-            let refused = matches!(
-                Table::read(rt.alloc(), text),
-                Err(TableError::Bad(TableWhy::Syntax))
-            );
-            assert!(rt; refused);
-        }
-    }
 }

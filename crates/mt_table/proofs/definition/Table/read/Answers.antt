@@ -1,11 +1,28 @@
-use Rattle.mt_table.proofs.FormLemmas.{found_at, form_at, only_at}
+use Rattle.std.proofs.Common.{◌≡◌, sym, subst}
+use Rattle.std.specs.Prelude.{Result, Ok, Err}
+use Rattle.mt_syntax.specs.declared.tree.TableText.{TableText}
+use Rattle.mt_syntax.specs.declared.error.SyntaxError.{SyntaxError}
+use Rattle.mt_syntax.specs.declared.error.SyntaxError.TheVariants as syntax
+use Rattle.mt_syntax.specs.Answers.{GivesSentence}
+use Rattle.mt_syntax.specs.Grammar.{IsTableText}
+use Rattle.mt_syntax.proofs.FormedLemmas.{text_is_formed}
+use Rattle.mt_table.proofs.ReadLemmas.{bad, bad_syntax, found, only, only_syntax}
 use Rattle.mt_table.proofs.definition.Table.read.Goals as goal
 
-pub returns-clause-found : goal.returns-clause-found
-returns-clause-found c = found_at c.args.text.now c.read_numbers.result c.read_numbers.ensures
+pub judge-requires : goal.judge-requires
+judge-requires c = text_is_formed c.args.text.now c.in-Ok.sentence c.in-Ok.ensures.found
 
-pub returns-clause-only : goal.returns-clause-only
-returns-clause-only c = only_at c.args.text.now c.read_numbers.result c.read_numbers.ensures
+pub returns-in-Ok-clause-found : goal.returns-in-Ok-clause-found
+returns-in-Ok-clause-found c = found c.args.text.now c.in-Ok.sentence c.judge.result c.in-Ok.ensures.found c.judge.ensures
 
-pub returns-clause-form : goal.returns-clause-form
-returns-clause-form c = form_at c.args.text.now c.read_numbers.result c.read_numbers.ensures
+pub returns-in-Ok-clause-bad : goal.returns-in-Ok-clause-bad
+returns-in-Ok-clause-bad c = bad c.args.text.now c.in-Ok.sentence c.judge.result c.in-Ok.ensures.found c.judge.ensures
+
+pub returns-in-Ok-clause-only : goal.returns-in-Ok-clause-only
+returns-in-Ok-clause-only c = only c.args.text.now c.in-Ok.sentence c.judge.result c.in-Ok.ensures.found c.in-Ok.ensures.only c.judge.ensures
+
+pub returns-in-Err-Bad-clause-bad : goal.returns-in-Err-Bad-clause-bad
+returns-in-Err-Bad-clause-bad c = bad_syntax c.args.text.now (λ sentence is. subst (λ error. GivesSentence (Err error) sentence) c.in-Err-Bad.field-0-is (c.in-Err-Bad.ensures.only sentence is))
+
+pub returns-in-Err-Bad-clause-only : goal.returns-in-Err-Bad-clause-only
+returns-in-Err-Bad-clause-only c = only_syntax c.args.text.now (λ sentence is. subst (λ error. GivesSentence (Err error) sentence) c.in-Err-Bad.field-0-is (c.in-Err-Bad.ensures.only sentence is))

@@ -1,0 +1,7 @@
+use Rattle.std.proofs.Common.{◌≡◌, map, take}
+use Rattle.std.specs.List.{range_with_len}
+use Rattle.mt_table.specs.NameSets.{listed}
+use Rattle.mt_table.proofs.names.Names.all_places.Given as goal
+
+abbrev pub invariant-loop-place : goal.invariant-loop-place
+invariant-loop-place l = l.places ≡ range_with_len 0 l.place

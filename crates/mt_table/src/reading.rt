@@ -1,0 +1,31 @@
+//! Reading a table text.
+
+ghost use Rattle.std.specs.Prelude.{◌≡◌, IfOk, Result};
+ghost use Rattle.mt_table.specs.declared.definition.Table.{Table};
+ghost use Rattle.mt_table.specs.declared.why.TableWhy.{TableWhy};
+ghost use Rattle.mt_table.specs.Tables.{Defines, GivesTable};
+
+use crate::definition::Table;
+use crate::judge::judge;
+use crate::why::{TableError, TableWhy};
+use mt_syntax::{SyntaxError, read_table_text};
+use std::alloc::Global;
+
+impl Table {
+    /// The table that a text defines (docs/LANGUAGE.md, "Table text"; ClickHouse: `ParserCreateTableQuery`,
+    /// `MergeTreeData::checkProperties`).
+    ///
+    /// # Errors
+    /// `Bad` with the first rule that the text breaks, in the order of `TableWhy`.
+    pub fn read(alloc: Global, text: &[u8]) -> Result<Table, TableError>
+        ensures found { IfOk result (λ table. Defines text.now (Ok table)) }
+        ensures bad { (why : TableWhy) → result ≡ Err (TableError.Bad why) → Defines text.now (Err why) }
+        ensures only { (answer : Result Table TableWhy) → Defines text.now answer → GivesTable result answer }
+    {
+        match read_table_text(alloc, text) {
+            Ok(sentence) => judge(alloc, &sentence),
+            Err(SyntaxError::Bad) => Err(TableError::Bad(TableWhy::Syntax)),
+            Err(SyntaxError::NoMemory) => Err(TableError::NoMemory),
+        }
+    }
+}
