@@ -7,20 +7,18 @@ ghost use Rattle.mt_meta.specs.PartitionKeys.{ArePartitionKeys};
 use crate::tables::{are_partition_keys, table_of};
 use mt_meta::{partition_files, same_partition};
 use mt_shelf::FileBytes;
-use mt_table::{PartExpr, Table};
+use mt_table::Table;
 use mt_tsv::read_rows;
 use mt_types::{List, Row};
 use std::alloc::Global;
 use std::test::Fail;
 
-/// A date, a text and a signed number.
-const COLUMNS: [(&str, &str); 3] = [("d", "Date"), ("s", "String"), ("n_1", "Int16")];
-
-/// A table of these columns, partitioned so.
-fn partitioned(alloc: Global, partition: &[PartExpr]) -> Result<Table, Fail>
+/// A table of a date, a text and a signed number, partitioned so.
+fn partitioned(alloc: Global, partition: &str) -> Result<Table, Fail>
     ensures { IfOk result (λ table. ArePartitionKeys table.columns table.partition) }
 {
-    let table = table_of(alloc, &COLUMNS, partition, &[0])?;
+    let columns = "CREATE TABLE t (d Date, s String, n_1 Int16) ENGINE = MergeTree ";
+    let table = table_of(alloc, &[columns, partition, " ORDER BY d"])?;
     if !are_partition_keys(table.columns.as_slice(), table.partition.as_slice()) {
         return Err(Fail::from("no partition key"));
     }
@@ -40,14 +38,14 @@ fn rows_of(alloc: Global, table: &Table, lines: &str) -> Result<List<Row>, Fail>
 }
 
 /// The files of the partition of some lines.
-fn files_of(alloc: Global, partition: &[PartExpr], lines: &str) -> Result<List<FileBytes>, Fail> {
+fn files_of(alloc: Global, partition: &str, lines: &str) -> Result<List<FileBytes>, Fail> {
     let table = partitioned(alloc, partition)?;
     let rows = rows_of(alloc, &table, lines)?;
     Ok(partition_files(alloc, &table, rows.as_slice())?)
 }
 
 /// Whether the first and the second of two lines are of one partition.
-fn is_one(alloc: Global, partition: &[PartExpr], lines: &str) -> Result<bool, Fail> {
+fn is_one(alloc: Global, partition: &str, lines: &str) -> Result<bool, Fail> {
     let table = partitioned(alloc, partition)?;
     let rows = rows_of(alloc, &table, lines)?;
     match rows.as_slice() {
@@ -67,7 +65,7 @@ fn are_files(files: &[FileBytes], want: &[(&str, &[u8])]) -> bool {
 #[test]
 fn a_month_has_its_files(rt: HostRuntime) -> Result<(), Fail> {
     let lines = "2024-01-31\t\t0\n2024-01-01\t\t0\n";
-    let files = files_of(rt.alloc(), &[PartExpr::Month(0)], lines)?;
+    let files = files_of(rt.alloc(), "PARTITION BY toYYYYMM(d)", lines)?;
     let want = [
         ("partition.dat", b"\xa1\x16\x03\0".as_slice()),
         ("minmax_d.idx", b"\x0b\x4d\x29\x4d".as_slice()),
@@ -78,14 +76,9 @@ fn a_month_has_its_files(rt: HostRuntime) -> Result<(), Fail> {
 
 #[test]
 fn columns_stand_where_they_are_first_used(rt: HostRuntime) -> Result<(), Fail> {
-    let key = [
-        PartExpr::Plain(2),
-        PartExpr::Month(0),
-        PartExpr::Plain(1),
-        PartExpr::Plain(0),
-    ];
+    let key = "PARTITION BY (n_1, toYYYYMM(d), s, d)";
     let lines = "1970-02-01\tb\t-2\n1970-01-02\ta\t5\n1970-03-02\tab\t-300\n";
-    let files = files_of(rt.alloc(), &key, lines)?;
+    let files = files_of(rt.alloc(), key, lines)?;
     let want = [
         (
             "partition.dat",
@@ -101,7 +94,7 @@ fn columns_stand_where_they_are_first_used(rt: HostRuntime) -> Result<(), Fail> 
 
 #[test]
 fn no_partition_key_has_no_file(rt: HostRuntime) -> Result<(), Fail> {
-    let files = files_of(rt.alloc(), &[], "1970-01-01\t\t0\n")?;
+    let files = files_of(rt.alloc(), "", "1970-01-01\t\t0\n")?;
     assert!(rt; files.is_empty());
     Ok(())
 }
@@ -109,42 +102,18 @@ fn no_partition_key_has_no_file(rt: HostRuntime) -> Result<(), Fail> {
 #[test]
 fn rows_are_of_one_partition_by_each_expression(rt: HostRuntime) -> Result<(), Fail> {
     let alloc = rt.alloc();
-    let month = [PartExpr::Month(0)];
-    let both = [PartExpr::Plain(2), PartExpr::Plain(1)];
-    let date = [PartExpr::Month(0), PartExpr::Plain(0)];
+    let month = "PARTITION BY toYYYYMM(d)";
+    let both = "PARTITION BY (n_1, s)";
+    let date = "PARTITION BY (toYYYYMM(d), d)";
     for (key, lines, one) in [
-        (
-            month.as_slice(),
-            "2024-01-31\t\t0\n2024-01-01\ta\t1\n",
-            true,
-        ),
-        (
-            month.as_slice(),
-            "2024-01-31\t\t0\n2024-02-01\t\t0\n",
-            false,
-        ),
-        (
-            month.as_slice(),
-            "2023-01-31\t\t0\n2024-01-31\t\t0\n",
-            false,
-        ),
-        (
-            both.as_slice(),
-            "2024-01-31\ta\t-1\n1970-01-01\ta\t-1\n",
-            true,
-        ),
-        (
-            both.as_slice(),
-            "1970-01-01\ta\t1\n1970-01-01\tb\t1\n",
-            false,
-        ),
-        (
-            both.as_slice(),
-            "1970-01-01\ta\t1\n1970-01-01\ta\t257\n",
-            false,
-        ),
-        (date.as_slice(), "2024-01-30\t\t0\n2024-01-31\t\t0\n", false),
-        ([].as_slice(), "2024-01-30\t\t0\n1970-01-01\ta\t1\n", true),
+        (month, "2024-01-31\t\t0\n2024-01-01\ta\t1\n", true),
+        (month, "2024-01-31\t\t0\n2024-02-01\t\t0\n", false),
+        (month, "2023-01-31\t\t0\n2024-01-31\t\t0\n", false),
+        (both, "2024-01-31\ta\t-1\n1970-01-01\ta\t-1\n", true),
+        (both, "1970-01-01\ta\t1\n1970-01-01\tb\t1\n", false),
+        (both, "1970-01-01\ta\t1\n1970-01-01\ta\t257\n", false),
+        (date, "2024-01-30\t\t0\n2024-01-31\t\t0\n", false),
+        ("", "2024-01-30\t\t0\n1970-01-01\ta\t1\n", true),
     ] {
         assert_eq!(rt; is_one(alloc, key, lines)?, one, "at {lines}");
     }

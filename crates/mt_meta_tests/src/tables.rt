@@ -7,7 +7,7 @@ ghost use Rattle.mt_item.specs.ItemTypes.{is_scalar};
 ghost use Rattle.mt_meta.specs.Keys.{AreKeys};
 ghost use Rattle.mt_meta.specs.PartitionKeys.{ArePartitionKeys, IsExpression};
 
-use mt_table::{Column, PartDef, PartExpr, Settings, Table};
+use mt_table::{Column, PartDef, PartExpr, Table};
 use mt_types::{List, Ty};
 use std::alloc::Global;
 use std::test::Fail;
@@ -24,28 +24,13 @@ pub fn columns_of(alloc: Global, columns: &[(&str, &str)]) -> Result<List<Column
     Ok(list)
 }
 
-/// A table of these columns, with this partition key, sorted by its first columns.
-pub fn table_of(
-    alloc: Global,
-    columns: &[(&str, &str)],
-    partition: &[PartExpr],
-    sort: &[u32],
-) -> Result<Table, Fail> {
-    Ok(Table {
-        name: List::of_bytes(alloc, b"t")?,
-        columns: columns_of(alloc, columns)?,
-        partition: List::of(Vec::from_slice(alloc, partition)?),
-        sort: List::of(Vec::from_slice(alloc, sort)?),
-        primary: 1,
-        skips: List::new(alloc),
-        projections: List::new(alloc),
-        settings: Settings {
-            granule_rows: 2,
-            granule_bytes: 10_485_760,
-            wide_bytes: 0,
-            wide_rows: 0,
-        },
-    })
+/// The table of a text that stands in pieces.
+pub fn table_of(alloc: Global, pieces: &[&str]) -> Result<Table, Fail> {
+    let mut text = List::new(alloc);
+    for piece in pieces {
+        text.append(piece.as_bytes())?;
+    }
+    Ok(Table::read(alloc, text.as_slice())?)
 }
 
 /// What the base part of a table stores.

@@ -1,52 +1,22 @@
-//! A table of three numbers a row with one projection, its rows, and stored rows.
+//! Tables of three numbers a row with one projection, their rows, and stored rows.
 
 ghost use Rattle.std.specs.Prelude.{◌≡◌, length, IfOk};
 
 use mt_proj::{project, stands_for};
-use mt_table::{Column, Projection, Settings, Table};
-use mt_types::{AggState, List, NoMemory, Row, Ty, Value, Width};
+use mt_table::Table;
+use mt_types::{AggState, List, NoMemory, Row, Value};
 use std::alloc::Global;
+use std::test::Fail;
 
-const SETTINGS: Settings = Settings {
-    granule_rows: 8192,
-    granule_bytes: 10_485_760,
-    wide_bytes: 0,
-    wide_rows: 0,
-};
-
-fn number_column(alloc: Global, name: &[u8]) -> Result<Column, NoMemory> {
-    let name = List::of_bytes(alloc, name)?;
-    let ty = Ty::Int(Width::W64);
-    Ok(Column { name, ty })
-}
-
-/// The columns `k`, `v` and `w`.
-fn columns(alloc: Global) -> Result<List<Column>, NoMemory> {
-    let mut columns = List::new(alloc);
-    for name in [b"k", b"v", b"w"] {
-        columns.push(number_column(alloc, name.as_slice())?)?;
-    }
-    Ok(columns)
-}
-
-/// The table, in the order of `k`.
-pub fn table_with(alloc: Global, projection: Projection) -> Result<Table, NoMemory>
+/// The table of a text with one projection.
+fn table_of(alloc: Global, text: &str) -> Result<Table, Fail>
     ensures { IfOk result (λ table. length table.projections ≡ 1) }
 {
-    let columns = columns(alloc)?;
-    let sort = List::of(Vec::from_slice(alloc, &[0])?);
-    let mut projections = List::new(alloc);
-    projections.push(projection)?;
-    Ok(Table {
-        name: List::new(alloc),
-        columns,
-        partition: List::new(alloc),
-        sort,
-        primary: 1,
-        skips: List::new(alloc),
-        projections,
-        settings: SETTINGS,
-    })
+    let table = Table::read(alloc, text.as_bytes())?;
+    if table.projections.len() != 1 {
+        return Err(Fail::from("another number of projections"));
+    }
+    Ok(table)
 }
 
 fn number_row(alloc: Global, numbers: &[i128]) -> Result<Row, NoMemory> {
@@ -81,24 +51,15 @@ pub fn state_row(
 }
 
 /// The rows that the writer stores of rows of numbers.
-pub fn projected(
-    alloc: Global,
-    projection: Projection,
-    rows: &[&[i128]],
-) -> Result<List<Row>, NoMemory> {
-    let table = table_with(alloc, projection)?;
+pub fn projected(alloc: Global, table: &str, rows: &[&[i128]]) -> Result<List<Row>, Fail> {
+    let table = table_of(alloc, table)?;
     let rows = number_rows(alloc, rows)?;
-    project(alloc, &table, 0, rows.as_slice())
+    Ok(project(alloc, &table, 0, rows.as_slice())?)
 }
 
 /// Whether stored rows stand for rows of numbers.
-pub fn stand(
-    alloc: Global,
-    projection: Projection,
-    rows: &[&[i128]],
-    stored: &[Row],
-) -> Result<bool, NoMemory> {
-    let table = table_with(alloc, projection)?;
+pub fn stand(alloc: Global, table: &str, rows: &[&[i128]], stored: &[Row]) -> Result<bool, Fail> {
+    let table = table_of(alloc, table)?;
     let rows = number_rows(alloc, rows)?;
-    stands_for(alloc, &table, 0, rows.as_slice(), stored)
+    Ok(stands_for(alloc, &table, 0, rows.as_slice(), stored)?)
 }
