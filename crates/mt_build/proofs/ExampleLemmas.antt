@@ -10,7 +10,7 @@ use Rattle.mt_types.specs.declared.value.Value.TheVariants.{Num, outs-Num}
 use Rattle.mt_types.specs.declared.value.Value.TheFolds.{fold_out-Value}
 use Rattle.mt_types.specs.Fits.{fits_of, num_at, is_unsigned}
 use Rattle.mt_table.specs.declared.limits.TheConstants.{MAX_CELLS}
-use Rattle.mt_table.specs.Form.{IsNumbersTable, is_name}
+use Rattle.mt_table.specs.Form.{IsNumbersTable}
 use Rattle.mt_table.specs.Rows.{element_count, element_count_step, cell_count}
 use Rattle.mt_defs.specs.Folder.{folder_of}
 use Rattle.mt_defs.specs.Rows.{Row, RowFits, key_cmp, ArePartRows}
@@ -27,17 +27,17 @@ names_differ : codes "k" ≡ codes "v" → ⊥
 names_differ e = let bad : 107 ≡ 118 = ap (λ name. get_or name 0 0) e in omega (arith, bad)
 
 is_form : IsNumbersTable table
-unfolding is_name
 is_form = record {
   first = codes "k";
   second = codes "v";
   place = 0;
   rows = 2;
+  bytes = 10485760;
+  rules = table.rules;
   first_name = refl;
   second_name = refl;
   differ = names_differ;
   in_columns = lit< tt;
-  granule_rows = record { some = lit≤ tt; within = lit≤ tt };
   is = refl;
 }
 

@@ -16,7 +16,8 @@ use Rattle.mt_types.specs.Fits.{fits_of}
 use Rattle.mt_shelf.specs.declared.file.FileBytes.{FileBytes}
 use Rattle.mt_table.specs.declared.column.Column.{Column}
 use Rattle.mt_table.specs.declared.definition.Table.{Table}
-use Rattle.mt_table.specs.Form.{IsNumbersTable, numbers_table}
+use Rattle.mt_table.specs.Form.{IsNumbersTable, numbers_fields, numbers_table}
+use Rattle.mt_table.specs.Kept.{keeps_rules}
 use Rattle.mt_defs.specs.Rows.{Row, RowFits, cell}
 use Rattle.mt_defs.specs.Sorting.{sorted_by}
 use Rattle.mt_defs.specs.Granules.{granule_rows}
@@ -84,12 +85,12 @@ none_less n =
 no_more : (files : List FileBytes) → files ++ [] ++ [] ++ [] ≡ files
 no_more files = simp append-nil
 
-pub numbers_folder : (name first second : List ℕ) (place count : ℕ) (rows : List Row)
-    → let table = numbers_table name first second place count in
+pub numbers_folder : (name first second : List ℕ) (place count bytes : ℕ) (rules : IsTrue (keeps_rules (numbers_fields name first second place count bytes))) (rows : List Row)
+    → let table = numbers_table name first second place count bytes rules in
     let granules = written_granules table.settings table.columns rows in
     written_folder table rows ≡ sorted_by file_cmp (text_files table rows granules ++ wide_files table.columns rows granules)
-numbers_folder name first second place count rows =
-    let table = numbers_table name first second place count in
+numbers_folder name first second place count bytes rules rows =
+    let table = numbers_table name first second place count bytes rules in
     let granules = written_granules table.settings table.columns rows in
     let wide : is_small table.settings table.columns rows ≡ false = ap (λ b. b || nat_lt (length rows) 0) (none_less (payload_size table.columns rows)) ∙ none_less (length rows) in
     ap (λ b. sorted_by file_cmp (files_with (base_of table) rows granules b ++ [] ++ [] ++ [])) wide
@@ -100,7 +101,7 @@ pub folder_is : (table : Table) (rows : List Row) → IsNumbersTable table
     → written_folder table rows ≡ sorted_by file_cmp (text_files table rows (written_granules table.settings table.columns rows) ++ wide_files table.columns rows (written_granules table.settings table.columns rows))
 folder_is table rows form =
     subst (λ t. written_folder t rows ≡ sorted_by file_cmp (text_files t rows (written_granules t.settings t.columns rows) ++ wide_files t.columns rows (written_granules t.settings t.columns rows)))
-    (sym form.is) (numbers_folder table.name form.first form.second form.place form.rows rows)
+    (sym form.is) (numbers_folder table.name form.first form.second form.place form.rows form.bytes form.rules rows)
 
 -- what `build` puts in order is what the definition puts in order
 pub folder_files : (table : Table) (rows : List Row) (columns : List Column) (some same : List ℕ) (none texts files : List FileBytes) → IsNumbersTable table → columns ≡ table.columns

@@ -15,7 +15,8 @@ use Rattle.mt_shelf.specs.declared.file.FileBytes.{FileBytes}
 use Rattle.mt_table.specs.declared.column.Column.{Column}
 use Rattle.mt_table.specs.declared.definition.Table.{Table}
 use Rattle.mt_table.specs.declared.limits.TheConstants.{MAX_ROWS}
-use Rattle.mt_table.specs.Form.{IsNumbersTable, numbers_table, uint64_column}
+use Rattle.mt_table.specs.Form.{IsNumbersTable, numbers_fields, numbers_table, uint64_column}
+use Rattle.mt_table.specs.Kept.{keeps_rules}
 use Rattle.mt_defs.specs.Folder.{Folder, is_name, folder_of}
 use Rattle.mt_defs.specs.Rows.{Row, RowFits, cell, key_of}
 use Rattle.mt_defs.specs.Granules.{AreGranules}
@@ -219,18 +220,18 @@ contents_of table rows granules = record {
   second_marks = marks_at 1 rows granules;
 }
 
-files_are : (name first second : List ℕ) (place count : ℕ) (rows : List Row) (granules : List ℕ) → Word first → Word second
-    → let table = numbers_table name first second place count in text_files table rows granules ++ wide_files table.columns rows granules ≡ seven first second (contents_of table rows granules)
-files_are name first second place count rows granules one two =
-    let texts : List FileBytes = text_files (numbers_table name first second place count) rows granules in
+files_are : (name first second : List ℕ) (place count bytes : ℕ) (rules : IsTrue (keeps_rules (numbers_fields name first second place count bytes))) (rows : List Row) (granules : List ℕ) → Word first → Word second
+    → let table = numbers_table name first second place count bytes rules in text_files table rows granules ++ wide_files table.columns rows granules ≡ seven first second (contents_of table rows granules)
+files_are name first second place count bytes rules rows granules one two =
+    let texts : List FileBytes = text_files (numbers_table name first second place count bytes rules) rows granules in
     ap (λ files. texts ++ (files ++ (wide_column rows granules (1, uint64_column second) ++ []))) (column_files_are 0 first rows granules one)
     ∙ ap (λ files. texts ++ (stream_files granules first (payloads_at 0 rows granules) ++ (files ++ []))) (column_files_are 1 second rows granules two)
 
 -- the names of the seven files may stand below a part
-names_known : (name first second : List ℕ) (place count : ℕ) (c : Contents) (folder : Folder) (sought : List ℕ) → Word first → Word second → is_compact folder ≡ false
-    → Contains (map (λ f. f.name) (seven first second c)) sought → Contains (known_names (numbers_table name first second place count) folder) sought
-names_known name first second place count c folder sought one two wide among =
-    let table : Table = numbers_table name first second place count in
+names_known : (name first second : List ℕ) (place count bytes : ℕ) (rules : IsTrue (keeps_rules (numbers_fields name first second place count bytes))) (c : Contents) (folder : Folder) (sought : List ℕ) → Word first → Word second → is_compact folder ≡ false
+    → Contains (map (λ f. f.name) (seven first second c)) sought → Contains (known_names (numbers_table name first second place count bytes rules) folder) sought
+names_known name first second place count bytes rules c folder sought one two wide among =
+    let table : Table = numbers_table name first second place count bytes rules in
     let P : List (List ℕ) → Type 0 = λ names. Contains ((columns_name ∷ count_name ∷ index_name ∷ (names ++ side_names)) ++ [] ++ [] ++ []) sought in
     let Q : List (List ℕ) → List (List ℕ) → Type 0 = λ some others. P (flat_map (λ stream. data_name stream ∷ marks_name stream ∷ []) some ++ (flat_map (λ stream. data_name stream ∷ marks_name stream ∷ []) others ++ [])) in
     let literal : Q (first ∷ []) (second ∷ []) = Contains-append_left (map (λ f. f.name) (seven first second c)) side_names sought among in
@@ -238,13 +239,13 @@ names_known name first second place count c folder sought one two wide among =
     subst (λ names. Q names (stream_names (uint64_column second))) (sym (stream_name first one)) (subst (Q (first ∷ [])) (sym (stream_name second two)) literal) in
     subst (λ compact. P (if compact then compact_data_name ∷ compact_marks_name ∷ [] else flat_map wide_names (both first second))) (sym wide) streams
 
-numbers_stand : (name first second : List ℕ) (place count : ℕ) (rows : List Row) (folder : Folder) → Word first → Word second
-    → let table = numbers_table name first second place count in
+numbers_stand : (name first second : List ℕ) (place count bytes : ℕ) (rules : IsTrue (keeps_rules (numbers_fields name first second place count bytes))) (rows : List Row) (folder : Folder) → Word first → Word second
+    → let table = numbers_table name first second place count bytes rules in
     let granules = written_granules table.settings table.columns rows in
     let c = contents_of table rows granules in
     Found first second c folder → ((sought : List ℕ) → IsSome (folder sought) → Contains (map (λ f. f.name) (seven first second c)) sought) → IsWritable table rows → StandsFor table folder rows
-numbers_stand name first second place count rows folder one two found listed writable =
-    let table : Table = numbers_table name first second place count in
+numbers_stand name first second place count bytes rules rows folder one two found listed writable =
+    let table : Table = numbers_table name first second place count bytes rules in
     let granules = written_granules table.settings table.columns rows in
     let cut : AreGranules granules rows = granules_hold table.settings table.columns rows in
     let limit : MAX_ROWS < 2 ^ 64 = lit< tt in
@@ -273,24 +274,24 @@ numbers_stand name first second place count rows folder one two found listed wri
       partition = record { values = found.no_partition; minmax = All-nil (HasMinmax table rows folder) };
       skips = All-nil _;
       projections = All-nil _;
-      known = λ sought there. names_known name first second place count (contents_of table rows granules) folder sought one two not_compact (listed sought there);
+      known = λ sought there. names_known name first second place count bytes rules (contents_of table rows granules) folder sought one two not_compact (listed sought there);
     }
 
-numbers_case : (name first second : List ℕ) (place count : ℕ) (rows : List Row) → Word first → Word second → first ≢ second
-    → let table = numbers_table name first second place count in IsWritable table rows → StandsFor table (folder_of (written_folder table rows)) rows
-numbers_case name first second place count rows one two differ writable =
-    let table : Table = numbers_table name first second place count in
+numbers_case : (name first second : List ℕ) (place count bytes : ℕ) (rules : IsTrue (keeps_rules (numbers_fields name first second place count bytes))) (rows : List Row) → Word first → Word second → first ≢ second
+    → let table = numbers_table name first second place count bytes rules in IsWritable table rows → StandsFor table (folder_of (written_folder table rows)) rows
+numbers_case name first second place count bytes rules rows one two differ writable =
+    let table : Table = numbers_table name first second place count bytes rules in
     let granules = written_granules table.settings table.columns rows in
     let c : Contents = contents_of table rows granules in
     let files = seven first second c in
     let same : folder_of (written_folder table rows) ≡ folder_of files =
-    ap folder_of (numbers_folder name first second place count rows ∙ ap (sorted_by file_cmp) (files_are name first second place count rows granules one two))
+    ap folder_of (numbers_folder name first second place count rows ∙ ap (sorted_by file_cmp) (files_are name first second place count bytes rules rows granules one two))
     ∙ sorted_folder file_cmp files (seven_apart first second c differ) in
     subst (λ folder. StandsFor table folder rows) (sym same)
-    (numbers_stand name first second place count rows (folder_of files) one two (seven_found first second c differ) (λ sought there. found_is_listed files sought there) writable)
+    (numbers_stand name first second place count bytes rules rows (folder_of files) one two (seven_found first second c differ) (λ sought there. found_is_listed files sought there) writable)
 
 -- the writer's folder of writable rows stands for these rows
 pub written_stands : (table : Table) (rows : List Row) → IsNumbersTable table → IsWritable table rows → StandsFor table (folder_of (written_folder table rows)) rows
 written_stands table rows is =
     subst (λ t. IsWritable t rows → StandsFor t (folder_of (written_folder t rows)) rows) (sym is.is)
-    (numbers_case table.name is.first is.second is.place is.rows rows (word_of is.first is.first_name) (word_of is.second is.second_name) is.differ)
+    (numbers_case table.name is.first is.second is.place is.rows is.bytes is.rules rows (word_of is.first is.first_name) (word_of is.second is.second_name) is.differ)

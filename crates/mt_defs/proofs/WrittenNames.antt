@@ -20,7 +20,11 @@ use Rattle.mt_shelf.specs.Paths as paths
 use Rattle.mt_table.specs.declared.column.Column.{Column}
 use Rattle.mt_table.specs.declared.definition.Table.{Table}
 use Rattle.mt_table.specs.declared.definition.PartDef.{PartDef}
-use Rattle.mt_table.specs.Form.{IsNumbersTable, is_name, is_name_byte, is_lower, is_digit, begins_lower, uint64_column, numbers_table}
+use Rattle.std.specs.Char.{is_ascii_digit}
+use Rattle.mt_tokens.specs.Bytes.{is_word_start, is_word_byte as is_name_byte}
+use Rattle.mt_tokens.specs.Words.{is_name, is_word_text}
+use Rattle.mt_table.specs.Form.{IsNumbersTable, uint64_column, numbers_fields, numbers_table}
+use Rattle.mt_table.specs.Kept.{keeps_rules}
 use Rattle.mt_defs.specs.Rows.{Row}
 use Rattle.mt_defs.specs.FileNames.{file_name, escaped_byte, is_word_byte, stream_names, stream_suffixes, suffix_step}
 use Rattle.mt_defs.specs.Metadata.{columns_name, count_name}
@@ -90,10 +94,11 @@ named name bytes plain starts =
 
 -- ---- names of columns
 
-third_of : (a b c : Bool) → ((a || b) || c) ≡ true → a ≡ false → b ≡ false → c ≡ true
-third_of true b c e p q = cc
-third_of false true c e p q = cc
-third_of false false c e p q = e
+fourth_of : (a b c d : Bool) → (((a || b) || c) || d) ≡ true → a ≡ false → b ≡ false → c ≡ false → d ≡ true
+fourth_of true b c d e p q r = cc
+fourth_of false true c d e p q r = cc
+fourth_of false false true d e p q r = cc
+fourth_of false false false d e p q r = e
 
 pub record InRange (low high c : ℕ) : Type 0 where
   pub above : low ≤ c
@@ -106,15 +111,17 @@ range_of low high c e =
 
 name_byte_range : (c : ℕ) → is_name_byte c ≡ true → InRange 48 122 c
 name_byte_range c e =
-    elim (cases_Bool (is_lower c)) [
-      | inl low ↦ let r = range_of 97 122 c low in record { above = omega (arith, r.above); below = r.below }
-      | inr not_low ↦
-          elim (cases_Bool (is_digit c)) [
-            | inl digit ↦ let r = range_of 48 57 c digit in record { above = r.above; below = omega (arith, r.below) }
-            | inr not_digit ↦
-                let is = eqb-true c 95 (third_of (is_lower c) (is_digit c) (eqb c 95) e not_low not_digit) in
-                record { above = omega (arith, is); below = omega (arith, is) }
-          ]
+    elim (cases_Bool (leb 65 c && leb c 90)) [
+      | inl is_upper ↦ let r = range_of 65 90 c is_upper in record { above = omega (arith, r.above); below = omega (arith, r.below) }
+      | inr not_upper ↦ elim (cases_Bool (leb 97 c && leb c 122)) [
+        | inl is_lower ↦ let r = range_of 97 122 c is_lower in record { above = omega (arith, r.above); below = r.below }
+        | inr not_lower ↦ elim (cases_Bool (eqb c 95)) [
+          | inl is_line ↦ let is = eqb-true c 95 is_line in record { above = omega (arith, is); below = omega (arith, is) }
+          | inr not_line ↦
+              let r = range_of 48 57 c (fourth_of (leb 65 c && leb c 90) (leb 97 c && leb c 122) (eqb c 95) (leb 48 c && leb c 57) e not_upper not_lower not_line) in
+              record { above = r.above; below = omega (arith, r.below) }
+        ]
+      ]
     ]
 
 name_byte_plain : (c : ℕ) → is_name_byte c ≡ true → is_plain c ≡ true
@@ -123,7 +130,7 @@ name_byte_plain c e =
     and_from (ltb c 128) _ (lt-ltb c 128 (omega (arith, r.below)))
     (and_from (not (eqb c 0)) (not (eqb c 47)) (ap not (ne_eqb c 0 (λ is. omega (arith, is, r.above)))) (ap not (ne_eqb c 47 (λ is. omega (arith, is, r.above)))))
 
-word_byte : (digit upper line low : Bool) → ((low || digit) || line) ≡ true → (((digit || upper) || line) || low) ≡ true
+word_byte : (digit upper line low : Bool) → (((upper || low) || line) || digit) ≡ true → (((digit || upper) || line) || low) ≡ true
 word_byte true upper line low e = refl
 word_byte false true line low e = refl
 word_byte false false true low e = refl
@@ -131,7 +138,7 @@ word_byte false false false true e = refl
 word_byte false false false false e = cc
 
 name_byte_word : (c : ℕ) → is_name_byte c ≡ true → is_word_byte c ≡ true
-name_byte_word c e = word_byte (is_digit c) (leb 65 c && leb c 90) (eqb c 95) (is_lower c) e
+name_byte_word c e = word_byte (leb 48 c && leb c 57) (leb 65 c && leb c 90) (eqb c 95) (leb 97 c && leb c 122) e
 
 -- a name's bytes stand for themselves in names of files
 same_name : (name : List ℕ) → list_all is_name_byte name ≡ true → file_name name ≡ name
@@ -147,20 +154,42 @@ bytes_plain (c ∷ name) e =
     let both = and_parts (is_name_byte c) (list_all is_name_byte name) e in
     and_from (is_plain c) (list_all is_plain name) (name_byte_plain c both.0) (bytes_plain name both.1)
 
-starts : (name ending : List ℕ) → begins_lower name ≡ true → starts_plain (name ++ ending) ≡ true
+-- a letter or _ stands first
+abbrev pub begins_word : List ℕ → Bool
+begins_word [] = false
+begins_word (c ∷ rest) = is_word_start c
+
+third_of : (a b c : Bool) → ((a || b) || c) ≡ true → a ≡ false → b ≡ false → c ≡ true
+third_of true b c e p q = cc
+third_of false true c e p q = cc
+third_of false false c e p q = e
+
+start_range : (c : ℕ) → is_word_start c ≡ true → InRange 65 122 c
+start_range c e =
+    elim (cases_Bool (leb 65 c && leb c 90)) [
+      | inl is_upper ↦ let r = range_of 65 90 c is_upper in record { above = r.above; below = omega (arith, r.below) }
+      | inr not_upper ↦ elim (cases_Bool (leb 97 c && leb c 122)) [
+        | inl is_lower ↦ let r = range_of 97 122 c is_lower in record { above = omega (arith, r.above); below = r.below }
+        | inr not_lower ↦ let is = eqb-true c 95 (third_of (leb 65 c && leb c 90) (leb 97 c && leb c 122) (eqb c 95) e not_upper not_lower) in record { above = omega (arith, is); below = omega (arith, is) }
+      ]
+    ]
+
+starts : (name ending : List ℕ) → begins_word name ≡ true → starts_plain (name ++ ending) ≡ true
 starts [] ending e = cc
-starts (c ∷ name) ending e = let r = range_of 97 122 c e in ap not (ne_eqb c 46 (λ is. omega (arith, is, r.above)))
+starts (c ∷ name) ending e = let r = start_range c e in ap not (ne_eqb c 46 (λ is. omega (arith, is, r.above)))
 
 pub record Word (name : List ℕ) : Type 0 where
-  pub begins : begins_lower name ≡ true
+  pub begins : begins_word name ≡ true
   pub bytes : list_all is_name_byte name ≡ true
 
+word_text : (name : List ℕ) → is_word_text name ≡ true → Word name
+word_text [] e = cc
+word_text (c ∷ rest) e =
+    let both = and_parts (is_word_start c) (list_all is_name_byte rest) e in
+    record { begins = both.0; bytes = and_from (is_name_byte c) (list_all is_name_byte rest) (ap (λ b. b || is_ascii_digit c) both.0) both.1 }
+
 pub word_of : (name : List ℕ) → IsTrue (is_name name) → Word name
-unfolding is_name
-word_of name e =
-    let outer = and_parts (begins_lower name) _ e in
-    let inner = and_parts (list_all is_name_byte name) _ outer.1 in
-    record { begins = outer.0; bytes = inner.0 }
+word_of name e = word_text name (and_parts (is_word_text name) _ e).0
 
 with_ending : (name ending bytes : List ℕ) → Word name → list_all is_plain ending ≡ true → HasName (file (name ++ ending) bytes)
 with_ending name ending bytes word plain =
@@ -208,9 +237,9 @@ files_named : (definition : PartDef) (rows : List Row) (granules : List ℕ) (co
 files_named definition rows granules compact wide =
     (named columns_name _ refl refl, (named count_name _ refl refl, (named index_name _ refl refl, data_named definition.columns rows granules compact wide)))
 
-numbers_named : (name first second : List ℕ) (place granule_rows : ℕ) (rows : List Row) → Word first → Word second → All HasName (written_folder (numbers_table name first second place granule_rows) rows)
-numbers_named name first second place granule_rows rows one two =
-    let table : Table = numbers_table name first second place granule_rows in
+numbers_named : (name first second : List ℕ) (place granule_rows granule_bytes : ℕ) (rules : IsTrue (keeps_rules (numbers_fields name first second place granule_rows granule_bytes))) (rows : List Row) → Word first → Word second → All HasName (written_folder (numbers_table name first second place granule_rows granule_bytes rules) rows)
+numbers_named name first second place granule_rows granule_bytes rules rows one two =
+    let table : Table = numbers_table name first second place granule_rows granule_bytes rules in
     let granules : List ℕ = written_granules table.settings (base_of table).columns rows in
     let files : List FileBytes = definition_files table.settings (base_of table) rows in
     let each : AllNamed files = files_named (base_of table) rows granules (is_small table.settings (base_of table).columns rows) (columns_named first second one two rows granules) in
@@ -220,4 +249,4 @@ numbers_named name first second place granule_rows rows one two =
 -- each file of the written folder has a relative name in UTF-8
 pub written_names : (table : Table) (rows : List Row) → IsNumbersTable table → All HasName (written_folder table rows)
 written_names table rows is =
-    subst (λ t. All HasName (written_folder t rows)) (sym is.is) (numbers_named table.name is.first is.second is.place is.rows rows (word_of is.first is.first_name) (word_of is.second is.second_name))
+    subst (λ t. All HasName (written_folder t rows)) (sym is.is) (numbers_named table.name is.first is.second is.place is.rows is.bytes is.rules rows (word_of is.first is.first_name) (word_of is.second is.second_name))

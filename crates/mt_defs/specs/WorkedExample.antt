@@ -1,5 +1,6 @@
 -- A worked example: three rows of two UInt64 columns, and the seven files that the writer makes of them (docs/FORMAT.md, "An example").
 use Rattle.std.specs.Prelude.{ℕ, ◌+◌, pos, List, [], ◌∷◌, ◌++◌, codes, replicate}
+use Rattle.std.proofs.Common.{inl, refl}
 use Rattle.mt_types.specs.declared.ty.Ty.TheVariants.{UInt}
 use Rattle.mt_types.specs.declared.ty.Width.TheVariants.{W64}
 use Rattle.mt_types.specs.declared.value.Value.TheVariants.{Num}
@@ -7,6 +8,7 @@ use Rattle.mt_shelf.specs.declared.file.FileBytes.{FileBytes}
 use Rattle.mt_table.specs.declared.column.Column.{Column}
 use Rattle.mt_table.specs.declared.settings.Settings.{Settings}
 use Rattle.mt_table.specs.declared.definition.Table.{Table}
+use Rattle.mt_table.proofs.NumbersKept.{numbers_keep}
 use Rattle.mt_defs.specs.Rows.{Row}
 use Rattle.mt_defs.specs.WrittenColumns.{file}
 
@@ -29,6 +31,7 @@ table = record {
   skips = [];
   projections = [];
   settings = settings;
+  rules = numbers_keep (codes "t") (codes "k") (codes "v") 0 2 10485760 refl refl refl refl (inl refl) refl;
 }
 
 -- a row of two numbers

@@ -12,3 +12,6 @@ pub mod ReadLemmas
 pub mod ColumnsKept
 pub mod PartitionKept
 pub mod ProjectionsKept
+pub mod TextReadingLemmas
+pub mod FormLemmas
+pub mod NumbersKept

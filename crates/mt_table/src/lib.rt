@@ -9,6 +9,7 @@ mod columns;
 mod counts;
 mod definition;
 mod expressions;
+mod form;
 mod forms;
 mod indexes;
 mod judge;

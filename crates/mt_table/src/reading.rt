@@ -4,6 +4,7 @@ ghost use Rattle.std.specs.Prelude.{◌≡◌, IfOk, Result};
 ghost use Rattle.mt_table.specs.declared.definition.Table.{Table};
 ghost use Rattle.mt_table.specs.declared.why.TableWhy.{TableWhy};
 ghost use Rattle.mt_table.specs.Tables.{Defines, GivesTable};
+ghost use Rattle.mt_table.specs.TextReading.{table_reading};
 
 use crate::definition::Table;
 use crate::judge::judge;
@@ -21,6 +22,9 @@ impl Table {
         ensures found { IfOk result (λ table. Defines text.now (Ok table)) }
         ensures bad { (why : TableWhy) → result ≡ Err (TableError.Bad why) → Defines text.now (Err why) }
         ensures only { (answer : Result Table TableWhy) → Defines text.now answer → GivesTable result answer }
+
+        // The same by the function that reads texts.
+        ensures reads { GivesTable result (table_reading text.now) }
     {
         match read_table_text(alloc, text) {
             Ok(sentence) => judge(alloc, &sentence),

@@ -6,6 +6,8 @@ use Rattle.mt_syntax.specs.declared.error.SyntaxError.TheVariants as syntax
 use Rattle.mt_syntax.specs.Answers.{GivesSentence}
 use Rattle.mt_syntax.specs.Grammar.{IsTableText}
 use Rattle.mt_syntax.proofs.FormedLemmas.{text_is_formed}
+use Rattle.mt_table.specs.TextReading.{table_reading}
+use Rattle.mt_table.proofs.TextReadingLemmas.{reading_defines}
 use Rattle.mt_table.proofs.ReadLemmas.{bad, bad_syntax, found, only, only_syntax}
 use Rattle.mt_table.proofs.definition.Table.read.Goals as goal
 
@@ -26,3 +28,11 @@ returns-in-Err-Bad-clause-bad c = bad_syntax c.args.text.now (λ sentence is. su
 
 pub returns-in-Err-Bad-clause-only : goal.returns-in-Err-Bad-clause-only
 returns-in-Err-Bad-clause-only c = only_syntax c.args.text.now (λ sentence is. subst (λ error. GivesSentence (Err error) sentence) c.in-Err-Bad.field-0-is (c.in-Err-Bad.ensures.only sentence is))
+
+pub returns-in-Ok-clause-reads : goal.returns-in-Ok-clause-reads
+returns-in-Ok-clause-reads c =
+    only c.args.text.now c.in-Ok.sentence c.judge.result c.in-Ok.ensures.found c.in-Ok.ensures.only c.judge.ensures (table_reading c.args.text.now) (reading_defines c.args.text.now)
+
+pub returns-in-Err-Bad-clause-reads : goal.returns-in-Err-Bad-clause-reads
+returns-in-Err-Bad-clause-reads c =
+    only_syntax c.args.text.now (λ sentence is. subst (λ error. GivesSentence (Err error) sentence) c.in-Err-Bad.field-0-is (c.in-Err-Bad.ensures.only sentence is)) (table_reading c.args.text.now) (reading_defines c.args.text.now)
