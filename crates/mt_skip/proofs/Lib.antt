@@ -5,3 +5,4 @@ pub mod ReadLemmas
 pub mod PermutationLemmas
 pub mod ListingLemmas
 pub mod LawLemmas
+pub mod EntriesLemmas

@@ -15,4 +15,4 @@ mod seen;
 
 pub use agreement::agrees;
 pub use groups::entries;
-pub use law::{entries_without_a_value_disagree, written_entries_agree};
+pub use law::{entries_without_a_value_disagree, written_entries_agree, written_entry_agrees};
