@@ -68,7 +68,7 @@ joined_fit f values fit = ap (list_all f) (flat_map-map (λ elements. elements) 
 abbrev IsEncoded : Ty → List Value → Type 0
 IsEncoded t values = EncodesAs t values (written_streams t values)
 
-single_encodes : (t : Ty) (level : Ty-F Ty) → out-Ty t ≡ level → IsSingleLevel level → EncodesAs t ≡ EncodesItems (item_bytes t)
+pub single_encodes : (t : Ty) (level : Ty-F Ty) → out-Ty t ≡ level → IsSingleLevel level → EncodesAs t ≡ EncodesItems (item_bytes t)
 single_encodes t level is single = at_level level is single
   where
     same : (level : Ty-F Ty) → out-Ty t ≡ level → EncodesItems (item_bytes (roll-Ty level)) ≡ EncodesItems (item_bytes t)

@@ -1,3 +1,13 @@
 pub mod RunLemmas
 pub mod WrittenLemmas
 pub mod EncodedLemmas
+pub mod LoopLemmas
+pub mod StreamLemmas
+pub mod CursorLemmas
+pub mod NullLemmas
+pub mod ArrayLemmas
+pub mod ColumnLemmas
+pub mod ExactLemmas
+pub mod TypeLemmas
+pub mod DecodedLemmas
+pub mod UnderNullLemmas

@@ -181,7 +181,7 @@ pub nullable_single : (t : Ty) → is_profile (Nullable t) ≡ true → IsSingle
 nullable_single t profile = single_at t (out-Ty t) refl (nullable_level t profile)
 
 -- a type with one substream has items
-level_items : (t : Ty) (level : Ty-F Ty) → is_profile t ≡ true → IsSingleLevel level → has_items_at t level ≡ true
+pub level_items : (t : Ty) (level : Ty-F Ty) → is_profile t ≡ true → IsSingleLevel level → has_items_at t level ≡ true
 level_items t (Ty-F.Nullable u) profile single = absurd single
 level_items t (Ty-F.Array u) profile single = absurd single
 level_items t (Ty-F.UInt w) profile single = refl

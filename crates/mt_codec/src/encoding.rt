@@ -20,8 +20,17 @@ pub fn encode(alloc: Global, ty: &Ty, values: &[Value]) -> Result<List<List<u8>>
     requires fit { IsTrue (list_all (fits_of ty.now) values.now) }
     ensures { IfOk result (λ streams. streams ≡ written_streams ty.now values.now) }
 {
+    encode_runs(alloc, ty, &[values])
+}
+
+/// The same of values that stand in several runs, one run after another. No value is copied.
+pub fn encode_runs(alloc: Global, ty: &Ty, runs: &[&[Value]]) -> Result<List<List<u8>>, NoMemory>
+    requires profile { IsTrue (is_profile ty.now) }
+    requires fit { IsTrue (list_all (fits_of ty.now) (values_of runs.now)) }
+    ensures { IfOk result (λ streams. streams ≡ written_streams ty.now (values_of runs.now)) }
+{
     let mut streams = List::new(alloc);
-    append_streams(alloc, ty, &[values], &mut streams)?;
+    append_streams(alloc, ty, runs, &mut streams)?;
     Ok(streams)
 }
 

@@ -1,15 +1,25 @@
 //! The serialization of columns: the values of a type as substreams of bytes.
 //!
-//! `encode` gives exactly the writer's substreams.
+//! `encode` gives exactly the writer's substreams of values. `decode` and `decode_front` give the values
+//! that any substreams serialize, or the first fault: its substream, its item and what is wrong.
 #![tactic(auto)]
 
+mod arrays;
+mod decoding;
 mod encoding;
+mod fault;
+mod items;
 mod law;
+mod nulls;
 mod stream;
-#[cfg(test)]
-mod tests;
+mod streams;
 
-pub use encoding::encode;
-pub use law::written_streams_encode_their_values;
+pub use decoding::{decode, decode_front};
+pub use encoding::{encode, encode_runs};
+pub use fault::CodecError;
+pub use law::{
+    first_values_are_unique, serializations_differ_only_under_null, written_streams_are_decoded,
+    written_streams_are_decoded_in_front, written_streams_encode_their_values,
+};
 pub use mt_item::CodecWhy;
 pub use stream::{Stream, streams_of};

@@ -99,8 +99,8 @@ fn read_u32(bytes: &[u8]) -> Option<(u64, &[u8])>
     }
 }
 
-/// The little-endian number of 64 bits.
-pub(crate) fn read_u64(bytes: &[u8]) -> Option<(u64, &[u8])>
+/// The little-endian number of 64 bits at the start, and what follows it.
+pub fn read_u64(bytes: &[u8]) -> Option<(u64, &[u8])>
     ensures first { GivesFirst result (whole_front w64 bytes.now) }
     ensures bound { IfSome result (λ read. read.0 < 2 ^ 64) }
 {

@@ -5,3 +5,4 @@ pub mod TokenLemmas
 pub mod WrittenTokens
 pub mod ReadTokens
 pub mod LongestTokens
+pub mod NameLemmas

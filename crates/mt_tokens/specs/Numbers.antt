@@ -6,5 +6,6 @@ use Rattle.std.specs.Str.Parse.{digits_value}
 -- the number of one or more digits, if it is below 2^64
 unfoldable pub number_of : List ℕ → Option ℕ
 number_of digits =
-    if nat_lt 0 (length digits) && all_ascii_digits digits && nat_lt (digits_value 10 digits) (2 ^ 64)
-    then Some (digits_value 10 digits) else None
+    let number = digits_value 10 digits in
+    if nat_lt 0 (length digits) && all_ascii_digits digits && nat_lt number (2 ^ 64)
+    then Some number else None

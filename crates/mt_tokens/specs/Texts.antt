@@ -25,7 +25,8 @@ plus count None = None
 plus count (Some len) = Some (count + len)
 
 unfoldable mutual
-  -- how many bytes stand before the quote that ends a text; none where an escape is bad or no quote ends it
+  -- how many bytes stand before the quote that ends a text; none where an escape is bad, or no
+  -- quote ends it
   pub text_len : List ℕ → Option ℕ
   text_len [] = None
   text_len (c ∷ rest) =

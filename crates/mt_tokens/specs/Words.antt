@@ -1,5 +1,5 @@
 -- What a token is in a sentence: docs/LANGUAGE.md, "Tokens".
-use Rattle.std.specs.Prelude.{ℕ, List, [], ◌∷◌, length, map, Option, Some, None, Bool, false, nat_le, ◌&&◌, ◌==◌, if◌then◌else◌}
+use Rattle.std.specs.Prelude.{◌≡◌, ℕ, List, [], ◌∷◌, length, map, Option, Some, None, Bool, true, false, nat_le, ◌&&◌, ◌==◌, if◌then◌else◌}
 use Rattle.std.specs.List.{list_all}
 use Rattle.std.specs.Str.{bytes_eq}
 use Rattle.std.specs.Char.{to_ascii_lowercase}
@@ -23,6 +23,10 @@ abbrev pub name_of : Tok → Option (List ℕ)
 name_of (Word word) = if nat_le (length word) MAX_NAME then Some word else None
 name_of (Quoted name) = Some name
 name_of _ = None
+
+-- if a token is a name, that is a word of 1 to 64 bytes
+abbrev pub NamesWord : Tok → Type 0
+NamesWord token = (name : List ℕ) → name_of token ≡ Some name → is_name name ≡ true
 
 -- two texts differ in case alone
 abbrev pub is_same_in_any_case : List ℕ → List ℕ → Bool

@@ -45,11 +45,15 @@ IsSign LessEqual bytes = bytes ≡ codes "<="
 IsSign Greater bytes = bytes ≡ codes ">"
 IsSign GreaterEqual bytes = bytes ≡ codes ">="
 
+-- bytes with a quote of this kind before and behind them
+abbrev pub between : (quote : ℕ) → List ℕ → List ℕ
+between quote inside = quote ∷ (inside ++ quote ∷ [])
+
 -- the bytes are this token
 abbrev pub IsWritten : Tok → List ℕ → Type 0
 IsWritten (Word word) bytes = (is_word_text word ≡ true) × (bytes ≡ word)
-IsWritten (Quoted name) bytes = (is_name name ≡ true) × (bytes ≡ BACKQUOTE ∷ (name ++ BACKQUOTE ∷ []))
-IsWritten (Text text) bytes = (is_quotable text ≡ true) × (bytes ≡ QUOTE ∷ (text ++ QUOTE ∷ []))
+IsWritten (Quoted name) bytes = (is_name name ≡ true) × (bytes ≡ between BACKQUOTE name)
+IsWritten (Text text) bytes = (is_quotable text ≡ true) × (bytes ≡ between QUOTE text)
 IsWritten (Digits digits) bytes = (is_digit_text digits ≡ true) × (bytes ≡ digits)
 IsWritten (OfSign sign) bytes = IsSign sign bytes
 
@@ -58,4 +62,5 @@ pub record IsLongest (text : List ℕ) (token : Tok) (rest : List ℕ) : Type 0 
   pub bytes : List ℕ
   pub is_written : IsWritten token bytes
   pub begins : text ≡ bytes ++ rest
-  pub longest : (other : Tok) (others after : List ℕ) → IsWritten other others → text ≡ others ++ after → length others ≤ length bytes
+  pub longest : (other : Tok) (others after : List ℕ) → IsWritten other others
+      → text ≡ others ++ after → length others ≤ length bytes

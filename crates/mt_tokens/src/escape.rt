@@ -77,8 +77,10 @@ fn run_len(bytes: &[u8]) -> usize
 
 /// The bytes before the first backslash, and what stands from it on.
 fn split_run(bytes: &[u8]) -> (&[u8], &[u8])
-    ensures run { result.0.now ≡ take (prefix_len (λ c. not (c == BACKSLASH)) bytes.now) bytes.now }
-    ensures rest { result.1.now ≡ drop (prefix_len (λ c. not (c == BACKSLASH)) bytes.now) bytes.now }
+    ensures run { let count = prefix_len (λ c. not (c == BACKSLASH)) bytes.now in
+        result.0.now ≡ take count bytes.now }
+    ensures rest { let count = prefix_len (λ c. not (c == BACKSLASH)) bytes.now in
+        result.1.now ≡ drop count bytes.now }
 {
     bytes.split_at(run_len(bytes))
 }

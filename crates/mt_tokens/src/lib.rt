@@ -22,7 +22,7 @@ pub use digits::number_of;
 pub use error::TokenError;
 pub use escape::unescaped;
 pub use keyword::{is_keyword, is_sign, is_word, name_of};
-pub use law::the_longest_token_is_read;
+pub use law::{names_are_words, the_longest_token_is_read};
 pub use limits::MAX_NAME;
 pub use reading::read_tokens;
 pub use sign::Sign;

@@ -10,7 +10,7 @@ use crate::token::Token;
 use mt_types::List;
 use std::alloc::Global;
 
-/// The tokens of a text: the longest at each place, with blanks between them and round them or none.
+/// The tokens of a text: the longest at each place, with or without blanks between and round them.
 ///
 /// # Errors
 /// `Bad` exactly where the text is no list of tokens: somewhere stands a byte that begins none, an

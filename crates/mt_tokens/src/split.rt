@@ -20,7 +20,8 @@ pub fn split_first<'a, 't>(tokens: &'t [Token<'a>]) -> Option<(Token<'a>, &'t [T
 
 /// What follows the keyword, if the tokens begin with it.
 pub fn after_keyword<'a, 't>(tokens: &'t [Token<'a>], key: &[u8]) -> Option<&'t [Token<'a>]>
-    ensures { option_map (λ rest. plains rest.now) result ≡ after_keyword key.now (plains tokens.now) }
+    ensures { option_map (λ rest. plains rest.now) result
+        ≡ after_keyword key.now (plains tokens.now) }
 {
     let (first, rest) = split_first(tokens)?;
     if is_keyword(first, key) {
@@ -32,7 +33,8 @@ pub fn after_keyword<'a, 't>(tokens: &'t [Token<'a>], key: &[u8]) -> Option<&'t 
 
 /// What follows the word, as it is written, if the tokens begin with it.
 pub fn after_word<'a, 't>(tokens: &'t [Token<'a>], fixed: &[u8]) -> Option<&'t [Token<'a>]>
-    ensures { option_map (λ rest. plains rest.now) result ≡ after_word fixed.now (plains tokens.now) }
+    ensures { option_map (λ rest. plains rest.now) result
+        ≡ after_word fixed.now (plains tokens.now) }
 {
     let (first, rest) = split_first(tokens)?;
     if is_word(first, fixed) {

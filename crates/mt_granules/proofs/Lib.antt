@@ -1,0 +1,4 @@
+pub mod CellLemmas
+pub mod DataFileLemmas
+pub mod NumberedLemmas
+pub mod GranuleLemmas

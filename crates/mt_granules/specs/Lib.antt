@@ -1,0 +1,2 @@
+pub mod CellColumns
+pub mod DataFiles

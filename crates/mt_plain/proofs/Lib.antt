@@ -1,0 +1,9 @@
+pub mod NumberLemmas
+pub mod ItemLemmas
+pub mod GranuleLemmas
+pub mod FrameLemmas
+pub mod ColumnLemmas
+pub mod IndexLemmas
+pub mod TextLemmas
+pub mod OrderLemmas
+pub mod FolderLemmas
