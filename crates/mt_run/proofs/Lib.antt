@@ -2,3 +2,4 @@ pub mod Reported
 pub mod WriteLemmas
 pub mod FolderLemmas
 pub mod Completeness
+mod PartitionLemmas

@@ -8,7 +8,7 @@ use Rattle.mt_shelf.specs.Causes.{Rose}
 use Rattle.mt_run.specs.Notes.{Noted, IsReported, line_of}
 use Rattle.mt_run.specs.Plans.{Plan, World, Meets, Leaves, CausedBy, Performs, Gains, PrintsPrefix, Answers, refusal_of}
 use Rattle.mt_run.specs.declared.status.Status.{Status}
-use Rattle.mt_run.specs.declared.status.Status.TheVariants.{Done, BadWords, NoTable, BadTable, Exists, NoRows, BadRows, TooMuch, SourceFault, ShelfFault, SinkFault, NoMemory}
+use Rattle.mt_run.specs.declared.status.Status.TheVariants.{Done, BadWords, NoTable, BadTable, Exists, NoRows, BadRows, ManyPartitions, TooMuch, SourceFault, ShelfFault, SinkFault, NoMemory}
 
 -- nothing is a prefix of every text
 pub grew_by_nothing : (known now : Option (List ℕ)) (text : List ℕ) → now ≡ known → GrowsByPrefix text known now
@@ -43,6 +43,7 @@ left_of_memory plan old new (BadTable why) refused cause left = (inr left.0, pri
 left_of_memory plan old new Exists refused cause left = (inr left.0, printed_nothing plan old new left.1)
 left_of_memory plan old new NoRows refused cause left = (inr left.0, printed_nothing plan old new left.1)
 left_of_memory plan old new (BadRows line why) refused cause left = (inr left.0, printed_nothing plan old new left.1)
+left_of_memory plan old new (ManyPartitions line) refused cause left = (inr left.0, printed_nothing plan old new left.1)
 left_of_memory plan old new (TooMuch what limit) refused cause left = (inr left.0, printed_nothing plan old new left.1)
 
 answers_memory : (refusal : Option Status) → Answers refusal NoMemory
@@ -95,6 +96,7 @@ noted_whole (BadTable why) old new before now refused is = (whole_prefix _ old n
 noted_whole Exists old new before now refused is = (whole_prefix _ old new is, inr is)
 noted_whole NoRows old new before now refused is = (whole_prefix _ old new is, inr is)
 noted_whole (BadRows line why) old new before now refused is = (whole_prefix _ old new is, inr is)
+noted_whole (ManyPartitions line) old new before now refused is = (whole_prefix _ old new is, inr is)
 noted_whole (TooMuch what limit) old new before now refused is = (whole_prefix _ old new is, inr is)
 noted_whole SourceFault old new before now refused is = (whole_prefix _ old new is, inr is)
 noted_whole ShelfFault old new before now refused is = (whole_prefix _ old new is, inr is)
@@ -110,6 +112,7 @@ noted_prefix (BadTable why) old new before now refused rose prefix = (prefix, in
 noted_prefix Exists old new before now refused rose prefix = (prefix, inl rose)
 noted_prefix NoRows old new before now refused rose prefix = (prefix, inl rose)
 noted_prefix (BadRows line why) old new before now refused rose prefix = (prefix, inl rose)
+noted_prefix (ManyPartitions line) old new before now refused rose prefix = (prefix, inl rose)
 noted_prefix (TooMuch what limit) old new before now refused rose prefix = (prefix, inl rose)
 noted_prefix SourceFault old new before now refused rose prefix = (prefix, inl rose)
 noted_prefix ShelfFault old new before now refused rose prefix = (prefix, inl rose)

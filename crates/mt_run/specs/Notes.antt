@@ -10,7 +10,7 @@ use Rattle.mt_tsv.specs.declared.fault.RowWhy.TheVariants as row
 use Rattle.mt_run.specs.declared.status.What.{What}
 use Rattle.mt_run.specs.declared.status.What.TheVariants as what
 use Rattle.mt_run.specs.declared.status.Status.{Status}
-use Rattle.mt_run.specs.declared.status.Status.TheVariants.{Done, BadWords, NoTable, BadTable, Exists, NoRows, BadRows, TooMuch, SourceFault, ShelfFault, SinkFault, NoMemory}
+use Rattle.mt_run.specs.declared.status.Status.TheVariants.{Done, BadWords, NoTable, BadTable, Exists, NoRows, BadRows, ManyPartitions, TooMuch, SourceFault, ShelfFault, SinkFault, NoMemory}
 
 -- the rule of a table text, by its variant's name
 abbrev pub table_why_name : TableWhy → List ℕ
@@ -55,6 +55,7 @@ line_of (BadTable why) = codes "mtpart: bad table: " ++ table_why_name why ++ co
 line_of Exists = codes "mtpart: target exists\n"
 line_of NoRows = codes "mtpart: no rows\n"
 line_of (BadRows line why) = codes "mtpart: line " ++ decimal line ++ codes ": " ++ row_why_name why ++ codes "\n"
+line_of (ManyPartitions line) = codes "mtpart: line " ++ decimal line ++ codes ": another partition\n"
 line_of (TooMuch what limit) = codes "mtpart: too much: " ++ what_name what ++ codes " above " ++ decimal limit ++ codes "\n"
 line_of SourceFault = codes "mtpart: input failed\n"
 line_of ShelfFault = codes "mtpart: shelf failed\n"

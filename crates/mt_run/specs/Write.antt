@@ -13,6 +13,7 @@ use Rattle.mt_defs.specs.Sorting.{sorted_rows}
 use Rattle.mt_defs.specs.Writer.{written_folder}
 use Rattle.mt_run.specs.Status.{◌>>=◌, refused_by, status_of_rows}
 use Rattle.mt_run.specs.Plans.{Plan}
+use Rattle.mt_run.specs.Partitions.{one_partition}
 use Rattle.mt_run.specs.declared.limits.TheConstants.{MAX_TABLE_TEXT, MAX_INPUT, MAX_FOLDER}
 use Rattle.mt_run.specs.declared.status.What.TheVariants as what
 use Rattle.mt_run.specs.declared.status.Status.{Status}
@@ -63,10 +64,11 @@ folder_bytes folder = sum_by (λ file. length file.bytes) folder
 abbrev pub within_limit : List FileBytes → Result (List FileBytes) Status
 within_limit folder = if nat_lt MAX_FOLDER (folder_bytes folder) then Err (TooMuch what.Part MAX_FOLDER) else Ok folder
 
--- the writer's folder of the rows of a text, in key order
+-- the writer's folder of the rows of a text, which are of one partition, in key order
 unfoldable pub folder_of : Table → List ℕ → Result (List FileBytes) Status
 folder_of table text = do
   rows ← rows_of table text
+  _ ← one_partition table rows
   within_limit (written_folder table (sorted_rows table.sort rows))
 
 -- the folder of the input's rows

@@ -10,6 +10,7 @@ ghost use Rattle.mt_run.specs.Steps.{StepCausedBy, of_nothing};
 ghost use Rattle.mt_run.specs.Write.{rows_of, folder_bytes, folder_of};
 
 use crate::limits::MAX_FOLDER;
+use crate::partition::one_partition;
 use crate::status::{Status, What, status_of_rows};
 use mt_build::{build, sort_rows};
 use mt_shelf::{FileBytes, Gate};
@@ -86,6 +87,7 @@ pub(crate) fn folder_of<R: Threads + Sync, G: Gate + Sync>(
     ensures cause { StepCausedBy result of_nothing of_nothing }
 {
     let rows = rows_of(alloc, table, text)?;
+    one_partition(table, rows.as_slice())?;
     let Ok(folder) = written_folder(rt, alloc, table, rows, workers, gate) else {
         return Err(Status::NoMemory);
     };

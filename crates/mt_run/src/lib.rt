@@ -7,6 +7,7 @@ mod folder;
 mod input;
 mod limits;
 mod note;
+mod partition;
 mod status;
 mod table;
 mod top;

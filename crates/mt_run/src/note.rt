@@ -83,6 +83,16 @@ fn bad_rows_line(alloc: Global, number: u64, why: RowWhy) -> Result<List<u8>, No
     Ok(line)
 }
 
+fn other_partition_line(alloc: Global, number: u64) -> Result<List<u8>, NoMemory>
+    ensures { IfOk result (λ line. line
+        ≡ codes "mtpart: line " ++ decimal number ++ codes ": another partition\n") }
+{
+    let mut line = List::of_bytes(alloc, b"mtpart: line ")?;
+    append_decimal(&mut line, number)?;
+    line.append(b": another partition\n")?;
+    Ok(line)
+}
+
 fn too_much_line(alloc: Global, what: What, limit: u64) -> Result<List<u8>, NoMemory>
     ensures { IfOk result (λ line. line
         ≡ codes "mtpart: too much: " ++ what_name what ++ codes " above " ++ decimal limit ++ codes "\n") }
@@ -107,6 +117,7 @@ pub(crate) fn line_of(alloc: Global, status: &Status) -> Result<List<u8>, NoMemo
         Status::Exists => List::of_bytes(alloc, b"mtpart: target exists\n"),
         Status::NoRows => List::of_bytes(alloc, b"mtpart: no rows\n"),
         Status::BadRows { line, why } => bad_rows_line(alloc, *line, *why),
+        Status::ManyPartitions { line } => other_partition_line(alloc, *line),
         Status::TooMuch { what, limit } => too_much_line(alloc, *what, *limit),
         Status::SourceFault => List::of_bytes(alloc, b"mtpart: input failed\n"),
         Status::ShelfFault => List::of_bytes(alloc, b"mtpart: shelf failed\n"),

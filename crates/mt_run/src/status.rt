@@ -43,6 +43,11 @@ pub enum Status {
         /// What is wrong with it.
         why: RowWhy,
     },
+    /// A line has another partition value than the first line.
+    ManyPartitions {
+        /// The first such line, from 1.
+        line: u64,
+    },
     /// A quantity passes its limit.
     TooMuch {
         /// The quantity.
