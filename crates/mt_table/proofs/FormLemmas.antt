@@ -111,13 +111,13 @@ numbers_form table e =
     let primary : table.primary ≡ 1 = only_one one.0 table.primary (subst (λ sort. (1 ≤ table.primary) × (table.primary ≤ length sort)) one.1 bounds) in
     let layout = wide table.settings ((Decides-eqb table.settings.wide_bytes 0).0 settings.0) ((Decides-eqb table.settings.wide_rows 0).0 settings.1) in
     let same : f ≡ numbers_fields table.name two.first two.second one.0 table.settings.granule_rows table.settings.granule_bytes =
-      ap (λ x. fields table.name x table.partition table.sort table.primary table.skips table.projections table.settings) two.are
-      ∙ ap (λ x. fields table.name (uint64_column two.first ∷ uint64_column two.second ∷ []) x table.sort table.primary table.skips table.projections table.settings) (no_element table.partition none.0)
-      ∙ ap (λ x. fields table.name (uint64_column two.first ∷ uint64_column two.second ∷ []) [] x table.primary table.skips table.projections table.settings) one.1
-      ∙ ap (λ x. fields table.name (uint64_column two.first ∷ uint64_column two.second ∷ []) [] (one.0 ∷ []) x table.skips table.projections table.settings) primary
-      ∙ ap (λ x. fields table.name (uint64_column two.first ∷ uint64_column two.second ∷ []) [] (one.0 ∷ []) 1 x table.projections table.settings) (no_element table.skips none_two.0)
-      ∙ ap (λ x. fields table.name (uint64_column two.first ∷ uint64_column two.second ∷ []) [] (one.0 ∷ []) 1 [] x table.settings) (no_element table.projections none_two.1)
-      ∙ ap (λ x. fields table.name (uint64_column two.first ∷ uint64_column two.second ∷ []) [] (one.0 ∷ []) 1 [] [] x) layout in
+    ap (λ x. fields table.name x table.partition table.sort table.primary table.skips table.projections table.settings) two.are
+    ∙ ap (λ x. fields table.name (uint64_column two.first ∷ uint64_column two.second ∷ []) x table.sort table.primary table.skips table.projections table.settings) (no_element table.partition none.0)
+    ∙ ap (λ x. fields table.name (uint64_column two.first ∷ uint64_column two.second ∷ []) [] x table.primary table.skips table.projections table.settings) one.1
+    ∙ ap (λ x. fields table.name (uint64_column two.first ∷ uint64_column two.second ∷ []) [] (one.0 ∷ []) x table.skips table.projections table.settings) primary
+    ∙ ap (λ x. fields table.name (uint64_column two.first ∷ uint64_column two.second ∷ []) [] (one.0 ∷ []) 1 x table.projections table.settings) (no_element table.skips none_two.0)
+    ∙ ap (λ x. fields table.name (uint64_column two.first ∷ uint64_column two.second ∷ []) [] (one.0 ∷ []) 1 [] x table.settings) (no_element table.projections none_two.1)
+    ∙ ap (λ x. fields table.name (uint64_column two.first ∷ uint64_column two.second ∷ []) [] (one.0 ∷ []) 1 [] [] x) layout in
     let rules : keeps_rules (numbers_fields table.name two.first two.second one.0 table.settings.granule_rows table.settings.granule_bytes) ≡ true = ap keeps_rules (sym same) ∙ table.rules in
     let kept : keeps_columns (uint64_column two.first ∷ uint64_column two.second ∷ []) ≡ true = ap keeps_columns (sym two.are) ∙ each.columns in
     let columns = both_true (nat_le 1 2 && nat_le 2 MAX_COLUMNS) _ kept in
