@@ -3,7 +3,8 @@ use Rattle.std.specs.Prelude.{ℕ, true, false, nat_lt, List, [], ◌∷◌, len
 use Rattle.std.specs.FinMap.{get}
 use Rattle.mt_table.specs.declared.definition.Table.{Table}
 use Rattle.mt_table.specs.declared.why.TableWhy.{TableWhy}
-use Rattle.mt_table.specs.Reading.{table_reading}
+use Rattle.mt_table.specs.Form.{is_numbers_table}
+use Rattle.mt_table.specs.TextReading.{table_reading}
 use Rattle.mt_tsv.specs.Reading.{rows_reading}
 use Rattle.mt_shelf.specs.declared.file.FileBytes.{FileBytes}
 use Rattle.mt_shelf.specs.Files.{Files, stands, gained_files}
@@ -17,16 +18,20 @@ use Rattle.mt_run.specs.Partitions.{one_partition}
 use Rattle.mt_run.specs.declared.limits.TheConstants.{MAX_TABLE_TEXT, MAX_INPUT, MAX_FOLDER}
 use Rattle.mt_run.specs.declared.status.What.TheVariants as what
 use Rattle.mt_run.specs.declared.status.Status.{Status}
-use Rattle.mt_run.specs.declared.status.Status.TheVariants.{NoTable, BadTable, Exists, TooMuch, NoRows}
+use Rattle.mt_run.specs.declared.status.Status.TheVariants.{NoTable, BadTable, NotBuilt, Exists, TooMuch, NoRows}
 
 -- the text of a table's file
 abbrev pub table_text : Option (List ℕ) → Result (List ℕ) Status
 table_text None = Err NoTable
 table_text (Some text) = if nat_lt MAX_TABLE_TEXT (length text) then Err (TooMuch what.Table MAX_TABLE_TEXT) else Ok text
 
+-- a table whose parts are written: two UInt64 columns, one of them the key, and no more
+abbrev pub built_table : Table → Result Table Status
+built_table table = if is_numbers_table table then Ok table else Err NotBuilt
+
 -- the table of a text, or the first rule that the text breaks
 unfoldable pub table_of : List ℕ → Result Table Status
-table_of text = refused_by BadTable (table_reading text)
+table_of text = refused_by BadTable (table_reading text) >>= built_table
 
 -- the table of a file
 abbrev pub table_in : List ℕ → Files → Result Table Status

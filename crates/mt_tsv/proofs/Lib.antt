@@ -1,3 +1,4 @@
+pub mod DigitLemmas
 pub mod Prefixes
 pub mod Parts
 pub mod DigitRuns

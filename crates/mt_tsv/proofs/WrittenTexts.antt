@@ -21,7 +21,7 @@ use Rattle.mt_tsv.specs.Scalars.{magnitude_of, integer_of, number_of}
 use Rattle.mt_tsv.specs.Nesting.{after, is_comma, closes_last}
 use Rattle.mt_tsv.specs.Printing.{letter_of, with_letter, byte_text, escaped_text}
 use Rattle.mt_tsv.specs.Fields.{is_null}
-use Rattle.mt_table.proofs.DigitLemmas.{decimal_model, digit_here}
+use Rattle.mt_tsv.proofs.DigitLemmas.{decimal_model, digit_here}
 use Rattle.mt_tsv.proofs.Walks.{IsWalk, walk_byte, walk_nil, walk_append, walk_all, other_no_comma}
 
 -- neither a tab nor a line end is in it

@@ -1,6 +1,6 @@
 //! Lines of worked examples, read and written again.
 
-use crate::tables::{read_and_written, table_of};
+use crate::tables::{keyed, read_and_written, table_of};
 use std::test::Fail;
 
 /// The types of two columns, lines, and the same rows written.
@@ -63,8 +63,10 @@ fn lines_are_read_and_written(rt: HostRuntime) -> Result<(), Fail> {
     let alloc = rt.alloc();
     for (types, text, lines) in LINES {
         let table = table_of(alloc, types.as_slice())?;
-        let written = read_and_written(alloc, &table, text.as_bytes())?;
-        assert_eq!(rt; written.as_slice(), lines.as_bytes(), "at {text}");
+        let text = keyed(alloc, text.as_bytes())?;
+        let lines = keyed(alloc, lines.as_bytes())?;
+        let written = read_and_written(alloc, &table, text.as_slice())?;
+        assert_eq!(rt; written.as_slice(), lines.as_slice());
     }
     Ok(())
 }

@@ -1,6 +1,6 @@
 //! Lines that are refused, with their first why.
 
-use crate::tables::table_of;
+use crate::tables::{keyed, table_of};
 use mt_tsv::{RowError, RowWhy, read_rows};
 use std::alloc::Global;
 use std::test::Fail;
@@ -81,7 +81,8 @@ const REFUSED: [([&str; 2], &str, u64, RowWhy); 58] = [
 
 fn refusal_of(alloc: Global, types: [&str; 2], text: &str) -> Result<Option<RowError>, Fail> {
     let table = table_of(alloc, types.as_slice())?;
-    Ok(read_rows(alloc, &table, text.as_bytes()).err())
+    let text = keyed(alloc, text.as_bytes())?;
+    Ok(read_rows(alloc, &table, text.as_slice()).err())
 }
 
 #[test]

@@ -1,35 +1,32 @@
-//! Tables of two columns, and their lines read and written again.
+//! Tables of some columns behind a key, and their lines read and written again.
 
-use mt_table::{Column, Settings, Table};
+use mt_table::Table;
 use mt_tsv::{RowError, read_rows, write_row};
-use mt_types::{List, Ty};
+use mt_types::{List, NoMemory};
 use std::alloc::Global;
 use std::test::Fail;
 
-/// A table of columns of these types.
+/// A table of a key and columns of these types.
 pub fn table_of(alloc: Global, types: &[&str]) -> Result<Table, Fail> {
-    let mut columns = List::new(alloc);
-    for name in types {
-        columns.push(Column {
-            name: List::new(alloc),
-            ty: Ty::read_name(alloc, name.as_bytes())?,
-        })?;
+    let mut text = List::of_bytes(alloc, b"CREATE TABLE t (key UInt8")?;
+    for (place, name) in types.iter().enumerate() {
+        let column = format!(in alloc; ", c{place} {name}")?;
+        text.append(column.as_bytes())?;
     }
-    Ok(Table {
-        name: List::new(alloc),
-        columns,
-        partition: List::new(alloc),
-        sort: List::new(alloc),
-        primary: 1,
-        skips: List::new(alloc),
-        projections: List::new(alloc),
-        settings: Settings {
-            granule_rows: 8192,
-            granule_bytes: 10_485_760,
-            wide_bytes: 0,
-            wide_rows: 0,
-        },
-    })
+    text.append(b") ENGINE = MergeTree ORDER BY key")?;
+    Ok(Table::read(alloc, text.as_slice())?)
+}
+
+/// The text with a key before each line.
+pub fn keyed(alloc: Global, text: &[u8]) -> Result<List<u8>, NoMemory> {
+    let mut lines = List::of_bytes(alloc, b"0\t")?;
+    for (place, byte) in text.iter().enumerate() {
+        lines.push(*byte)?;
+        if *byte == b'\n' && place + 1 < text.len() {
+            lines.append(b"0\t")?;
+        }
+    }
+    Ok(lines)
 }
 
 /// The lines of the rows of the text.
