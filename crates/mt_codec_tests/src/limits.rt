@@ -52,7 +52,10 @@ fn an_array_of_one_more_is_too_long(rt: HostRuntime) -> Result<(), Fail> {
         item: 0,
         why: CodecWhy::TooLong,
     };
-    assert_eq!(rt; decoded(alloc, &ty, 1, streams.as_slice())?.err(), Some(fault));
+    assert_eq!(rt;
+        decoded(alloc, &ty, 1, streams.as_slice())?.err(),
+        Some(fault)
+    );
     Ok(())
 }
 
@@ -81,6 +84,9 @@ fn a_text_of_one_more_is_too_long(rt: HostRuntime) -> Result<(), Fail> {
         item: 0,
         why: CodecWhy::TooLong,
     };
-    assert_eq!(rt; decoded(alloc, &ty, 1, streams.as_slice())?.err(), Some(fault));
+    assert_eq!(rt;
+        decoded(alloc, &ty, 1, streams.as_slice())?.err(),
+        Some(fault)
+    );
     Ok(())
 }
