@@ -1,8 +1,7 @@
 //! Each fault, with its substream and its item.
 
-use crate::reading::{decoded, decoded_front, lists};
+use crate::reading::{fault, front_fault};
 use mt_codec::{CodecError, CodecWhy};
-use mt_types::Ty;
 use std::test::Fail;
 
 /// The name of a type, a number of values, substreams, and the first fault: its substream, its item,
@@ -41,50 +40,42 @@ const LEFT: [Case; 4] = [
 
 #[test]
 fn each_fault_has_its_place(rt: HostRuntime) -> Result<(), Fail> {
-    let alloc = rt.alloc();
     for (name, rows, streams, stream, item, why) in FAULTS {
-        let ty = Ty::read_name(alloc, name.as_bytes())?;
-        let lists = lists(alloc, streams)?;
-        let fault = Some(CodecError::At { stream, item, why });
-        let apart = decoded(alloc, &ty, rows, lists.as_slice())?;
-        assert_eq!(rt; apart.err(), fault, "at {name}");
+        let found = fault(rt.alloc(), name, rows, streams)?;
+        assert_eq!(rt; found, Some(CodecError::At { stream, item, why }), "at {name}");
     }
     Ok(())
 }
 
 #[test]
 fn bytes_that_are_left_are_over(rt: HostRuntime) -> Result<(), Fail> {
-    let alloc = rt.alloc();
     for (name, rows, streams, stream, item, why) in LEFT {
-        let ty = Ty::read_name(alloc, name.as_bytes())?;
-        let lists = lists(alloc, streams)?;
-        let fault = Some(CodecError::At { stream, item, why });
-        let apart = decoded(alloc, &ty, rows, lists.as_slice())?;
-        assert_eq!(rt; apart.err(), fault, "at {name}");
+        let found = fault(rt.alloc(), name, rows, streams)?;
+        assert_eq!(rt; found, Some(CodecError::At { stream, item, why }), "at {name}");
     }
     Ok(())
 }
 
+/// Faults of substreams that follow each other.
+const IN_FRONT: [(&str, u64, &[u8], u64, u64, CodecWhy); 4] = [
+    ("UInt16", 2, b"\x01\0\x02", 0, 1, CodecWhy::Short),
+    ("Nullable(UInt8)", 2, b"\0\x02\0\0", 0, 1, CodecWhy::NullByte),
+    ("Nullable(UInt8)", 2, b"\0\x01\x05", 1, 1, CodecWhy::Short),
+    (
+        "Array(String)",
+        1,
+        b"\x02\0\0\0\0\0\0\0\x01a\x80\0",
+        1,
+        1,
+        CodecWhy::Length,
+    ),
+];
+
 #[test]
 fn each_fault_in_front_has_its_place(rt: HostRuntime) -> Result<(), Fail> {
-    let alloc = rt.alloc();
-    for (name, rows, bytes, stream, item, why) in [
-        ("UInt16", 2, b"\x01\0\x02".as_slice(), 0, 1, CodecWhy::Short),
-        ("Nullable(UInt8)", 2, b"\0\x02\0\0".as_slice(), 0, 1, CodecWhy::NullByte),
-        ("Nullable(UInt8)", 2, b"\0\x01\x05".as_slice(), 1, 1, CodecWhy::Short),
-        (
-            "Array(String)",
-            1,
-            b"\x02\0\0\0\0\0\0\0\x01a\x80\0".as_slice(),
-            1,
-            1,
-            CodecWhy::Length,
-        ),
-    ] {
-        let ty = Ty::read_name(alloc, name.as_bytes())?;
-        let fault = Some(CodecError::At { stream, item, why });
-        let front = decoded_front(alloc, &ty, rows, bytes)?;
-        assert_eq!(rt; front.err(), fault, "at {name}");
+    for (name, rows, bytes, stream, item, why) in IN_FRONT {
+        let found = front_fault(rt.alloc(), name, rows, bytes)?;
+        assert_eq!(rt; found, Some(CodecError::At { stream, item, why }), "at {name}");
     }
     Ok(())
 }
