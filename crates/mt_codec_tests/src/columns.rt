@@ -1,9 +1,10 @@
 //! Columns of each type: substreams that are read, each by itself and one after another, and then
 //! written again.
 
-use crate::reading::{decoded, decoded_front, joined, lists};
-use mt_codec::{Stream, encode, streams_of};
-use mt_types::{List, Ty, Value};
+use crate::reading::{joined, rewritten, rewritten_front, written};
+use mt_codec::{Stream, streams_of};
+use mt_types::{List, NoMemory, Ty, Value, fits};
+use std::alloc::Global;
 use std::test::Fail;
 
 /// The name of a type, a number of values, and their substreams as the writer has them.
@@ -58,15 +59,9 @@ const COLUMNS: [(&str, u64, &[&[u8]]); 17] = [
 fn columns_are_read_and_written(rt: HostRuntime) -> Result<(), Fail> {
     let alloc = rt.alloc();
     for (name, rows, streams) in COLUMNS {
-        let ty = Ty::read_name(alloc, name.as_bytes())?;
-        let lists = lists(alloc, streams)?;
-        let values = decoded(alloc, &ty, rows, lists.as_slice())??;
-        assert_eq!(rt; values.len() as u64, rows, "at {name}");
-        let written = encode(alloc, &ty, values.as_slice())?;
-        assert_eq!(rt; written.len(), streams.len(), "at {name}");
-        for (stream, want) in written.as_slice().iter().zip(streams) {
-            assert_eq!(rt; stream.as_slice(), *want, "at {name}");
-        }
+        let bytes = rewritten(alloc, name, rows, streams)?;
+        let want = joined(alloc, streams)?;
+        assert_eq!(rt; bytes.as_slice(), want.as_slice(), "at {name}");
     }
     Ok(())
 }
@@ -75,45 +70,41 @@ fn columns_are_read_and_written(rt: HostRuntime) -> Result<(), Fail> {
 fn columns_are_read_in_front(rt: HostRuntime) -> Result<(), Fail> {
     let alloc = rt.alloc();
     for (name, rows, streams) in COLUMNS {
-        let ty = Ty::read_name(alloc, name.as_bytes())?;
+        let want = joined(alloc, streams)?;
         let mut bytes = joined(alloc, streams)?;
-        let size = bytes.len();
         bytes.append(b"\xff\xff")?;
-        let (values, used) = decoded_front(alloc, &ty, rows, bytes.as_slice())??;
-        assert_eq!(rt; used, size, "at {name}");
-        let lists = lists(alloc, streams)?;
-        let apart = decoded(alloc, &ty, rows, lists.as_slice())??;
-        assert!(rt; values == apart, "at {name}");
+        let (read, used) = rewritten_front(alloc, name, rows, bytes.as_slice())?;
+        assert_eq!(rt; read.as_slice(), want.as_slice(), "at {name}");
+        assert_eq!(rt; used, want.len(), "at {name}");
     }
-    Ok(())
-}
-
-#[test]
-fn values_are_those_of_the_bytes(rt: HostRuntime) -> Result<(), Fail> {
-    let alloc = rt.alloc();
-    let ty = Ty::read_name(alloc, b"Array(Nullable(Int8))")?;
-    let lists = lists(alloc, &[b"\x02\0\0\0\0\0\0\0", b"\x01\0", b"\x05\xfe"])?;
-    let mut elements = List::new(alloc);
-    elements.push(Value::Null)?;
-    elements.push(Value::Num(-2))?;
-    let mut values = List::new(alloc);
-    values.push(Value::List(elements))?;
-    assert!(rt; decoded(alloc, &ty, 1, lists.as_slice())?? == values);
     Ok(())
 }
 
 #[test]
 fn any_item_may_stand_under_null(rt: HostRuntime) -> Result<(), Fail> {
+    let bytes = rewritten(rt.alloc(), "Nullable(UInt8)", 3, &[b"\0\x01\0", b"\x01\x07\x02"])?;
+    assert_eq!(rt; bytes.as_slice(), b"\0\x01\0\x01\0\x02".as_slice());
+    Ok(())
+}
+
+/// An array of NULL and -2.
+fn array(alloc: Global) -> Result<Value, NoMemory> {
+    let mut elements = List::new(alloc);
+    elements.push(Value::Null)?;
+    elements.push(Value::Num(-2))?;
+    Ok(Value::List(elements))
+}
+
+#[test]
+fn values_are_written(rt: HostRuntime) -> Result<(), Fail> {
     let alloc = rt.alloc();
-    let ty = Ty::read_name(alloc, b"Nullable(UInt8)")?;
-    let other = lists(alloc, &[b"\0\x01\0", b"\x01\x07\x02"])?;
-    let written = lists(alloc, &[b"\0\x01\0", b"\x01\0\x02"])?;
-    let values = decoded(alloc, &ty, 3, other.as_slice())??;
-    assert!(rt; values == decoded(alloc, &ty, 3, written.as_slice())??);
-    let again = encode(alloc, &ty, values.as_slice())?;
-    for (stream, want) in again.as_slice().iter().zip(written.as_slice()) {
-        assert_eq!(rt; stream.as_slice(), want.as_slice());
+    let ty = Ty::read_name(alloc, b"Array(Nullable(Int8))")?;
+    let values = [array(alloc)?];
+    if !fits(&ty, &values[0]) {
+        return Err(Fail::new("the array doesn't fit"));
     }
+    let bytes = written(alloc, &ty, &values)?;
+    assert_eq!(rt; bytes.as_slice(), b"\x02\0\0\0\0\0\0\0\x01\0\0\xfe".as_slice());
     Ok(())
 }
 

@@ -1,92 +1,59 @@
 //! The longest arrays and texts, and some of one more.
 
-use crate::reading::decoded;
-use mt_codec::{CodecError, CodecWhy, encode};
-use mt_types::{List, MAX_ELEMENTS, MAX_TEXT, Ty, Value};
-use std::alloc::Global;
+use crate::reading::{fault, rewritten};
+use mt_codec::{CodecError, CodecWhy};
 use std::test::Fail;
 
-/// The substreams of one array of so many zeros.
-fn array(alloc: Global, size: usize) -> Result<List<List<u8>>, Fail> {
-    let mut streams = List::new(alloc);
-    streams.push(List::of_bytes(alloc, &(size as u64).to_le_bytes())?)?;
-    streams.push(List::of(vec![in alloc; 0; size]?))?;
-    Ok(streams)
-}
+/// The most elements of an array.
+const MAX_ELEMENTS: usize = 1_048_576;
 
-/// The substream of one text of zeros, after this encoding of its length.
-fn text(alloc: Global, length: &[u8], size: usize) -> Result<List<List<u8>>, Fail> {
-    let mut bytes = List::of_bytes(alloc, length)?;
-    bytes.append(&vec![in alloc; 0; size]?)?;
-    let mut streams = List::new(alloc);
-    streams.push(bytes)?;
-    Ok(streams)
-}
+/// The most bytes of a text.
+const MAX_TEXT: usize = 16_777_216;
+
+/// The fault of the first item of the first substream.
+const TOO_LONG: CodecError = CodecError::At {
+    stream: 0,
+    item: 0,
+    why: CodecWhy::TooLong,
+};
 
 #[test]
 fn the_longest_array_is_read(rt: HostRuntime) -> Result<(), Fail> {
     let alloc = rt.alloc();
-    let ty = Ty::read_name(alloc, b"Array(UInt8)")?;
-    let streams = array(alloc, MAX_ELEMENTS)?;
-    let values = decoded(alloc, &ty, 1, streams.as_slice())??;
-    for value in values.as_slice() {
-        match value {
-            Value::List(elements) => assert_eq!(rt; elements.len(), MAX_ELEMENTS),
-            _ => assert!(rt; false),
-        }
-    }
-    let written = encode(alloc, &ty, values.as_slice())?;
-    for (stream, want) in written.as_slice().iter().zip(streams.as_slice()) {
-        assert!(rt; stream.as_slice() == want.as_slice());
-    }
+    let elements = vec![in alloc; 7u8; MAX_ELEMENTS]?;
+    let sizes = [0, 0, 0x10, 0, 0, 0, 0, 0];
+    let bytes = rewritten(alloc, "Array(UInt8)", 1, &[&sizes, &elements])?;
+    assert_eq!(rt; bytes.len(), 8 + MAX_ELEMENTS);
+    assert!(rt; bytes.as_slice()[8..] == elements[..]);
     Ok(())
 }
 
 #[test]
 fn an_array_of_one_more_is_too_long(rt: HostRuntime) -> Result<(), Fail> {
     let alloc = rt.alloc();
-    let ty = Ty::read_name(alloc, b"Array(UInt8)")?;
-    let streams = array(alloc, MAX_ELEMENTS + 1)?;
-    let fault = CodecError::At {
-        stream: 0,
-        item: 0,
-        why: CodecWhy::TooLong,
-    };
-    assert_eq!(rt;
-        decoded(alloc, &ty, 1, streams.as_slice())?.err(),
-        Some(fault)
-    );
+    let elements = vec![in alloc; 7u8; MAX_ELEMENTS + 1]?;
+    let sizes = [1, 0, 0x10, 0, 0, 0, 0, 0];
+    let found = fault(alloc, "Array(UInt8)", 1, &[&sizes, &elements])?;
+    assert_eq!(rt; found, Some(TOO_LONG));
     Ok(())
 }
 
 #[test]
 fn the_longest_text_is_read(rt: HostRuntime) -> Result<(), Fail> {
     let alloc = rt.alloc();
-    let ty = Ty::read_name(alloc, b"String")?;
-    let streams = text(alloc, b"\x80\x80\x80\x08", MAX_TEXT)?;
-    let values = decoded(alloc, &ty, 1, streams.as_slice())??;
-    for value in values.as_slice() {
-        match value {
-            Value::Text(bytes) => assert_eq!(rt; bytes.len(), MAX_TEXT),
-            _ => assert!(rt; false),
-        }
-    }
+    let mut text = vec![in alloc; 7u8; 4 + MAX_TEXT]?;
+    text[..4].copy_from_slice(b"\x80\x80\x80\x08");
+    let bytes = rewritten(alloc, "String", 1, &[&text])?;
+    assert!(rt; bytes.as_slice() == &text[..]);
     Ok(())
 }
 
 #[test]
 fn a_text_of_one_more_is_too_long(rt: HostRuntime) -> Result<(), Fail> {
     let alloc = rt.alloc();
-    let ty = Ty::read_name(alloc, b"String")?;
-    let streams = text(alloc, b"\x81\x80\x80\x08", MAX_TEXT + 1)?;
-    let fault = CodecError::At {
-        stream: 0,
-        item: 0,
-        why: CodecWhy::TooLong,
-    };
-    assert_eq!(rt;
-        decoded(alloc, &ty, 1, streams.as_slice())?.err(),
-        Some(fault)
-    );
+    let mut text = vec![in alloc; 7u8; 5 + MAX_TEXT]?;
+    text[..4].copy_from_slice(b"\x81\x80\x80\x08");
+    let found = fault(alloc, "String", 1, &[&text])?;
+    assert_eq!(rt; found, Some(TOO_LONG));
     Ok(())
 }

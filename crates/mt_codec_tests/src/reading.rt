@@ -1,11 +1,11 @@
-//! Substreams read by the name of their type.
+//! Substreams read by the name of their type, and written again.
 
 ghost use Rattle.std.specs.Prelude.{IfOk, IsTrue};
 ghost use Rattle.std.specs.List.{list_all};
 ghost use Rattle.mt_types.specs.Fits.{fits_of};
 ghost use Rattle.mt_types.specs.Profile.{is_profile};
 
-use mt_codec::{CodecError, decode, decode_front, streams_of};
+use mt_codec::{CodecError, decode, decode_front, encode, streams_of};
 use mt_types::{List, NoMemory, Ty, Value};
 use std::alloc::Global;
 use std::test::Fail;
@@ -14,7 +14,7 @@ use std::test::Fail;
 const MOST_ROWS: u64 = 4_194_304;
 
 /// The substreams in lists of their own.
-pub fn lists(alloc: Global, streams: &[&[u8]]) -> Result<List<List<u8>>, NoMemory> {
+fn lists(alloc: Global, streams: &[&[u8]]) -> Result<List<List<u8>>, NoMemory> {
     let mut lists = List::new(alloc);
     for stream in streams {
         lists.push(List::of_bytes(alloc, stream)?)?;
@@ -37,28 +37,104 @@ pub fn decoded(
     ty: &Ty,
     rows: u64,
     streams: &[List<u8>],
-) -> Result<Result<List<Value>, CodecError>, Fail>
+) -> Result<List<Value>, Fail>
     requires { IsTrue (is_profile ty.now) }
-    ensures { IfOk result (λ read. IfOk read (λ values. IsTrue (list_all (fits_of ty.now) values))) }
+    ensures { IfOk result (λ values. IsTrue (list_all (fits_of ty.now) values)) }
 {
-    if streams_of(alloc, ty)?.len() != streams.len() || rows > MOST_ROWS {
-        return Err(Fail::new("not a list for each substream"));
+    match read(alloc, ty, rows, streams) {
+        Ok(values) => Ok(values),
+        Err(error) => Err(Fail::new(error)),
     }
-    Ok(decode(alloc, ty, rows, streams))
 }
 
-/// What bytes that begin with the substreams of a type are read as.
-pub fn decoded_front(
+fn read(
+    alloc: Global,
+    ty: &Ty,
+    rows: u64,
+    streams: &[List<u8>],
+) -> Result<List<Value>, CodecError>
+    requires { IsTrue (is_profile ty.now) }
+    ensures { IfOk result (λ values. IsTrue (list_all (fits_of ty.now) values)) }
+{
+    if streams_of(alloc, ty)?.len() != streams.len() || rows > MOST_ROWS {
+        return Err(CodecError::NoMemory);
+    }
+    decode(alloc, ty, rows, streams)
+}
+
+/// The fault of a list of bytes for each substream of the type of this name.
+pub fn fault(
+    alloc: Global,
+    name: &str,
+    rows: u64,
+    streams: &[&[u8]],
+) -> Result<Option<CodecError>, Fail> {
+    let ty = Ty::read_name(alloc, name.as_bytes())?;
+    let lists = lists(alloc, streams)?;
+    Ok(read(alloc, &ty, rows, lists.as_slice()).err())
+}
+
+/// The values of a list of bytes for each substream, written again one after another.
+pub fn rewritten(
+    alloc: Global,
+    name: &str,
+    rows: u64,
+    streams: &[&[u8]],
+) -> Result<List<u8>, Fail> {
+    let ty = Ty::read_name(alloc, name.as_bytes())?;
+    let lists = lists(alloc, streams)?;
+    let values = decoded(alloc, &ty, rows, lists.as_slice())?;
+    Ok(written(alloc, &ty, values.as_slice())?)
+}
+
+/// The substreams of values one after another.
+pub fn written(alloc: Global, ty: &Ty, values: &[Value]) -> Result<List<u8>, NoMemory>
+    requires profile { IsTrue (is_profile ty.now) }
+    requires fit { IsTrue (list_all (fits_of ty.now) values.now) }
+{
+    let mut bytes = List::new(alloc);
+    for stream in encode(alloc, ty, values)?.as_slice() {
+        bytes.append(stream.as_slice())?;
+    }
+    Ok(bytes)
+}
+
+/// The values of substreams that follow each other, written again, and how many bytes were read.
+pub fn rewritten_front(
+    alloc: Global,
+    name: &str,
+    rows: u64,
+    bytes: &[u8],
+) -> Result<(List<u8>, usize), Fail> {
+    let ty = Ty::read_name(alloc, name.as_bytes())?;
+    match read_front(alloc, &ty, rows, bytes) {
+        Ok((values, used)) => Ok((written(alloc, &ty, values.as_slice())?, used)),
+        Err(error) => Err(Fail::new(error)),
+    }
+}
+
+/// The fault of substreams that follow each other.
+pub fn front_fault(
+    alloc: Global,
+    name: &str,
+    rows: u64,
+    bytes: &[u8],
+) -> Result<Option<CodecError>, Fail> {
+    let ty = Ty::read_name(alloc, name.as_bytes())?;
+    Ok(read_front(alloc, &ty, rows, bytes).err())
+}
+
+fn read_front(
     alloc: Global,
     ty: &Ty,
     rows: u64,
     bytes: &[u8],
-) -> Result<Result<(List<Value>, usize), CodecError>, Fail>
+) -> Result<(List<Value>, usize), CodecError>
     requires { IsTrue (is_profile ty.now) }
-    ensures { IfOk result (λ read. IfOk read (λ found. IsTrue (list_all (fits_of ty.now) found.0))) }
+    ensures { IfOk result (λ found. IsTrue (list_all (fits_of ty.now) found.0)) }
 {
     if rows > MOST_ROWS {
-        return Err(Fail::new("too many rows"));
+        return Err(CodecError::NoMemory);
     }
-    Ok(decode_front(alloc, ty, rows, bytes))
+    decode_front(alloc, ty, rows, bytes)
 }
