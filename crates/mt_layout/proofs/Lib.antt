@@ -1,0 +1,4 @@
+pub mod StreamLemmas
+pub mod SizeLemmas
+pub mod PayloadLemmas
+pub mod GranuleLemmas
