@@ -7,7 +7,7 @@ use mt_types::{List, Ty, Value};
 use std::test::Fail;
 
 /// The name of a type, a number of values, and their substreams as the writer has them.
-const COLUMNS: [(&str, u64, &[&[u8]]); 16] = [
+const COLUMNS: [(&str, u64, &[&[u8]]); 17] = [
     ("UInt8", 3, &[b"\x01\x02\xff"]),
     ("Int16", 2, &[b"\xfe\xff\x01\x80"]),
     ("UInt32", 1, &[b"\x01\x02\x03\x04"]),
@@ -16,6 +16,7 @@ const COLUMNS: [(&str, u64, &[&[u8]]); 16] = [
     ("String", 3, &[b"\x02ab\0\x01c"]),
     ("Date", 1, &[b"\x02\x01"]),
     ("Nullable(UInt32)", 2, &[b"\x01\0", b"\0\0\0\0\x07\0\0\0"]),
+    ("Nullable(UInt8)", 3, &[b"\0\x01\0", b"\x01\0\x02"]),
     ("Nullable(String)", 2, &[b"\0\x01", b"\x02ab\0"]),
     (
         "Array(UInt8)",
@@ -27,8 +28,12 @@ const COLUMNS: [(&str, u64, &[&[u8]]); 16] = [
     ),
     (
         "Array(Nullable(String))",
-        1,
-        &[b"\x02\0\0\0\0\0\0\0", b"\0\x01", b"\x02ab\0"],
+        2,
+        &[
+            b"\0\0\0\0\0\0\0\0\x02\0\0\0\0\0\0\0",
+            b"\0\x01",
+            b"\x03a'b\0",
+        ],
     ),
     (
         "Array(Array(Date))",
@@ -41,9 +46,9 @@ const COLUMNS: [(&str, u64, &[&[u8]]); 16] = [
     ),
     ("AggregateFunction(count)", 2, &[b"\xac\x02\0"]),
     (
-        "AggregateFunction(sum, Int64)",
-        1,
-        &[b"\xff\xff\xff\xff\xff\xff\xff\xff"],
+        "AggregateFunction(sum, UInt64)",
+        2,
+        &[b"\x01\0\0\0\0\0\0\0\xff\xff\xff\xff\xff\xff\xff\xff"],
     ),
     ("AggregateFunction(min, UInt8)", 2, &[b"\0\x01\x07"]),
     ("AggregateFunction(max, Date)", 1, &[b"\x01\x02\x01"]),
@@ -98,17 +103,17 @@ fn values_are_those_of_the_bytes(rt: HostRuntime) -> Result<(), Fail> {
 }
 
 #[test]
-fn the_writer_puts_the_default_under_null(rt: HostRuntime) -> Result<(), Fail> {
+fn any_item_may_stand_under_null(rt: HostRuntime) -> Result<(), Fail> {
     let alloc = rt.alloc();
-    let ty = Ty::read_name(alloc, b"Nullable(String)")?;
-    let lists = lists(alloc, &[b"\x01\0", b"\x02ab\x01c"])?;
-    let values = decoded(alloc, &ty, 2, lists.as_slice())??;
-    let written = encode(alloc, &ty, values.as_slice())?;
-    let mut bytes = List::new(alloc);
-    for stream in written.as_slice() {
-        bytes.append(stream.as_slice())?;
+    let ty = Ty::read_name(alloc, b"Nullable(UInt8)")?;
+    let other = lists(alloc, &[b"\0\x01\0", b"\x01\x07\x02"])?;
+    let written = lists(alloc, &[b"\0\x01\0", b"\x01\0\x02"])?;
+    let values = decoded(alloc, &ty, 3, other.as_slice())??;
+    assert!(rt; values == decoded(alloc, &ty, 3, written.as_slice())??);
+    let again = encode(alloc, &ty, values.as_slice())?;
+    for (stream, want) in again.as_slice().iter().zip(written.as_slice()) {
+        assert_eq!(rt; stream.as_slice(), want.as_slice());
     }
-    assert_eq!(rt; bytes.as_slice(), b"\x01\0\0\x01c".as_slice());
     Ok(())
 }
 

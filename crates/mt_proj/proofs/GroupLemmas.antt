@@ -1,5 +1,5 @@
 -- A row for each key, run by run.
-use Rattle.std.proofs.Common.{◌≡◌, ℕ, ◌+◌, Bool, true, false, cond, not, ◌||◌, List, [], ◌∷◌, ◌++◌, map, refl, ap, sym, ◌∙◌, subst, inl, inr}
+use Rattle.std.proofs.Common.{◌≡◌, ℕ, Bool, true, false, not, ◌||◌, List, [], ◌∷◌, ◌++◌, map, refl, ap, sym, ◌∙◌, subst, inl, inr}
 use Rattle.std.specs.Prelude.{filter, codes}
 use Rattle.std.specs.List.{list_any}
 use Rattle.std.proofs.lemmas.Bool.{cases_Bool}
@@ -12,10 +12,10 @@ use Rattle.mt_defs.specs.Rows.{Row, key_of}
 use Rattle.mt_defs.specs.Folds.{fold_of}
 use Rattle.mt_defs.specs.Projections.{is_same_key}
 use Rattle.mt_defs.specs.Writer.{folded_row}
-use Rattle.mt_proj.specs.Runs.{alike_at_front, rows_by_key, run_of}
-use Rattle.mt_proj.proofs.StableLemmas.{keeps, drops, not_both, Rises}
+use Rattle.mt_proj.specs.Runs.{rows_by_key, run_of}
+use Rattle.mt_proj.proofs.StableLemmas.{keeps, drops, not_both}
 use Rattle.mt_proj.proofs.OrderLemmas.{one_key}
-use Rattle.mt_proj.proofs.RunLemmas.{none_kept, same_keys, by_key, of_key, front_of, after_front, HasNone, after_same, after_other, run_parts, of_key_here, of_key_there, none_after}
+use Rattle.mt_proj.proofs.RunLemmas.{same_keys, of_key, after_front, HasNone, after_same, after_other, run_parts, of_key_here, of_key_there}
 
 -- ---- filters
 
@@ -119,4 +119,4 @@ first_row keys aggs x xs none =
     let here : of_key key k (x ∷ xs) ≡ run_of key (x ∷ xs) = of_key_here key x xs none ∙ sym (run_parts key x xs) in
     ap (λ rows. row_of aggs k rows ∷ map (F (x ∷ xs)) (filter (is_other k) met)) here
     ∙ ap (λ rows. row_of aggs k (run_of key (x ∷ xs)) ∷ rows)
-        (map_filtered (is_other k) (F (x ∷ xs)) (F rest) (λ j e. ap (row_of aggs j) (of_key_there key j x xs (other_way k j e))) met ∙ ap (map (F rest)) (met_after key x xs none))
+    (map_filtered (is_other k) (F (x ∷ xs)) (F rest) (λ j e. ap (row_of aggs j) (of_key_there key j x xs (other_way k j e))) met ∙ ap (map (F rest)) (met_after key x xs none))

@@ -1,11 +1,10 @@
 -- What the writer stores in a projection stands for its rows.
-use Rattle.std.proofs.Common.{◌≡◌, ℕ, zero, suc, ◌+◌, ◌<◌, Bool, true, false, cond, not, ◌||◌, List, [], ◌∷◌, ◌++◌, length, map, take, get_or, refl, ap, sym, ◌∙◌, subst, inl, inr, arith, add-one}
-use Rattle.std.specs.Prelude.{Option, Some, None, filter}
+use Rattle.std.proofs.Common.{◌≡◌, ℕ, ◌+◌, ◌<◌, Bool, true, false, cond, not, ◌||◌, List, [], ◌∷◌, ◌++◌, length, map, take, get_or, refl, ap, sym, ◌∙◌, subst, inl, inr, add-one}
+use Rattle.std.specs.Prelude.{Some, filter}
 use Rattle.std.specs.List.{list_any}
 use Rattle.std.proofs.Math.Seq.{take-append_seam}
 use Rattle.std.proofs.lemmas.Bool.{cases_Bool}
 use Rattle.std.proofs.lemmas.List.{length-map, get_or-append-add, get_or_default}
-use Rattle.mt_types.specs.declared.value.AggState.{AggState}
 use Rattle.mt_types.specs.declared.value.Value.{Value, out-Value}
 use Rattle.mt_types.specs.declared.value.Value.TheVariants.{State, Null, outs-State}
 use Rattle.mt_table.specs.declared.definition.Table.{Table}
@@ -13,9 +12,9 @@ use Rattle.mt_table.specs.declared.projection.Aggregate.{Aggregate}
 use Rattle.mt_table.specs.declared.projection.Projection.{Projection}
 use Rattle.mt_table.specs.declared.projection.Projection.TheVariants.{Normal, Grouped}
 use Rattle.mt_defs.specs.Rows.{Row, cell, key_of, key_cmp}
-use Rattle.mt_defs.specs.Folds.{state_of, states_join, join, number_of, fold_of, merge_of}
+use Rattle.mt_defs.specs.Folds.{state_of, number_of, fold_of, merge_of}
 use Rattle.mt_defs.specs.Projections.{FoldsRows, IsProjectionOf, is_same_key, is_same_aggregate, aggregate_index, stored_key, stored_state, state_at, stored_columns, inner_of}
-use Rattle.mt_defs.specs.Sorting.{sorted_by, sorted_rows}
+use Rattle.mt_defs.specs.Sorting.{sorted_rows}
 use Rattle.mt_defs.specs.Writer.{folded_row, projection_rows}
 use Rattle.mt_agg.proofs.FoldLemmas.{joins}
 use Rattle.mt_proj.specs.Keys.{projection_at, no_projection}
@@ -108,7 +107,7 @@ state_there keys aggs a k rows long among =
     let f : Aggregate → Value = λ b. State (fold_of rows b) in
     let i = aggregate_index aggs a in
     let at_place : get_or (k ++ map f aggs) (length keys + i) Null ≡ f a =
-        ap (λ n. get_or (k ++ map f aggs) (n + i) Null) (sym long) ∙ get_or-append-add k (map f aggs) i Null ∙ aggregate_at f aggs a Null among in
+    ap (λ n. get_or (k ++ map f aggs) (n + i) Null) (sym long) ∙ get_or-append-add k (map f aggs) i Null ∙ aggregate_at f aggs a Null among in
     ap (λ v. state_at (out-Value v)) at_place ∙ ap state_at (outs-State (fold_of rows a))
 
 append_nothing : {X : Type 0} (xs : List X) → xs ++ [] ≡ xs
@@ -137,9 +136,9 @@ module _ (keys : List ℕ) (aggs : List Aggregate) (name : List ℕ) (rows : Lis
       let same = key_back k all.0 in
       ap (λ v. cond (is_same_key j v) (made_row k ∷ of_key (stored_key keys) j (map made_row ks)) (of_key (stored_key keys) j (map made_row ks))) same
       ∙ elim (is_same_key j k) as (λ b. cond b (made_row k ∷ of_key (stored_key keys) j (map made_row ks)) (of_key (stored_key keys) j (map made_row ks)) ≡ map made_row (cond b (k ∷ filter (is_same_key j) ks) (filter (is_same_key j) ks))) [
-          | true ↦ ap (λ l. made_row k ∷ l) (rows_of_key j ks all.1)
-          | false ↦ rows_of_key j ks all.1
-        ]
+        | true ↦ ap (λ l. made_row k ∷ l) (rows_of_key j ks all.1)
+        | false ↦ rows_of_key j ks all.1
+      ]
 
   long_all : AllLong (length keys) met
   long_all = long_met (length keys) (map (key_of keys) (sorted_rows keys rows)) (long_keys keys (sorted_rows keys rows))
@@ -168,12 +167,12 @@ module _ (keys : List ℕ) (aggs : List Aggregate) (name : List ℕ) (rows : Lis
     folds = λ j a e.
         ap (λ some. merge_of a (map (stored_state keys aggs a) some)) (one_row j)
         ∙ elim (cases_Bool (list_any (λ row. is_same_key j (key_of keys row)) rows)) [
-            | inl there ↦
-                ap (λ b. merge_of a (map (stored_state keys aggs a) (map made_row (once b j)))) there
-                ∙ ap (λ s. merge_of a (s ∷ [])) (state_there keys aggs a j (of_key (key_of keys) j rows) (long_once j there) e) ∙ merge_one a (of_key (key_of keys) j rows)
-            | inr gone ↦
-                ap (λ b. merge_of a (map (stored_state keys aggs a) (map made_row (once b j)))) gone ∙ sym (ap (λ run. Some (fold_of run a)) (none_kept (λ row. is_same_key j (key_of keys row)) rows gone))
-          ];
+          | inl there ↦
+              ap (λ b. merge_of a (map (stored_state keys aggs a) (map made_row (once b j)))) there
+              ∙ ap (λ s. merge_of a (s ∷ [])) (state_there keys aggs a j (of_key (key_of keys) j rows) (long_once j there) e) ∙ merge_one a (of_key (key_of keys) j rows)
+          | inr gone ↦
+              ap (λ b. merge_of a (map (stored_state keys aggs a) (map made_row (once b j)))) gone ∙ sym (ap (λ run. Some (fold_of run a)) (none_kept (λ row. is_same_key j (key_of keys row)) rows gone))
+        ];
   }
 
 -- the writer's rows of a projection stand for the rows

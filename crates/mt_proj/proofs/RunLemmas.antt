@@ -1,8 +1,8 @@
 -- Runs of rows in key order: a run has all rows of its key, and what follows has none.
-use Rattle.std.proofs.Common.{◌≡◌, ℕ, zero, suc, ◌+◌, ◌<◌, ◌≤◌, Bool, true, false, cond, not, ◌||◌, List, [], ◌∷◌, ◌++◌, length, map, take, drop, refl, ap, sym, ◌∙◌, subst, inl, inr, arith, add-one}
+use Rattle.std.proofs.Common.{◌≡◌, ℕ, zero, suc, ◌+◌, Bool, true, false, cond, ◌||◌, List, [], ◌∷◌, length, take, drop, refl, ap, sym, ◌∙◌, subst, inl, inr, add-one}
 use Rattle.std.specs.Prelude.{filter}
 use Rattle.std.specs.List.{list_any}
-use Rattle.std.specs.Ordering.{is_gt, is_eq, is_lt, ordering_reverse}
+use Rattle.std.specs.Ordering.{is_gt, is_eq, ordering_reverse}
 use Rattle.std.specs.declared.cmp.Ordering.{Ordering}
 use Rattle.std.specs.declared.cmp.Ordering.TheVariants.{Less, Equal, Greater}
 use Rattle.std.specs.Cmp.{IsTotalOrder, IsEquivalence}
@@ -140,7 +140,7 @@ module _ (key : Row → List Value) where
         | inl same ↦ subst (HasNone x) (sym (after_same x y ys same)) (none_after x ys (up.0.1, up.1.1))
         | inr other ↦
             subst (HasNone x) (sym (after_other x y ys other))
-              (ap (λ b. b || list_any (λ row. is_same_key (key x) (key row)) ys) other ∙ none_above x y ys (less_of (by_key x y) up.0.0 other) up.1.0)
+            (ap (λ b. b || list_any (λ row. is_same_key (key x) (key row)) ys) other ∙ none_above x y ys (less_of (by_key x y) up.0.0 other) up.1.0)
       ]
 
   front_all : (x : Row) (xs : List Row) → HasNone x (after_front x xs) → of_key (key x) xs ≡ front_of x xs

@@ -1,10 +1,7 @@
 -- Stored rows stand for rows exactly where they do run by run.
-use Rattle.std.proofs.Common.{◌≡◌, ℕ, zero, suc, ◌+◌, ◌<◌, ◌↔◌, Bool, true, false, cond, ◌||◌, List, [], ◌∷◌, length, map, drop, refl, ap, sym, ◌∙◌, subst, inl, inr, arith}
-use Rattle.std.specs.Prelude.{Some, filter}
+use Rattle.std.proofs.Common.{◌≡◌, ℕ, ◌<◌, ◌↔◌, true, false, ◌||◌, List, [], ◌∷◌, length, map, drop, refl, ap, sym, ◌∙◌, subst, inl, inr, arith}
+use Rattle.std.specs.Prelude.{Some}
 use Rattle.std.specs.List.{list_any}
-use Rattle.std.specs.Ordering.{is_gt, is_eq}
-use Rattle.std.specs.declared.cmp.Ordering.{Ordering}
-use Rattle.std.specs.declared.cmp.Ordering.TheVariants.{Less, Equal, Greater}
 use Rattle.std.proofs.lemmas.Bool.{cases_Bool}
 use Rattle.mt_types.specs.declared.value.Value.{Value}
 use Rattle.mt_types.specs.Order.{values_cmp}
@@ -12,9 +9,9 @@ use Rattle.mt_types.specs.Ordered.{values_total}
 use Rattle.mt_table.specs.declared.projection.Aggregate.{Aggregate}
 use Rattle.mt_defs.specs.Rows.{Row, key_of}
 use Rattle.mt_defs.specs.Folds.{fold_of, merge_of}
-use Rattle.mt_defs.specs.Projections.{FoldsRows, is_same_key, is_same_aggregate, stored_key, stored_state}
+use Rattle.mt_defs.specs.Projections.{FoldsRows, is_same_key, stored_key, stored_state}
 use Rattle.mt_defs.specs.Sorting.{sorted_by}
-use Rattle.mt_proj.specs.Runs.{run_of, RunStands, HaveOneKey, alike_at_front}
+use Rattle.mt_proj.specs.Runs.{run_of, RunStands, HaveOneKey}
 use Rattle.mt_proj.proofs.StableLemmas.{tie, not_both}
 use Rattle.mt_proj.proofs.OrderLemmas.{one_key, filter-sorted_by}
 use Rattle.mt_proj.proofs.RunLemmas.{Rising, not_above, any_by_filter, has_some, none_kept, same_keys, by_key, of_key, front_of, after_front, HasNone, run_parts, after_run, none_after, of_key_here, of_key_there, first_least}
@@ -118,39 +115,39 @@ module _ (keys : List ℕ) (aggs : List Aggregate) where
       rest_stands : FoldsRows keys aggs whole parts → FoldsRows keys aggs rest later
       rest_stands f = record {
         same_keys = λ j. elim (cases_Bool (is_same_key j (row_key x))) [
-              | inl same ↦
-                  let is : row_key x ≡ j = sym (one_key j (row_key x) same) in
-                  gone part_key q later j (sym one ∙ is) stored_none ∙ sym (gone row_key x rest j is none)
-              | inr apart ↦
-                  any_by_filter (λ row. is_same_key j (part_key row)) later ∙ ap has_some (sym (parts_there j apart)) ∙ sym (any_by_filter (λ row. is_same_key j (part_key row)) parts) ∙ f.same_keys j
-                  ∙ any_by_filter (λ row. is_same_key j (row_key row)) whole ∙ ap has_some (of_key_there row_key j x xs apart) ∙ sym (any_by_filter (λ row. is_same_key j (row_key row)) rest)
-            ];
+          | inl same ↦
+              let is : row_key x ≡ j = sym (one_key j (row_key x) same) in
+              gone part_key q later j (sym one ∙ is) stored_none ∙ sym (gone row_key x rest j is none)
+          | inr apart ↦
+              any_by_filter (λ row. is_same_key j (part_key row)) later ∙ ap has_some (sym (parts_there j apart)) ∙ sym (any_by_filter (λ row. is_same_key j (part_key row)) parts) ∙ f.same_keys j
+              ∙ any_by_filter (λ row. is_same_key j (row_key row)) whole ∙ ap has_some (of_key_there row_key j x xs apart) ∙ sym (any_by_filter (λ row. is_same_key j (row_key row)) rest)
+        ];
         folds = λ j a e. elim (cases_Bool (is_same_key j (row_key x))) [
-              | inl same ↦
-                  let is : row_key x ≡ j = sym (one_key j (row_key x) same) in
-                  ap (λ some. merge_of a (map (stored_state keys aggs a) some)) (none_kept (λ row. is_same_key j (part_key row)) later (gone part_key q later j (sym one ∙ is) stored_none))
-                  ∙ sym (ap (λ run. Some (fold_of run a)) (none_kept (λ row. is_same_key j (row_key row)) rest (gone row_key x rest j is none)))
-              | inr apart ↦ ap (λ some. merge_of a (map (stored_state keys aggs a) some)) (sym (parts_there j apart)) ∙ f.folds j a e ∙ ap (λ run. Some (fold_of run a)) (of_key_there row_key j x xs apart)
-            ];
+          | inl same ↦
+              let is : row_key x ≡ j = sym (one_key j (row_key x) same) in
+              ap (λ some. merge_of a (map (stored_state keys aggs a) some)) (none_kept (λ row. is_same_key j (part_key row)) later (gone part_key q later j (sym one ∙ is) stored_none))
+              ∙ sym (ap (λ run. Some (fold_of run a)) (none_kept (λ row. is_same_key j (row_key row)) rest (gone row_key x rest j is none)))
+          | inr apart ↦ ap (λ some. merge_of a (map (stored_state keys aggs a) some)) (sym (parts_there j apart)) ∙ f.folds j a e ∙ ap (λ run. Some (fold_of run a)) (of_key_there row_key j x xs apart)
+        ];
       }
 
       -- the first runs and what follows them make the whole
       whole_stands : RunStands keys aggs (run_of row_key whole) (run_of part_key parts) → FoldsRows keys aggs rest later → FoldsRows keys aggs whole parts
       whole_stands r f = record {
         same_keys = λ j. elim (cases_Bool (is_same_key j (row_key x))) [
-              | inl same ↦
-                  ap (λ b. b || list_any (λ row. is_same_key j (part_key row)) qs) (ap (is_same_key j) (sym one) ∙ same) ∙ sym (ap (λ b. b || list_any (λ row. is_same_key j (row_key row)) xs) same)
-              | inr apart ↦
-                  any_by_filter (λ row. is_same_key j (part_key row)) parts ∙ ap has_some (parts_there j apart) ∙ sym (any_by_filter (λ row. is_same_key j (part_key row)) later) ∙ f.same_keys j
-                  ∙ any_by_filter (λ row. is_same_key j (row_key row)) rest ∙ ap has_some (sym (of_key_there row_key j x xs apart)) ∙ sym (any_by_filter (λ row. is_same_key j (row_key row)) whole)
-            ];
+          | inl same ↦
+              ap (λ b. b || list_any (λ row. is_same_key j (part_key row)) qs) (ap (is_same_key j) (sym one) ∙ same) ∙ sym (ap (λ b. b || list_any (λ row. is_same_key j (row_key row)) xs) same)
+          | inr apart ↦
+              any_by_filter (λ row. is_same_key j (part_key row)) parts ∙ ap has_some (parts_there j apart) ∙ sym (any_by_filter (λ row. is_same_key j (part_key row)) later) ∙ f.same_keys j
+              ∙ any_by_filter (λ row. is_same_key j (row_key row)) rest ∙ ap has_some (sym (of_key_there row_key j x xs apart)) ∙ sym (any_by_filter (λ row. is_same_key j (row_key row)) whole)
+        ];
         folds = λ j a e. elim (cases_Bool (is_same_key j (row_key x))) [
-              | inl same ↦
-                  let is : j ≡ row_key x = one_key j (row_key x) same in
-                  ap (λ k. merge_of a (map (stored_state keys aggs a) (of_key part_key k parts))) is ∙ ap (λ some. merge_of a (map (stored_state keys aggs a) some)) parts_here ∙ r.merged a e
-                  ∙ sym (ap (λ run. Some (fold_of run a)) (ap (λ k. of_key row_key k whole) is ∙ run_here))
-              | inr apart ↦ ap (λ some. merge_of a (map (stored_state keys aggs a) some)) (parts_there j apart) ∙ f.folds j a e ∙ ap (λ run. Some (fold_of run a)) (sym (of_key_there row_key j x xs apart))
-            ];
+          | inl same ↦
+              let is : j ≡ row_key x = one_key j (row_key x) same in
+              ap (λ k. merge_of a (map (stored_state keys aggs a) (of_key part_key k parts))) is ∙ ap (λ some. merge_of a (map (stored_state keys aggs a) some)) parts_here ∙ r.merged a e
+              ∙ sym (ap (λ run. Some (fold_of run a)) (ap (λ k. of_key row_key k whole) is ∙ run_here))
+          | inr apart ↦ ap (λ some. merge_of a (map (stored_state keys aggs a) some)) (parts_there j apart) ∙ f.folds j a e ∙ ap (λ run. Some (fold_of run a)) (sym (of_key_there row_key j x xs apart))
+        ];
       }
 
     one_from : RunStands keys aggs (run_of row_key whole) (run_of part_key parts) → row_key x ≡ part_key q
@@ -166,7 +163,7 @@ module _ (keys : List ℕ) (aggs : List Aggregate) where
         let one = one_from r in
         let both : FoldsRows keys aggs rest later ↔ FoldsRows keys aggs whole parts = (whole_stands one r, rest_stands one) in
         subst (λ left. FoldsRows keys aggs left (drop (length (run_of part_key parts)) parts) ↔ FoldsRows keys aggs whole parts) (sym (after_run row_key x xs))
-          (subst (λ left. FoldsRows keys aggs rest left ↔ FoldsRows keys aggs whole parts) (sym (after_run part_key q qs)) both)
+        (subst (λ left. FoldsRows keys aggs rest left ↔ FoldsRows keys aggs whole parts) (sym (after_run part_key q qs)) both)
 
   -- ---- at any place of a walk
 

@@ -15,7 +15,6 @@ use Rattle.mt_types.specs.declared.ty.Agg.{Agg}
 use Rattle.mt_types.specs.declared.ty.Agg.TheVariants.{Sum, Min, Max}
 use Rattle.mt_types.specs.declared.value.AggState.{AggState}
 use Rattle.mt_types.specs.declared.value.Value.{Value, out-Value}
-use Rattle.mt_types.specs.declared.value.Value.TheVariants.{State}
 use Rattle.mt_types.specs.Order.{values_cmp}
 use Rattle.mt_types.specs.Ordered.{values_total}
 use Rattle.mt_table.specs.declared.projection.Aggregate.{Aggregate}
@@ -23,14 +22,13 @@ use Rattle.mt_table.specs.declared.projection.Aggregate.TheVariants.{Count, Of}
 use Rattle.mt_table.specs.declared.projection.Projection.TheVariants.{Grouped}
 use Rattle.mt_defs.specs.Rows.{Row, cell, key_of}
 use Rattle.mt_defs.specs.Folds.{fold_of, merge_of, merge_upon, join}
-use Rattle.mt_defs.specs.Projections.{FoldsRows, aggregate_index, state_at, is_same_agg, is_same_aggregate, is_same_key, stored_key, stored_state}
+use Rattle.mt_defs.specs.Projections.{FoldsRows, aggregate_index, state_at, is_same_agg, is_same_aggregate, stored_key, stored_state}
 use Rattle.mt_defs.specs.Sorting.{sorted_by, sorted_rows}
 use Rattle.mt_defs.specs.Writer.{folded_row}
 use Rattle.mt_defs.proofs.Sorted.{IsSorted-sorted_by}
 use Rattle.mt_proj.specs.Keys.{rows_in}
 use Rattle.mt_proj.specs.Runs.{IsInOrder, run_of, rows_by_key, HaveOneKey, MergeToFolds, RunStands}
 use Rattle.mt_proj.proofs.StableLemmas.{not_both}
-use Rattle.mt_proj.proofs.OrderLemmas.{one_key}
 use Rattle.mt_proj.proofs.RunLemmas.{by_key, Rising, rising, rising_drop, HasNone, after_front, none_after, after_run}
 use Rattle.mt_proj.proofs.GroupLemmas.{row_of, first_row, keys_met}
 use Rattle.mt_proj.proofs.StandLemmas.{of_key-sorted_by, folds_sorted, nothing_stands, stored_alone, walk_fails, walk_holds}
@@ -75,11 +73,11 @@ group_step keys aggs sorted run start first made more row up inside is run_is ro
     let parts : rows_in (drop start sorted) ≡ first.now ∷ tail = ap rows_in (drop-cons sorted start first inside) ∙ ap (λ (r : Bor Row). r.now ∷ tail) (sym is) in
     let none : HasNone key first.now (after_front key first.now tail) = none_after key first.now tail (subst (Rising key) parts (rising_from key start sorted up)) in
     let left : rows_in (drop (start + length run) sorted) ≡ after_front key first.now tail =
-        left_behind key sorted run start run_is ∙ ap (λ rows. drop (length (run_of key rows)) rows) parts ∙ after_run key first.now tail in
+    left_behind key sorted run start run_is ∙ ap (λ rows. drop (length (run_of key rows)) rows) parts ∙ after_run key first.now tail in
     let made_row : row ≡ row_of aggs (key first.now) (run_of key (first.now ∷ tail)) = row_is ∙ ap (row_of aggs (key first.now)) (run_is ∙ ap (run_of key) parts) in
     let rest = rows_by_key keys aggs (after_front key first.now tail) in
     let step : row ∷ rest ≡ rows_by_key keys aggs (rows_in (drop start sorted)) =
-        ap (λ r. r ∷ rest) made_row ∙ sym (first_row keys aggs first.now tail none) ∙ sym (ap (rows_by_key keys aggs) parts) in
+    ap (λ r. r ∷ rest) made_row ∙ sym (first_row keys aggs first.now tail none) ∙ sym (ap (rows_by_key keys aggs) parts) in
     ap (λ rows. more ++ rows_by_key keys aggs rows) left ∙ ap (λ rows. rows ++ rest) pushed ∙ append_assoc made (row ∷ []) rest ∙ ap (λ rows. made ++ rows) step ∙ ahead
 
 -- ---- run against run
@@ -91,7 +89,7 @@ pub step_fails : (keys : List ℕ) (aggs : List Aggregate) (rows stored run part
     → FoldsRows keys aggs (rows_in (drop start rows)) (rows_in (drop stored_start stored)) → ⊥
 step_fails keys aggs rows stored run parts start stored_start up stored_up inside run_is parts_are fails =
     walk_fails keys aggs (rows_in (drop start rows)) (rows_in (drop stored_start stored)) (rising_from (key_of keys) start rows up) (rising_from (stored_key keys) stored_start stored stored_up) (some_left start rows inside)
-      (λ r. fails (subst (λ some. RunStands keys aggs (rows_in run) some) (sym parts_are) (subst (λ some. RunStands keys aggs some (run_of (stored_key keys) (rows_in (drop stored_start stored)))) (sym run_is) r)))
+    (λ r. fails (subst (λ some. RunStands keys aggs (rows_in run) some) (sym parts_are) (subst (λ some. RunStands keys aggs some (run_of (stored_key keys) (rows_in (drop stored_start stored)))) (sym run_is) r)))
 
 pub step_holds : (keys : List ℕ) (aggs : List Aggregate) (rows stored run parts : List (Bor Row)) (start stored_start : ℕ)
     → IsInOrder (key_of keys) (rows_in rows) → IsInOrder (stored_key keys) (rows_in stored) → start < length rows
@@ -103,12 +101,11 @@ step_holds keys aggs rows stored run parts start stored_start up stored_up insid
     let here = rows_in (drop start rows) in
     let there = rows_in (drop stored_start stored) in
     let stands : RunStands keys aggs (run_of (key_of keys) here) (run_of (stored_key keys) there) =
-        subst (λ some. RunStands keys aggs (run_of (key_of keys) here) some) parts_are (subst (λ some. RunStands keys aggs some (rows_in parts)) run_is r) in
+    subst (λ some. RunStands keys aggs (run_of (key_of keys) here) some) parts_are (subst (λ some. RunStands keys aggs some (rows_in parts)) run_is r) in
     let step = walk_holds keys aggs here there (rising_from (key_of keys) start rows up) (rising_from (stored_key keys) stored_start stored stored_up) (some_left start rows inside) stands in
     let left = left_behind (key_of keys) rows run start run_is in
     let stored_left = left_behind (stored_key keys) stored parts stored_start parts_are in
-    let F : List Row → List Row → Type 0 = λ some others. FoldsRows keys aggs some others in
-    (
+    let F : List Row → List Row → Type 0 = λ some others. FoldsRows keys aggs some others in (
       λ f. ahead.0 (step.0 (subst (λ some. F some (drop (length (run_of (stored_key keys) there)) there)) left (subst (λ some. F (rows_in (drop (start + length run) rows)) some) stored_left f))),
       λ f. subst (λ some. F (rows_in (drop (start + length run) rows)) some) (sym stored_left) (subst (λ some. F some (drop (length (run_of (stored_key keys) there)) there)) (sym left) (step.1 (ahead.1 f))),
     )
@@ -127,9 +124,8 @@ walk_ends keys aggs rows stored start stored_start b ended none some ahead =
     let there = rows_in (drop stored_start stored) in
     let size : length there ≡ length (drop stored_start stored) = length_rows_in (drop stored_start stored) in
     let last : IsTrue b ↔ FoldsRows keys aggs [] there =
-        all_read keys aggs there b (λ e. let h : length stored ≤ stored_start = none e in omega (arith, h, size, length-drop stored_start stored)) (λ e. some_left stored_start stored (some e)) in
-    let nothing : rows_in (drop start rows) ≡ [] = ap rows_in (drop_all start rows ended) in
-    (
+    all_read keys aggs there b (λ e. let h : length stored ≤ stored_start = none e in omega (arith, h, size, length-drop stored_start stored)) (λ e. some_left stored_start stored (some e)) in
+    let nothing : rows_in (drop start rows) ≡ [] = ap rows_in (drop_all start rows ended) in (
       λ e. ahead.0 (subst (λ some. FoldsRows keys aggs some there) (sym nothing) (last.0 e)),
       λ f. last.1 (subst (λ some. FoldsRows keys aggs some there) nothing (ahead.1 f)),
     )
@@ -145,8 +141,7 @@ pub one_key_at : (keys : List ℕ) (rows stored : List (Bor Row)) (row part : Bo
 one_key_at keys [] stored row part some some_stored is part_is = absurd (omega (arith, some))
 one_key_at keys (r ∷ rs) [] row part some some_stored is part_is = absurd (omega (arith, some_stored))
 one_key_at keys (r ∷ rs) (q ∷ qs) row part some some_stored is part_is =
-    let K : Bor Row → Bor Row → Type 0 = λ a b. key_of keys a.now ≡ stored_key keys b.now in
-    (
+    let K : Bor Row → Bor Row → Type 0 = λ a b. key_of keys a.now ≡ stored_key keys b.now in (
       λ e. subst (λ a. K a part) (sym is) (subst (λ b. K r b) (sym part_is) e),
       λ e. subst (λ b. K r b) part_is (subst (λ a. K a part) is e),
     )
@@ -265,8 +260,7 @@ pub stands_sorted : (keys : List ℕ) (aggs : List Aggregate) (rows stored wante
     → IsTrue b ↔ FoldsRows keys aggs wanted found → IsTrue b ↔ FoldsRows keys aggs rows stored
 stands_sorted keys aggs rows stored wanted found b wanted_is found_is test =
     let both = folds_sorted keys aggs rows stored in
-    let F : List Row → List Row → Type 0 = λ some others. FoldsRows keys aggs some others in
-    (
+    let F : List Row → List Row → Type 0 = λ some others. FoldsRows keys aggs some others in (
       λ e. both.0 (subst (F (sorted_by (by_key (key_of keys)) rows)) found_is (subst (λ some. F some found) wanted_is (test.0 e))),
       λ f. test.1 (subst (λ some. F some found) (sym wanted_is) (subst (F (sorted_by (by_key (key_of keys)) rows)) (sym found_is) (both.1 f))),
     )

@@ -19,6 +19,7 @@ key_in Whole row = row
 abbrev pub rows_in : List (Bor Row) → List Row
 rows_in rows = map (λ row. row.now) rows
 
+-- what stands for a projection that the table lacks
 abbrev pub no_projection : Projection
 no_projection = Normal (codes "") [] []
 

@@ -19,11 +19,7 @@ pub fn sort_rows(columns: &[usize], mut rows: Vec<Row>) -> Result<List<Row>, NoM
 }
 
 /// The rows in the order of their keys. No row is copied.
-pub fn sorted_refs<'a>(
-    alloc: Global,
-    key: &Key,
-    rows: &'a [Row],
-) -> Result<Vec<&'a Row>, NoMemory>
+pub fn sorted_refs<'a>(alloc: Global, key: &Key, rows: &'a [Row]) -> Result<Vec<&'a Row>, NoMemory>
     ensures { IfOk result (λ sorted. rows_in sorted.items
         ≡ sorted_by (λ a b. values_cmp (key_in key.now a) (key_in key.now b)) rows.now) }
 {

@@ -8,7 +8,9 @@ use std::alloc::Global;
 use std::test::Fail;
 
 const SUM_AND_COUNT: [Aggregate; 2] = [Aggregate::Of(Agg::Sum, 1), Aggregate::Count];
+
 const MIN_AND_MAX: [Aggregate; 2] = [Aggregate::Of(Agg::Min, 1), Aggregate::Of(Agg::Max, 1)];
+
 const MAX_AND_COUNT: [Aggregate; 2] = [Aggregate::Of(Agg::Max, 1), Aggregate::Count];
 
 fn projection(alloc: Global, aggs: &[Aggregate]) -> Result<Projection, NoMemory> {
@@ -56,7 +58,14 @@ fn sums_wrap(rt: HostRuntime) -> Result<(), Fail> {
     let rows: [&[i128]; 2] = [&[1, 18_446_744_073_709_551_615, 0], &[1, 2, 0]];
     assert!(rt; is_projected(alloc, &SUM_AND_COUNT, &rows, &[(1, Sum(1), Count(2))])?);
     assert!(rt; !states_stand(alloc, &SUM_AND_COUNT, &rows, &[(1, Sum(2), Count(2))])?);
-    assert!(rt; !states_stand(alloc, &SUM_AND_COUNT, &rows, &[(1, Sum(u64::MAX), Count(2))])?);
+    assert!(rt;
+        !states_stand(
+            alloc,
+            &SUM_AND_COUNT,
+            &rows,
+            &[(1, Sum(u64::MAX), Count(2))]
+        )?
+    );
     Ok(())
 }
 

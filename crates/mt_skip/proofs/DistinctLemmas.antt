@@ -1,7 +1,7 @@
 -- Distinct values: one more value, and how many there are.
 use Rattle.std.proofs.Common.{◌≡◌, ℕ, zero, suc, ◌+◌, ◌<◌, ◌≤◌, Bool, true, false, cond, not, ◌&&◌, ◌||◌, ◌==◌, List, [], ◌∷◌, ◌++◌, length, map, take, drop, get_or, refl, ap, sym, ◌∙◌, subst, inl, inr, arith, append_assoc, add-one}
 use Rattle.std.specs.Prelude.{filter, nat_lt, slice_get, Some}
-use Rattle.std.specs.List.{list_any, list_all, IsDistinct, AllByRecursion}
+use Rattle.std.specs.List.{list_any, list_all}
 use Rattle.std.specs.Ordering.{is_eq}
 use Rattle.std.specs.Cmp.{IsEquivalence}
 use Rattle.std.specs.declared.cmp.Ordering.{Ordering}
@@ -9,9 +9,8 @@ use Rattle.std.specs.declared.cmp.Ordering.TheVariants.{Less, Equal, Greater}
 use Rattle.std.proofs.Math.Seq.{drop-cons}
 use Rattle.std.proofs.lemmas.Bool.{cases_Bool, ltb-true, lt-ltb}
 use Rattle.std.proofs.lemmas.Cmp.{eq_by_cmp_equiv}
-use Rattle.std.proofs.lemmas.List.{append-nil, length-append, length-map, take_more, take_all, take-append-drop}
+use Rattle.std.proofs.lemmas.List.{append-nil, length-append, take-append-drop}
 use Rattle.std.proofs.lemmas.List.Elements.{filter-append, All-cons, All-filter}
-use Rattle.std.proofs.lemmas.List.Folds.{list_any-append}
 use Rattle.std.proofs.lemmas.Map.Views.{any-filter_same}
 use Rattle.indexmap.specs.IndexSet.{insert_key}
 use Rattle.mt_types.specs.declared.ty.Ty.{Ty}
@@ -96,10 +95,10 @@ distinct_more (y ∷ ys) x =
     let rest = filter (is_other y) ds in
     ap (λ l. y ∷ filter (is_other y) l) (distinct_more ys x)
     ∙ elim (cases_Bool (is_same x y)) [
-        | inl same ↦ ap (λ l. y ∷ l) (last_dropped x y ds same b) ∙ sym (ap (λ c. with_last (c || list_any (is_same x) rest) (y ∷ rest) x) same)
-        | inr apart ↦
-            ap (λ l. y ∷ l) (last_kept x y ds apart b) ∙ moved b y rest x ∙ ap (λ c. with_last c (y ∷ rest) x) (sym (any_other x y ds apart)) ∙ sym (ap (λ c. with_last (c || list_any (is_same x) rest) (y ∷ rest) x) apart)
-      ]
+      | inl same ↦ ap (λ l. y ∷ l) (last_dropped x y ds same b) ∙ sym (ap (λ c. with_last (c || list_any (is_same x) rest) (y ∷ rest) x) same)
+      | inr apart ↦
+          ap (λ l. y ∷ l) (last_kept x y ds apart b) ∙ moved b y rest x ∙ ap (λ c. with_last c (y ∷ rest) x) (sym (any_other x y ds apart)) ∙ sym (ap (λ c. with_last (c || list_any (is_same x) rest) (y ∷ rest) x) apart)
+    ]
 
 inserted : (b : Bool) (keys : List Seen) (k : Seen) → values_in (cond b keys (keys ++ k ∷ [])) ≡ with_last b (values_in keys) k.value.now
 inserted true keys k = refl
@@ -122,7 +121,7 @@ pub distinct_grow : (xs ys : List Value) → length (distinct_values xs) ≤ len
 distinct_grow xs [] = let e = ap (λ l. length (distinct_values l)) (append-nil xs) in omega (arith, e)
 distinct_grow xs (y ∷ ys) =
     let one : length (distinct_values xs) ≤ length (distinct_values (xs ++ y ∷ [])) =
-        subst (λ l. length (distinct_values xs) ≤ length l) (sym (distinct_more xs y)) (grown (list_any (is_same y) (distinct_values xs)) (distinct_values xs) y) in
+    subst (λ l. length (distinct_values xs) ≤ length l) (sym (distinct_more xs y)) (grown (list_any (is_same y) (distinct_values xs)) (distinct_values xs) y) in
     let rest = distinct_grow (xs ++ y ∷ []) ys in
     let e : length (distinct_values (xs ++ y ∷ ys)) ≡ length (distinct_values ((xs ++ y ∷ []) ++ ys)) = ap (λ l. length (distinct_values l)) (sym (append_assoc xs (y ∷ []) ys)) in
     omega (arith, one, rest, e)

@@ -1,8 +1,8 @@
 -- The best of some values is the least or the greatest, and there is only one.
-use Rattle.std.proofs.Common.{◌≡◌, ℕ, zero, suc, ◌+◌, ◌-◌, ◌<◌, ◌≤◌, ◌↔◌, Bool, true, false, cond, List, [], ◌∷◌, ◌++◌, length, take, drop, get_or, refl, ap, sym, ◌∙◌, subst, inl, inr, arith}
-use Rattle.std.specs.Prelude.{IsTrue, All, Contains}
+use Rattle.std.proofs.Common.{◌≡◌, ℕ, suc, ◌-◌, ◌<◌, ◌≤◌, ◌↔◌, Bool, true, false, cond, List, [], ◌∷◌, ◌++◌, length, take, drop, get_or, refl, ap, sym, ◌∙◌, subst, inl, inr, arith}
+use Rattle.std.specs.Prelude.{All, Contains}
 use Rattle.std.specs.List.{flat_map}
-use Rattle.std.specs.Ordering.{is_lt, is_le, is_gt, is_eq, ordering_reverse}
+use Rattle.std.specs.Ordering.{is_lt, is_le, is_gt, ordering_reverse}
 use Rattle.std.specs.Cmp.{IsTotalOrder}
 use Rattle.std.specs.declared.cmp.Ordering.{Ordering}
 use Rattle.std.specs.declared.cmp.Ordering.TheVariants.{Less, Equal, Greater}
@@ -17,12 +17,11 @@ use Rattle.mt_types.specs.Items.{item_bytes}
 use Rattle.mt_types.specs.Order.{value_cmp}
 use Rattle.mt_types.specs.Ordered.{value_total}
 use Rattle.mt_types.specs.Ties.{exact_values}
-use Rattle.mt_defs.specs.Partition.{IsLeast, IsGreatest, IsMinmaxOf}
+use Rattle.mt_defs.specs.Partition.{IsMinmaxOf}
 use Rattle.mt_defs.specs.WrittenPartition.{best_of, better_of, minmax_bytes}
 use Rattle.mt_skip.specs.declared.extreme.Extreme.{Extreme}
 use Rattle.mt_skip.specs.declared.extreme.Extreme.TheVariants.{Least, Greatest}
 use Rattle.mt_skip.specs.Extremes.{is_better, values_at}
-use Rattle.mt_skip.proofs.DistinctLemmas.{not_both}
 
 -- ---- places
 
@@ -126,29 +125,37 @@ no_others P k d inside = absurd (omega (arith, inside))
 
 -- some values have a best
 best_at : (extreme : Extreme) (x : Value) (xs : List Value) → (v : Value) × Best extreme (x ∷ xs) v
-best_at extreme x [] = (x, record {
-  is = refl;
-  among = (0, omega arith, refl);
-  first = All-cons (λ other. NotAfter extreme x other) x [] (not_after_self extreme x) (no_others (λ other. NotAfter extreme x other));
-})
+best_at extreme x [] = (
+  x,
+  record {
+    is = refl;
+    among = (0, omega arith, refl);
+    first = All-cons (λ other. NotAfter extreme x other) x [] (not_after_self extreme x) (no_others (λ other. NotAfter extreme x other));
+  },
+)
 best_at extreme x (y ∷ ys) =
     let better = is_better extreme in
     let rest = best_at extreme y ys in
     let v : Value = rest.0 in
     let b : Best extreme (y ∷ ys) v = rest.1 in
     elim (cases_Bool (better v x)) [
-      | inl hit ↦ (v, record {
-        is = ap (better_of better x) b.is ∙ ap (λ c. cond c (v ∷ []) (x ∷ [])) hit;
-        among = (suc b.among.0, omega (arith, b.among.1), b.among.2);
-        first = All-cons (λ other. NotAfter extreme v other) x (y ∷ ys) (lt_not_gt (ordered_by extreme v x) (sym (is_better_lt extreme v x) ∙ hit)) b.first;
-      })
+      | inl hit ↦ (
+        v,
+        record {
+          is = ap (better_of better x) b.is ∙ ap (λ c. cond c (v ∷ []) (x ∷ [])) hit;
+          among = (suc b.among.0, omega (arith, b.among.1), b.among.2);
+          first = All-cons (λ other. NotAfter extreme v other) x (y ∷ ys) (lt_not_gt (ordered_by extreme v x) (sym (is_better_lt extreme v x) ∙ hit)) b.first;
+        },
+      )
       | inr miss ↦
-          let over : NotAfter extreme x v = turned_not_gt (ordered_by extreme x v) (ordered_by extreme v x) ((ordered_total extreme).antisymm x v) (sym (is_better_lt extreme v x) ∙ miss) in
-          (x, record {
-            is = ap (better_of better x) b.is ∙ ap (λ c. cond c (v ∷ []) (x ∷ [])) miss;
-            among = (0, omega arith, refl);
-            first = All-cons (λ other. NotAfter extreme x other) x (y ∷ ys) (not_after_self extreme x) (λ k d inside. upto (ordered_total extreme) x v (get_or (y ∷ ys) k d) over (b.first k d inside));
-          })
+          let over : NotAfter extreme x v = turned_not_gt (ordered_by extreme x v) (ordered_by extreme v x) ((ordered_total extreme).antisymm x v) (sym (is_better_lt extreme v x) ∙ miss) in (
+            x,
+            record {
+              is = ap (better_of better x) b.is ∙ ap (λ c. cond c (v ∷ []) (x ∷ [])) miss;
+              among = (0, omega arith, refl);
+              first = All-cons (λ other. NotAfter extreme x other) x (y ∷ ys) (not_after_self extreme x) (λ k d inside. upto (ordered_total extreme) x v (get_or (y ∷ ys) k d) over (b.first k d inside));
+            },
+          )
     ]
 
 -- and only one
@@ -189,9 +196,8 @@ minmax_is ty (x ∷ xs) bytes some =
     let l : Best Least values least.0 = least.1 in
     let g : Best Greatest values greatest.0 = greatest.1 in
     let written : minmax_bytes ty values ≡ item_bytes ty least.0 ++ item_bytes ty greatest.0 =
-        ap (λ b. b ++ flat_map (item_bytes ty) (best_of (is_better Greatest) values)) (one_item ty (best_of (is_better Least) values) least.0 l.is)
-        ∙ ap (λ b. item_bytes ty least.0 ++ b) (one_item ty (best_of (is_better Greatest) values) greatest.0 g.is) in
-    (
+    ap (λ b. b ++ flat_map (item_bytes ty) (best_of (is_better Greatest) values)) (one_item ty (best_of (is_better Least) values) least.0 l.is)
+    ∙ ap (λ b. item_bytes ty least.0 ++ b) (one_item ty (best_of (is_better Greatest) values) greatest.0 g.is) in (
       λ e. (
         least.0,
         greatest.0,

@@ -1,5 +1,5 @@
 -- Groups of granules: a step of the walk over them, and the writer's groups of rows.
-use Rattle.std.proofs.Common.{◌≡◌, ℕ, zero, suc, ◌+◌, ◌-◌, ◌<◌, ◌≤◌, List, [], ◌∷◌, ◌++◌, length, map, take, drop, refl, ap, sym, ◌∙◌, subst, arith, min, inl, inr}
+use Rattle.std.proofs.Common.{◌≡◌, ℕ, zero, suc, ◌+◌, ◌<◌, ◌≤◌, List, [], ◌∷◌, ◌++◌, length, map, take, drop, refl, ap, sym, ◌∙◌, arith, min, inl, inr}
 use Rattle.std.specs.Prelude.{sum}
 use Rattle.std.specs.List.{flat_map}
 use Rattle.std.proofs.Math.Seq.{drop-nil, take-add}
@@ -82,7 +82,7 @@ groups_of_rows column per (suc n) (count ∷ granules) rows =
     let size = sum (take per all) in
     let first : take size (map f rows) ≡ map f (together (take per (granule_rows all rows))) = take-map f size rows ∙ ap (map f) (sym (rows_together per all rows)) in
     let rest : value_groups per n (drop per all) (drop size (map f rows)) ≡ map (column_values column) (entry_groups per n (drop per (granule_rows all rows))) =
-        ap (value_groups per n (drop per all)) (drop-map f size rows) ∙ groups_of_rows column per n (drop per all) (drop size rows) ∙ ap (λ some. map (column_values column) (entry_groups per n some)) (sym (rows_behind per all rows)) in
+    ap (value_groups per n (drop per all)) (drop-map f size rows) ∙ groups_of_rows column per n (drop per all) (drop size rows) ∙ ap (λ some. map (column_values column) (entry_groups per n some)) (sym (rows_behind per all rows)) in
     ap (λ vs. vs ∷ value_groups per n (drop per all) (drop size (map f rows))) first ∙ ap (λ groups. map f (together (take per (granule_rows all rows))) ∷ groups) rest
 
 map_map : {X Y Z : Type 0} (f : Y → Z) (g : X → Y) (xs : List X) → map f (map g xs) ≡ map (λ x. f (g x)) xs
@@ -104,8 +104,7 @@ cut_at : {X : Type 0} (per n : ℕ) (xs : List X) → n ≡ min (length xs) per 
 cut_at per n xs is =
     elim (leb_tells (length xs) per) [
       | inl short ↦
-          let all : n ≡ length xs = omega (arith, is, short.1) in
-          (
+          let all : n ≡ length xs = omega (arith, is, short.1) in (
             take_all n xs (omega (arith, all)) ∙ sym (take_all per xs short.1),
             drop_all n xs (omega (arith, all)) ∙ sym (drop_all per xs short.1),
           )

@@ -1,14 +1,13 @@
 -- Which entries agree with some values: the writer's, and no set entry that lacks one of them.
-use Rattle.std.proofs.Common.{◌≡◌, ◌≢◌, ℕ, zero, suc, ◌+◌, ◌<◌, ◌≤◌, ◌^◌, Bool, true, false, cond, not, List, [], ◌∷◌, ◌++◌, length, take, drop, refl, ap, sym, ◌∙◌, subst, inl, inr, arith}
-use Rattle.std.specs.Prelude.{IsPermutation, Contains, filter, Result, Ok}
+use Rattle.std.proofs.Common.{◌≡◌, ◌≢◌, ℕ, suc, ◌<◌, ◌≤◌, ◌^◌, Bool, true, false, cond, not, List, [], ◌∷◌, ◌++◌, length, take, refl, ap, sym, ◌∙◌, subst, arith}
+use Rattle.std.specs.Prelude.{Contains, Ok}
 use Rattle.std.specs.Bool.{MatchBool}
-use Rattle.std.specs.Int.{w64, to_le_bytes, from_le_bytes}
+use Rattle.std.specs.Int.{w64, from_le_bytes}
 use Rattle.std.specs.List.{flat_map, list_any}
 use Rattle.std.proofs.Math.Seq.{take-append_seam}
-use Rattle.std.proofs.lemmas.Bool.{cases_Bool}
 use Rattle.std.proofs.lemmas.List.{append_cancel_left}
 use Rattle.std.proofs.lemmas.List.Concat.{flat_map-cons}
-use Rattle.std.proofs.lemmas.List.Sorted.{IsPermutation-refl, IsPermutation-sym, All-permutation, length_permutation}
+use Rattle.std.proofs.lemmas.List.Sorted.{IsPermutation-refl, All-permutation, length_permutation}
 use Rattle.std.proofs.lemmas.Nat.{from_le_bytes-to_le_bytes_8}
 use Rattle.mt_types.specs.declared.ty.Ty.{Ty}
 use Rattle.mt_types.specs.declared.value.Value.{Value}
@@ -25,7 +24,7 @@ use Rattle.mt_item.specs.ItemTypes.{has_items}
 use Rattle.mt_item.proofs.ItemLemmas.{item_exact}
 use Rattle.mt_skip.specs.Gathering.{is_same}
 use Rattle.mt_skip.specs.Items.{AllFit}
-use Rattle.mt_skip.proofs.DistinctLemmas.{not_both, distinct_fit}
+use Rattle.mt_skip.proofs.DistinctLemmas.{distinct_fit}
 use Rattle.mt_skip.proofs.ExtremeLemmas.{minmax_is}
 use Rattle.mt_skip.proofs.PermutationLemmas.{any_at, any_distinct, any_permuted, contains_from, filter_short}
 
@@ -87,7 +86,7 @@ lacking_listed ty values listed lacking items fits listed_fits few listed_few am
     let others_fit : AllFit ty others = All-permutation (λ v. fits_of ty v ≡ true) distinct others lists.1 (distinct_fit ty values fits) in
     let count : length listed ≡ length others = one_count (length listed) (length others) (flat_map (item_bytes ty) listed) (flat_map (item_bytes ty) others) listed_few (omega (arith, long, short, few)) lists.2 in
     let behind : flat_map (item_bytes ty) listed ≡ flat_map (item_bytes ty) others =
-        append_cancel_left (u64_bytes (length others)) (flat_map (item_bytes ty) listed) (flat_map (item_bytes ty) others) (ap (λ n. u64_bytes n ++ flat_map (item_bytes ty) listed) (sym count) ∙ lists.2) in
+    append_cancel_left (u64_bytes (length others)) (flat_map (item_bytes ty) listed) (flat_map (item_bytes ty) others) (ap (λ n. u64_bytes n ++ flat_map (item_bytes ty) listed) (sym count) ∙ lists.2) in
     let same : listed ≡ others = one_listing ty listed others items listed_fits others_fit count behind in
     let there = any_permuted lacking distinct others lists.1 (any_distinct lacking values (any_at lacking values among.0 among.1 among.2)) in
     lacks (contains_from lacking listed (ap (list_any (is_same lacking)) same ∙ there))

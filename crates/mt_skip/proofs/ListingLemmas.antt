@@ -1,6 +1,6 @@
 -- When an entry lists the distinct values: its count, its items, and each of them once.
-use Rattle.std.proofs.Common.{◌≡◌, ◌≢◌, ℕ, ◌↔◌, Bool, true, List, ◌++◌, length, refl, ap, sym, ◌∙◌, subst}
-use Rattle.std.specs.Prelude.{IsTrue, IsPermutation, Option, Some, None}
+use Rattle.std.proofs.Common.{◌≡◌, ◌≢◌, ℕ, ◌↔◌, Bool, true, List, ◌++◌, length, ap, sym, ◌∙◌, subst}
+use Rattle.std.specs.Prelude.{IsTrue, IsPermutation, Some, None}
 use Rattle.std.specs.List.{flat_map}
 use Rattle.std.proofs.lemmas.List.{append_cancel_left}
 use Rattle.std.proofs.lemmas.List.Sorted.{All-permutation, length_permutation}
@@ -9,7 +9,7 @@ use Rattle.mt_types.specs.declared.value.Value.{Value}
 use Rattle.mt_types.specs.Fits.{fits_of}
 use Rattle.mt_types.specs.Items.{item_bytes}
 use Rattle.mt_defs.specs.Marks.{u64_bytes}
-use Rattle.mt_defs.specs.SkipIndexes.{ListsDistinct, distinct_values, set_bytes}
+use Rattle.mt_defs.specs.SkipIndexes.{ListsDistinct, distinct_values}
 use Rattle.mt_skip.specs.Gathering.{has_each}
 use Rattle.mt_skip.specs.Items.{AllFit, AreItems, ReadsItems}
 use Rattle.mt_skip.proofs.DistinctLemmas.{distinct_fit}
@@ -39,8 +39,7 @@ module _ (ty : Ty) (values : List Value) (entry : List ℕ) (count : ℕ) (fits 
     pub some_items : (listed : List Value) (has : Bool) → ReadsItems ty count bytes (Some listed) → has ≡ has_each listed values → IsTrue has ↔ ListsDistinct ty values entry
     some_items listed has read is =
         let items : AreItems ty count bytes listed = read.found in
-        let test = has_each_is listed values (items.counted ∙ counted) in
-        (
+        let test = has_each_is listed values (items.counted ∙ counted) in (
           λ e. (
             listed,
             test.0 (sym is ∙ e),

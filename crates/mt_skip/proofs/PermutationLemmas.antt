@@ -1,9 +1,8 @@
 -- Values that are listed once each, and all of the others, are these in another order.
-use Rattle.std.proofs.Common.{◌≡◌, ℕ, zero, suc, ◌+◌, ◌<◌, ◌≤◌, ◌↔◌, Bool, true, false, cond, not, ◌&&◌, ◌||◌, List, [], ◌∷◌, ◌++◌, length, refl, ap, sym, ◌∙◌, subst, inl, inr, arith, get_or}
+use Rattle.std.proofs.Common.{◌≡◌, ℕ, zero, suc, ◌<◌, ◌≤◌, ◌↔◌, Bool, true, false, cond, not, ◌&&◌, ◌||◌, List, [], ◌∷◌, ◌++◌, length, refl, ap, sym, ◌∙◌, subst, inl, inr, arith, get_or}
 use Rattle.std.specs.Prelude.{filter, nat_le, IsTrue, IsPermutation, Contains}
 use Rattle.std.specs.List.{list_any, list_all, IsDistinct, AllByRecursion}
 use Rattle.std.proofs.lemmas.Bool.{cases_Bool, leb-true, le-leb}
-use Rattle.std.proofs.lemmas.List.{length-append}
 use Rattle.std.proofs.lemmas.List.Folds.{list_any-append}
 use Rattle.std.proofs.lemmas.List.Sorted.{IsPermutation-refl, IsPermutation-cons, IsPermutation-trans, IsPermutation-middle, IsPermutation-sym, length_permutation, Contains-permutation}
 use Rattle.std.proofs.lemmas.Map.Keys.{IsDistinct-cons, IsDistinct-head, IsDistinct-tail, IsDistinct-IsPermutation}
@@ -127,9 +126,9 @@ any_filter p q (x ∷ xs) there =
       | inr miss ↦
           ap (λ b. b || list_any p xs) miss
           ∙ elim (cases_Bool (q x)) [
-              | inl kept ↦ any_filter p q xs (ap (λ b. b || list_any p (filter q xs)) (sym miss) ∙ sym (ap (list_any p) (keeps q x xs kept)) ∙ there)
-              | inr gone ↦ any_filter p q xs (sym (ap (list_any p) (drops q x xs gone)) ∙ there)
-            ]
+            | inl kept ↦ any_filter p q xs (ap (λ b. b || list_any p (filter q xs)) (sym miss) ∙ sym (ap (list_any p) (keeps q x xs kept)) ∙ there)
+            | inr gone ↦ any_filter p q xs (sym (ap (list_any p) (drops q x xs gone)) ∙ there)
+          ]
     ]
 
 -- a distinct value is among the values
@@ -202,10 +201,10 @@ matched (x ∷ xs) ys c d long each =
     let apart : IsDistinct is_same (x ∷ rest) = IsDistinct-IsPermutation is_same same_values.symm ys (x ∷ rest) turned d in
     let size = length_permutation ys (x ∷ rest) turned in
     let others : (v : Value) → list_any (is_same v) xs ≡ true → list_any (is_same v) rest ≡ true = λ v there. elim (cases_Bool (is_same v x)) [
-          | inl same ↦
-              not_both (list_any (is_same x) xs) (ap (λ w. list_any (is_same w) xs) (sym (one_value v x same)) ∙ there) (none_among x xs (IsDistinct-head is_same x xs c))
-          | inr other ↦ sym (past v x s.front s.back other) ∙ sym (ap (list_any (is_same v)) s.is) ∙ each v (either (is_same v x) (list_any (is_same v) xs) there)
-        ] in
+      | inl same ↦
+          not_both (list_any (is_same x) xs) (ap (λ w. list_any (is_same w) xs) (sym (one_value v x same)) ∙ there) (none_among x xs (IsDistinct-head is_same x xs c))
+      | inr other ↦ sym (past v x s.front s.back other) ∙ sym (ap (list_any (is_same v)) s.is) ∙ each v (either (is_same v x) (list_any (is_same v) xs) there)
+    ] in
     let more = matched xs rest (IsDistinct-tail is_same x xs c) (IsDistinct-tail is_same x rest apart) (omega (arith, long, size)) others in
     IsPermutation-trans (x ∷ xs) (x ∷ rest) ys (IsPermutation-cons x xs rest more) (IsPermutation-sym ys (x ∷ rest) turned)
 
@@ -237,7 +236,7 @@ has_each_is listed values long = (
       let once : IsDistinct is_same listed = distinct_from_length listed (leb-true (length listed) (length (distinct_values listed)) parts.0) in
       let same : distinct_values listed ≡ listed = distinct_already listed once in
       matched (distinct_values values) listed (are_distinct values) once long
-        (λ v there. sym (ap (list_any (is_same v)) same) ∙ each_among (λ w. list_any (is_same w) (distinct_values listed)) v values parts.1 (any_from_distinct v values there)),
+      (λ v there. sym (ap (list_any (is_same v)) same) ∙ each_among (λ w. list_any (is_same w) (distinct_values listed)) v values parts.1 (any_from_distinct v values there)),
   λ p.
       let once : IsDistinct is_same listed = IsDistinct-IsPermutation is_same same_values.symm (distinct_values values) listed p (are_distinct values) in
       let same : distinct_values listed ≡ listed = distinct_already listed once in

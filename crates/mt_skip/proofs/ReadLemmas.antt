@@ -1,6 +1,6 @@
 -- Items that are read one by one.
-use Rattle.std.proofs.Common.{◌≡◌, ℕ, zero, suc, ◌+◌, ◌-◌, ◌<◌, ◌≤◌, true, false, List, [], ◌∷◌, ◌++◌, length, refl, ap, sym, ◌∙◌, subst, arith, append_assoc}
-use Rattle.std.specs.Prelude.{Option, Some, None, IfSome, All}
+use Rattle.std.proofs.Common.{◌≡◌, ℕ, suc, ◌+◌, ◌-◌, ◌<◌, true, List, [], ◌∷◌, ◌++◌, length, refl, ap, sym, ◌∙◌, subst, arith, append_assoc}
+use Rattle.std.specs.Prelude.{Option, Some, None}
 use Rattle.std.specs.List.{flat_map}
 use Rattle.std.proofs.lemmas.Grind.{flat_map-append}
 use Rattle.std.proofs.lemmas.List.{append-nil, length-append}
@@ -48,11 +48,17 @@ tail_fits ty v vs all k d inside = all (suc k) d (omega (arith, inside))
 first_of : (ty : Ty) (left : ℕ) (rest : List ℕ) (read : Option (Value × List ℕ)) (more : List Value) → 0 < left → IsFirst (fits_of ty) (item_bytes ty) rest read → AreItems ty left rest more
     → (v : Value) × (vs : List Value) × (more ≡ v ∷ vs) × (read ≡ Some (v, flat_map (item_bytes ty) vs)) × AreItems ty (left - 1) (flat_map (item_bytes ty) vs) vs
 first_of ty left rest read [] some first items = let none : 0 ≡ left = items.counted in absurd (omega (arith, some, none))
-first_of ty left rest read (v ∷ vs) some first items = (v, vs, refl, first.only v (flat_map (item_bytes ty) vs) (items.fit 0 v (omega arith)) (items.encoded ∙ flat_map-cons (item_bytes ty) v vs), record {
-  fit = tail_fits ty v vs items.fit;
-  counted = let e : suc (length vs) ≡ left = items.counted in omega (arith, e);
-  encoded = refl;
-})
+first_of ty left rest read (v ∷ vs) some first items = (
+  v,
+  vs,
+  refl,
+  first.only v (flat_map (item_bytes ty) vs) (items.fit 0 v (omega arith)) (items.encoded ∙ flat_map-cons (item_bytes ty) v vs),
+  record {
+    fit = tail_fits ty v vs items.fit;
+    counted = let e : suc (length vs) ≡ left = items.counted in omega (arith, e);
+    encoded = refl;
+  },
+)
 
 same_first : (v w : Value) (x y : List ℕ) → ◌≡◌ {A = Option (Value × List ℕ)} (Some (v, x)) (Some (w, y)) → (v ≡ w) × (x ≡ y)
 same_first v w x y e =

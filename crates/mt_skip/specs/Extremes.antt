@@ -1,5 +1,5 @@
 -- The least and the greatest of some values.
-use Rattle.std.specs.Prelude.{ℕ, ◌+◌, Bool, List, [], ◌∷◌, take, drop}
+use Rattle.std.specs.Prelude.{ℕ, Bool, List, take, drop}
 use Rattle.std.specs.Ordering.{is_lt}
 use Rattle.mt_types.specs.declared.value.Value.{Value}
 use Rattle.mt_types.specs.Order.{value_cmp}

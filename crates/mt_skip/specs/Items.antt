@@ -1,5 +1,5 @@
 -- Values of a type, and the items that bytes hold.
-use Rattle.std.specs.Prelude.{◌≡◌, ℕ, ◌++◌, true, IfSome, List, length, Option, Some, All}
+use Rattle.std.specs.Prelude.{◌≡◌, ℕ, true, IfSome, List, length, Option, Some, All}
 use Rattle.std.specs.List.{flat_map}
 use Rattle.mt_types.specs.declared.ty.Ty.{Ty}
 use Rattle.mt_types.specs.declared.value.Value.{Value}

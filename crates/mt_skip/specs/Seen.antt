@@ -7,7 +7,7 @@ use Rattle.std.specs.declared.cmp.Ordering.{Ordering}
 use Rattle.std.specs.declared.cmp.Ordering.TheVariants.{Less, Equal, Greater}
 use Rattle.std.proofs.Common.{ap, refl}
 use Rattle.std.proofs.lemmas.Cmp.{eq_by_cmp_equiv, on_total}
-use Rattle.mt_types.specs.declared.value.Value.{Value, out-Value}
+use Rattle.mt_types.specs.declared.value.Value.{out-Value}
 use Rattle.mt_types.specs.Hashed.{level_writes}
 use Rattle.mt_types.specs.Order.{value_cmp}
 use Rattle.mt_types.specs.Ordered.{value_total}

@@ -39,12 +39,7 @@ pub fn agrees(
     }
 }
 
-fn agrees_minmax(
-    alloc: Global,
-    ty: &Ty,
-    values: &[Value],
-    entry: &[u8],
-) -> Result<bool, NoMemory>
+fn agrees_minmax(alloc: Global, ty: &Ty, values: &[Value], entry: &[u8]) -> Result<bool, NoMemory>
     requires items { IsTrue (has_items ty.now) }
     requires fit { AllFit ty.now values.now }
     ensures { IfOk result (λ agrees. IsTrue agrees ↔ IsMinmaxOf ty.now values.now entry.now) }
@@ -97,11 +92,7 @@ fn lists_distinct(
 }
 
 /// Whether the listed values are distinct and have each of the others.
-fn has_each<'a>(
-    alloc: Global,
-    listed: &'a [Value],
-    values: &'a [Value],
-) -> Result<bool, NoMemory>
+fn has_each<'a>(alloc: Global, listed: &'a [Value], values: &'a [Value]) -> Result<bool, NoMemory>
     ensures { IfOk result (λ has. has ≡ has_each listed.now values.now) }
 {
     let Some(distinct) = distinct_of(alloc, 0, listed)? else {

@@ -47,18 +47,17 @@ pub fn minmax_entry(alloc: Global, ty: &Ty, values: &[Value]) -> Result<List<u8>
     let mut entry = List::new(alloc);
     if !values.is_empty() {
         put_item(ty, &values[extreme_of(Extreme::Least, values)], &mut entry)?;
-        put_item(ty, &values[extreme_of(Extreme::Greatest, values)], &mut entry)?;
+        put_item(
+            ty,
+            &values[extreme_of(Extreme::Greatest, values)],
+            &mut entry,
+        )?;
     }
     Ok(entry)
 }
 
 /// The distinct values, or a count of 0 where they are too many.
-fn set_entry(
-    alloc: Global,
-    max_rows: u64,
-    ty: &Ty,
-    values: &[Value],
-) -> Result<List<u8>, NoMemory>
+fn set_entry(alloc: Global, max_rows: u64, ty: &Ty, values: &[Value]) -> Result<List<u8>, NoMemory>
     requires items { IsTrue (has_items ty.now) }
     requires fit { AllFit ty.now values.now }
     ensures { IfOk result (λ entry. entry ≡ written_entry (Set max_rows) ty.now values.now) }
@@ -70,11 +69,7 @@ fn set_entry(
 }
 
 /// The number of some values, and each of them.
-fn listed_entry(
-    alloc: Global,
-    ty: &Ty,
-    values: &IndexSet<Seen>,
-) -> Result<List<u8>, NoMemory>
+fn listed_entry(alloc: Global, ty: &Ty, values: &IndexSet<Seen>) -> Result<List<u8>, NoMemory>
     requires items { IsTrue (has_items ty.now) }
     requires fit { AllFit ty.now (values_in values.now.keys) }
     ensures { IfOk result (λ entry. entry ≡ set_bytes ty.now (values_in values.now.keys)) }

@@ -53,11 +53,26 @@ fn an_entry_is_over_so_many_granules(rt: HostRuntime) -> Result<(), Fail> {
     let alloc = rt.alloc();
     let values = [5, 1, 9, 7, 3];
     let granules = [2, 2, 1];
-    let made = entries_of(alloc, &skip_of(alloc, SkipKind::Minmax, 2), &values, &granules)?;
+    let made = entries_of(
+        alloc,
+        &skip_of(alloc, SkipKind::Minmax, 2),
+        &values,
+        &granules,
+    )?;
     assert!(rt; are(&made, &[&[1, 9], &[3, 3]]));
-    let made = entries_of(alloc, &skip_of(alloc, SkipKind::Minmax, 1), &values, &granules)?;
+    let made = entries_of(
+        alloc,
+        &skip_of(alloc, SkipKind::Minmax, 1),
+        &values,
+        &granules,
+    )?;
     assert!(rt; are(&made, &[&[1, 5], &[7, 9], &[3, 3]]));
-    let made = entries_of(alloc, &skip_of(alloc, SkipKind::Minmax, 9), &values, &granules)?;
+    let made = entries_of(
+        alloc,
+        &skip_of(alloc, SkipKind::Minmax, 9),
+        &values,
+        &granules,
+    )?;
     assert!(rt; are(&made, &[&[1, 9]]));
     Ok(())
 }

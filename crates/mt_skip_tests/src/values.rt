@@ -74,5 +74,11 @@ pub fn agree(alloc: Global, kind: SkipKind, bytes: &[u8], entry: &[u8]) -> Resul
     if !all_fit(&ty, values.as_slice()) {
         return Ok(false);
     }
-    agrees(alloc, &skip_of(alloc, kind, 1), &ty, values.as_slice(), entry)
+    agrees(
+        alloc,
+        &skip_of(alloc, kind, 1),
+        &ty,
+        values.as_slice(),
+        entry,
+    )
 }

@@ -24,4 +24,4 @@ loop-start-preserved c = record {
 pub returns : goal.returns
 returns c =
     walk_ends c.args.columns.now c.args.aggs.now c.args.rows.now c.args.stored.now c.loop-start.start c.loop-start.stored_start (leb (length c.args.stored.now) c.loop-start.stored_start) c.loop-start-test.false
-      (leb-true (length c.args.stored.now) c.loop-start.stored_start) (leb-false (length c.args.stored.now) c.loop-start.stored_start) c.loop-start.invariant.ahead
+    (leb-true (length c.args.stored.now) c.loop-start.stored_start) (leb-false (length c.args.stored.now) c.loop-start.stored_start) c.loop-start.invariant.ahead

@@ -17,5 +17,5 @@ pub returns : goal.returns
 returns c =
     let columns_are : c.as_slice-columns.result.now ≡ c.args.keys.now = c.as_slice-columns.ensures.value ∙ c.in_ok-indexes.ensures in
     subst (λ keys. IsTrue c.runs_stand.result ↔ FoldsRows keys c.args.aggs.now c.args.rows.now c.args.stored.now) columns_are
-      (stands_sorted c.as_slice-columns.result.now c.args.aggs.now c.args.rows.now c.args.stored.now (rows_in c.as_slice.result.now) (rows_in c.as_slice-2.result.now) c.runs_stand.result
-        (ap rows_in c.as_slice.ensures.value ∙ c.in_ok-wanted.ensures) (ap rows_in c.as_slice-2.ensures.value ∙ c.in_ok-found.ensures) c.runs_stand.ensures)
+    (stands_sorted c.as_slice-columns.result.now c.args.aggs.now c.args.rows.now c.args.stored.now (rows_in c.as_slice.result.now) (rows_in c.as_slice-2.result.now) c.runs_stand.result
+    (ap rows_in c.as_slice.ensures.value ∙ c.in_ok-wanted.ensures) (ap rows_in c.as_slice-2.ensures.value ∙ c.in_ok-found.ensures) c.runs_stand.ensures)

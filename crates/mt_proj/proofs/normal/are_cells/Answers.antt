@@ -10,5 +10,5 @@ returns c =
     let ended : c.loop-i.i ≡ length c.args.rows.now = omega arith in
     let all = leb (length c.args.values.now) (length c.args.rows.now) in
     rows_end c.args.columns.now c.args.rows.now c.args.values.now c.loop-i.i all ended (λ e. omega (arith, ended, leb-true (length c.args.values.now) (length c.args.rows.now) e))
-      (λ e. omega (arith, ended, leb-false (length c.args.values.now) (length c.args.rows.now) e))
+    (λ e. omega (arith, ended, leb-false (length c.args.values.now) (length c.args.rows.now) e))
     ∙ ap is_eq c.loop-i.invariant

@@ -11,5 +11,5 @@ returns c =
     let columns = c.as_slice-columns.result.now in
     let columns_are : columns ≡ stored_columns c.args.table.now c.args.columns.now = c.as_slice-columns.ensures ∙ c.in_ok-selected.ensures in
     subst (λ some. IsTrue c.are_cells.result ↔ IsPermutation (map (key_of some) c.args.rows.now) c.args.stored.now) columns_are
-      (selection_stands columns c.args.rows.now c.args.stored.now (rows_in c.as_slice.result.now) (rows_in c.as_slice-2.result.now) c.are_cells.result (ap rows_in c.as_slice.ensures.value ∙ c.in_ok-wanted.ensures)
-        (ap rows_in c.as_slice-2.ensures.value ∙ c.in_ok-found.ensures) c.are_cells.ensures)
+    (selection_stands columns c.args.rows.now c.args.stored.now (rows_in c.as_slice.result.now) (rows_in c.as_slice-2.result.now) c.are_cells.result (ap rows_in c.as_slice.ensures.value ∙ c.in_ok-wanted.ensures)
+    (ap rows_in c.as_slice-2.ensures.value ∙ c.in_ok-found.ensures) c.are_cells.ensures)

@@ -1,7 +1,6 @@
 use Rattle.std.proofs.Common.{◌≡◌, ◌↔◌, ap, ◌∙◌, subst}
 use Rattle.std.specs.Prelude.{IsTrue}
 use Rattle.std.proofs.lemmas.Result.{IfOk-weaker}
-use Rattle.mt_table.specs.declared.projection.Projection.{Projection}
 use Rattle.mt_table.specs.declared.projection.Projection.TheVariants.{Normal, Grouped}
 use Rattle.mt_defs.specs.Projections.{IsProjectionOf}
 use Rattle.mt_proj.specs.Keys.{projection_at}
@@ -12,18 +11,18 @@ pub returns-in-Normal : goal.returns-in-Normal
 returns-in-Normal c =
     let table = c.args.table.now in
     let is : Normal c.in-Normal.name c.as_slice-in-Normal.result.now c.in-Normal.sort ≡ projection_at table c.args.projection =
-        ap (λ l. Normal c.in-Normal.name l c.in-Normal.sort) c.as_slice-in-Normal.ensures
-        ∙ read_at table c.args.projection c.as_slice.result.now c.index-as_slice-projection.result (Normal c.in-Normal.name c.in-Normal.columns c.in-Normal.sort) c.requires.there c.as_slice.ensures c.index-as_slice-projection.is c.in-Normal.is in
+    ap (λ l. Normal c.in-Normal.name l c.in-Normal.sort) c.as_slice-in-Normal.ensures
+    ∙ read_at table c.args.projection c.as_slice.result.now c.index-as_slice-projection.result (Normal c.in-Normal.name c.in-Normal.columns c.in-Normal.sort) c.requires.there c.as_slice.ensures c.index-as_slice-projection.is c.in-Normal.is in
     IfOk-weaker c.stands_normal.result (λ stands. IsTrue stands ↔ IsProjectionOf table (Normal c.in-Normal.name c.as_slice-in-Normal.result.now c.in-Normal.sort) c.args.rows.now c.args.stored.now)
-      (λ stands. IsTrue stands ↔ IsProjectionOf table (projection_at table c.args.projection) c.args.rows.now c.args.stored.now)
-      (λ stands e. subst (λ p. IsTrue stands ↔ IsProjectionOf table p c.args.rows.now c.args.stored.now) is e) c.stands_normal.ensures
+    (λ stands. IsTrue stands ↔ IsProjectionOf table (projection_at table c.args.projection) c.args.rows.now c.args.stored.now)
+    (λ stands e. subst (λ p. IsTrue stands ↔ IsProjectionOf table p c.args.rows.now c.args.stored.now) is e) c.stands_normal.ensures
 
 pub returns-in-Grouped : goal.returns-in-Grouped
 returns-in-Grouped c =
     let table = c.args.table.now in
     let is : Grouped c.in-Grouped.name c.as_slice-in-Grouped.result.now c.as_slice-in-Grouped-2.result.now ≡ projection_at table c.args.projection =
-        ap (λ l. Grouped c.in-Grouped.name l c.as_slice-in-Grouped-2.result.now) c.as_slice-in-Grouped.ensures ∙ ap (Grouped c.in-Grouped.name c.in-Grouped.keys) c.as_slice-in-Grouped-2.ensures
-        ∙ read_at table c.args.projection c.as_slice.result.now c.index-as_slice-projection.result (Grouped c.in-Grouped.name c.in-Grouped.keys c.in-Grouped.aggs) c.requires.there c.as_slice.ensures c.index-as_slice-projection.is c.in-Grouped.is in
+    ap (λ l. Grouped c.in-Grouped.name l c.as_slice-in-Grouped-2.result.now) c.as_slice-in-Grouped.ensures ∙ ap (Grouped c.in-Grouped.name c.in-Grouped.keys) c.as_slice-in-Grouped-2.ensures
+    ∙ read_at table c.args.projection c.as_slice.result.now c.index-as_slice-projection.result (Grouped c.in-Grouped.name c.in-Grouped.keys c.in-Grouped.aggs) c.requires.there c.as_slice.ensures c.index-as_slice-projection.is c.in-Grouped.is in
     IfOk-weaker c.stands_grouped.result (λ stands. IsTrue stands ↔ IsProjectionOf table (Grouped c.in-Grouped.name c.as_slice-in-Grouped.result.now c.as_slice-in-Grouped-2.result.now) c.args.rows.now c.args.stored.now)
-      (λ stands. IsTrue stands ↔ IsProjectionOf table (projection_at table c.args.projection) c.args.rows.now c.args.stored.now)
-      (λ stands e. subst (λ p. IsTrue stands ↔ IsProjectionOf table p c.args.rows.now c.args.stored.now) is e) c.stands_grouped.ensures
+    (λ stands. IsTrue stands ↔ IsProjectionOf table (projection_at table c.args.projection) c.args.rows.now c.args.stored.now)
+    (λ stands e. subst (λ p. IsTrue stands ↔ IsProjectionOf table p c.args.rows.now c.args.stored.now) is e) c.stands_grouped.ensures

@@ -1,4 +1,4 @@
-use Rattle.std.proofs.Common.{rules, Bool, take, ap, ◌∙◌, arith}
+use Rattle.std.proofs.Common.{rules, Bool, ap, ◌∙◌}
 use Rattle.std.specs.Borrow.{Bor}
 use Rattle.std.specs.Cmp.{IsTotalOrder, IsStrictWeakOrder}
 use Rattle.std.specs.List.Sorted.{IsSorted, IsStable}

@@ -1,4 +1,4 @@
-use Rattle.std.proofs.Common.{ℕ, ◌-◌, map, take, ap, ◌∙◌, arith}
+use Rattle.std.proofs.Common.{◌-◌, map, take, ap, ◌∙◌, arith}
 use Rattle.std.specs.Prelude.{Option}
 use Rattle.std.specs.Borrow.{Bor}
 use Rattle.mt_types.specs.declared.value.AggState.{AggState}
@@ -16,6 +16,6 @@ loop-left-preserved c =
     record {
       within = omega arith;
       ahead = ap (λ m. merge_upon m (map state_in (rows_in (take (c.loop-left.left - 1) c.args.stored.now))))
-            (c.join-merged.ensures ∙ ap (λ s. join s c.loop-left.merged) (c.stored_state.ensures ∙ ap (λ (r : Bor Row). state_in r.now) c.index-stored-left.is))
+          (c.join-merged.ensures ∙ ap (λ s. join s c.loop-left.merged) (c.stored_state.ensures ∙ ap (λ (r : Bor Row). state_in r.now) c.index-stored-left.is))
           ∙ merge_more state_in c.loop-left.merged c.args.stored.now (c.loop-left.left - 1) c.loop-left.left c.index-stored-left.result (omega arith) (omega arith) ∙ c.loop-left.invariant.ahead;
     }

@@ -1,4 +1,4 @@
-use Rattle.std.proofs.Common.{◌≡◌, ◌+◌, ◌&&◌, true, false, length, ◌∷◌, [], ◌++◌, take, ap, sym, ◌∙◌}
+use Rattle.std.proofs.Common.{◌≡◌, ◌+◌, ◌&&◌, length, ◌∷◌, [], ◌++◌, take, ap, sym, ◌∙◌}
 use Rattle.std.specs.Prelude.{nat_lt}
 use Rattle.std.proofs.lemmas.List.{take_more, length-map}
 use Rattle.mt_defs.specs.SkipIndexes.{distinct_values}
@@ -13,8 +13,8 @@ returns-then-is_above c =
     let values = c.args.values.now in
     let keys = c.insert.new.self.keys in
     let gathered : values_in keys ≡ distinct_values (take (i + 1) values) =
-        gather_step c.loop-value.distinct.keys keys _ (take i values) c.in_ok-insert.ensures.keys c.loop-value.invariant.gathered
-        ∙ ap (λ v. distinct_values (take i values ++ v ∷ [])) c.value-item.is ∙ ap distinct_values (sym (take_more values i c.value-item.result c.loop-value-test.true)) in
+    gather_step c.loop-value.distinct.keys keys _ (take i values) c.in_ok-insert.ensures.keys c.loop-value.invariant.gathered
+    ∙ ap (λ v. distinct_values (take i values ++ v ∷ [])) c.value-item.is ∙ ap distinct_values (sym (take_more values i c.value-item.result c.loop-value-test.true)) in
     let long : length (values_in keys) ≡ c.len.result = length-map keys (λ (key : Seen). key.value.now) ∙ sym c.len.ensures.len in
     too_many_so_far c.args.max_rows (i + 1) values (values_in keys) gathered (ap (λ n. nat_lt 0 c.args.max_rows && nat_lt c.args.max_rows n) long ∙ sym c.is_above.ensures ∙ c.if-is_above.true)
 

@@ -1,4 +1,4 @@
-use Rattle.std.proofs.Common.{◌≡◌, ◌<◌, ◌+◌, ◌++◌, [], ◌∷◌, true, length, take, get_or, ap, sym, ◌∙◌, subst, append_assoc}
+use Rattle.std.proofs.Common.{◌≡◌, ◌+◌, ◌++◌, [], ◌∷◌, true, take, get_or, ap, sym, ◌∙◌, subst, append_assoc}
 use Rattle.std.specs.Prelude.{Some, slice_get}
 use Rattle.std.specs.List.{flat_map}
 use Rattle.std.specs.Option.{option_copied}
@@ -28,5 +28,5 @@ loop-i-preserved c =
     let there : slice_get keys i ≡ Some c.in-Some.seen.now = sym c.get_index.ensures.key ∙ ap option_copied c.in-Some.is in
     let at = key_at keys i c.in-Some.seen.now v there in
     let more : flat_map item (take (i + 1) values) ≡ flat_map item (take i values) ++ item v =
-        ap (flat_map item) (take_more values i v at.0) ∙ flat_map-append item (take i values) (get_or values i v ∷ []) ∙ ap (λ w. flat_map item (take i values) ++ flat_map item (w ∷ [])) at.1 ∙ ap (λ b. flat_map item (take i values) ++ b) (append-nil (item v)) in
+    ap (flat_map item) (take_more values i v at.0) ∙ flat_map-append item (take i values) (get_or values i v ∷ []) ∙ ap (λ w. flat_map item (take i values) ++ flat_map item (w ∷ [])) at.1 ∙ ap (λ b. flat_map item (take i values) ++ b) (append-nil (item v)) in
     c.in_ok-put_item.ensures ∙ ap (λ b. b ++ item v) c.loop-i.invariant ∙ append_assoc c.args.out.now (flat_map item (take i values)) (item v) ∙ ap (λ b. c.args.out.now ++ b) (sym more)

@@ -1,4 +1,4 @@
-use Rattle.std.proofs.Common.{◌≡◌, sym, subst}
+use Rattle.std.proofs.Common.{sym, subst}
 use Rattle.std.specs.Prelude.{Some}
 use Rattle.mt_skip.specs.Gathering.{Gathers}
 use Rattle.mt_skip.specs.Items.{AllFit}

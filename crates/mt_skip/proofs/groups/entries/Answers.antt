@@ -10,4 +10,4 @@ returns-clause-entries c table rows ty_is values_are =
     let skip = c.args.skip.now in
     let granules = c.args.granules.now in
     IfOk-weaker c.group_entries.result (λ made. made ≡ map (written_entry skip.kind c.args.ty.now) (value_groups skip.granularity (length granules) granules c.args.values.now)) (λ made. made ≡ written_entries table skip rows granules)
-      (λ made is. is ∙ entries_written table skip c.args.ty.now c.args.values.now granules rows ty_is values_are) c.group_entries.ensures
+    (λ made is. is ∙ entries_written table skip c.args.ty.now c.args.values.now granules rows ty_is values_are) c.group_entries.ensures

@@ -1,7 +1,6 @@
-use Rattle.std.proofs.Common.{◌≡◌, ◌<◌, true, length, ap, sym, arith, subst}
+use Rattle.std.proofs.Common.{◌≡◌, true, length, ap, sym, arith, subst}
 use Rattle.std.proofs.lemmas.List.{length-drop}
 use Rattle.std.proofs.lemmas.List.Elements.{All-drop}
-use Rattle.mt_types.specs.declared.value.Value.{Value}
 use Rattle.mt_types.specs.Fits.{fits_of}
 use Rattle.mt_skip.specs.Items.{AllFit}
 use Rattle.mt_skip.proofs.DistinctLemmas.{some_counts}
