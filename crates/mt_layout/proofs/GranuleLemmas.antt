@@ -12,8 +12,8 @@ use Rattle.mt_layout.proofs.PayloadLemmas.{payload_size-push, payload_size-none}
 
 -- ---- saturated sums
 
-pub saturated-add : (sum a b x y : ℕ) → sum ≡ min (a + b) (2 ^ 64 - 1) → a ≡ saturated x → b ≡ saturated y → sum ≡ saturated (x + y)
-saturated-add sum a b x y s p q = omega arith
+pub saturated-add : (both a b x y : ℕ) → both ≡ min (a + b) (2 ^ 64 - 1) → a ≡ saturated x → b ≡ saturated y → both ≡ saturated (x + y)
+saturated-add both a b x y s p q = omega arith
 
 -- a limit of 64 bits is reached by the saturated count where it is by the count
 pub saturated-reaches : (limit bytes payload : ℕ) → limit < 2 ^ 64 → bytes ≡ saturated payload → nat_le limit bytes ≡ nat_le limit payload

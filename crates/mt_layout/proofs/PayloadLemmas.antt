@@ -1,13 +1,13 @@
 -- The payload bytes of rows are the sum of those of each row.
-use Rattle.std.proofs.Common.{◌≡◌, ℕ, zero, suc, ◌+◌, List, [], ◌∷◌, ◌++◌, length, map, refl, ap, sym, ◌∙◌, arith}
+use Rattle.std.proofs.Common.{◌≡◌, ℕ, zero, suc, ◌+◌, ◌-◌, ◌<◌, ◌≤◌, ◌^◌, min, List, [], ◌∷◌, ◌++◌, length, map, take, get_or, refl, ap, sym, ◌∙◌, arith}
 use Rattle.std.specs.List.{sum, sum_by, enumerate_from}
-use Rattle.std.proofs.lemmas.List.{map-append}
+use Rattle.std.proofs.lemmas.List.{map-append, take_more, take_all, length-take-le}
 use Rattle.std.proofs.lemmas.List.Sums.{sum_by-cons, sum-map}
 use Rattle.mt_types.specs.declared.value.Value.{Value}
 use Rattle.mt_table.specs.declared.column.Column.{Column}
 use Rattle.mt_defs.specs.Rows.{Row, cell, column_values}
 use Rattle.mt_defs.specs.WrittenGranules.{column_size, payload_size}
-use Rattle.mt_layout.specs.Sizes.{value_size, row_size}
+use Rattle.mt_layout.specs.Sizes.{value_size, row_size, saturated}
 use Rattle.mt_layout.proofs.StreamLemmas.{streams_size, additive, streams_size_none}
 
 -- the payload bytes of columns from an index on
@@ -72,3 +72,26 @@ columns_size-push column_index (first ∷ columns) column rows =
     columns_size-cons column_index first (columns ++ column ∷ []) rows
     ∙ ap (λ n. column_size rows (column_index, first) + n) (columns_size-push (column_index + 1) columns column rows)
     ∙ together _ _ _ _ _ (columns_size-cons column_index first columns rows) (ap (λ i. column_size rows (i, column)) (counted column_index (length columns)))
+
+added : (both size more x y whole : ℕ) → both ≡ min (size + more) (2 ^ 64 - 1) → size ≡ saturated x → more ≡ saturated y → whole ≡ x + y → both ≡ saturated whole
+added both size more x y whole s p q r = omega arith
+
+from_zero : (n i : ℕ) → n ≡ i → 0 + n ≡ i
+from_zero n i e = omega arith
+
+-- a row's bytes of the columns so far, and those of one column more
+pub one_more_column : (columns : List Column) (row : Row) (i : ℕ) (column : Column) (size more both : ℕ) → i < length columns → column ≡ get_or columns i column
+    → size ≡ saturated (columns_size 0 (take i columns) (row ∷ [])) → more ≡ saturated (value_size column.ty (cell row i)) → both ≡ min (size + more) (2 ^ 64 - 1)
+    → both ≡ saturated (columns_size 0 (take (i + 1) columns) (row ∷ []))
+unfolding value_size
+one_more_column columns row i column size more both within is sized one all =
+    let so_far : 0 + length (take i columns) ≡ i = from_zero _ i (length-take-le i columns (omega arith)) in
+    let taken : take (i + 1) columns ≡ take i columns ++ column ∷ [] = take_more columns i column within ∙ ap (λ c. take i columns ++ c ∷ []) (sym is) in
+    added both size more _ _ _ all sized one
+    (ap (λ cs. columns_size 0 cs (row ∷ [])) taken ∙ columns_size-push 0 (take i columns) column (row ∷ [])
+        ∙ ap (λ j. columns_size 0 (take i columns) (row ∷ []) + column_size (row ∷ []) (j, column)) so_far)
+
+-- the bytes of all columns
+pub all_columns : (columns : List Column) (row : Row) (i size : ℕ) → length columns ≤ i → size ≡ saturated (columns_size 0 (take i columns) (row ∷ [])) → size ≡ saturated (row_size columns row)
+unfolding row_size
+all_columns columns row i size whole sized = sized ∙ ap (λ cs. saturated (columns_size 0 cs (row ∷ []))) (take_all i columns whole)

@@ -4,7 +4,7 @@ use Rattle.std.specs.Int.{w64, to_le_bytes}
 use Rattle.std.specs.List.{flat_map, sum, sum_by}
 use Rattle.std.proofs.lemmas.Grind.{flat_map-append}
 use Rattle.std.proofs.lemmas.List.{length-map, map-append}
-use Rattle.std.proofs.lemmas.List.Sums.{sum_by-cons}
+use Rattle.std.proofs.lemmas.List.Sums.{sum_by-cons, sum-map}
 use Rattle.mt_types.specs.declared.ty.Ty.{Ty, map-Ty, out-Ty, roll-Ty}
 use Rattle.mt_types.specs.declared.ty.Ty.TheOpen.{Ty-F}
 use Rattle.mt_types.specs.declared.ty.Ty.TheVariants.{Nullable, Array, outs-Nullable, outs-Array}
@@ -23,7 +23,7 @@ use Rattle.mt_layout.specs.Sizes.{value_size}
 abbrev pub streams_size : Ty → List Value → ℕ
 streams_size t values = sum (map length (written_streams t values))
 
-sum_one : (n : ℕ) → sum (n ∷ []) ≡ n
+pub sum_one : (n : ℕ) → sum (n ∷ []) ≡ n
 sum_one n = omega arith
 
 -- ---- by the outermost level of the type
@@ -123,3 +123,6 @@ streams_size_is t [] = streams_size_none t
 streams_size_is t (value ∷ values) =
     additive t (value ∷ []) values ∙ ap (λ n. streams_size t (value ∷ []) + n) (streams_size_is t values)
     ∙ sym (sum_by-cons (value_size t) value values)
+
+pub streams_size_sum : (t : Ty) (values : List Value) → streams_size t values ≡ sum (map (value_size t) values)
+streams_size_sum t values = streams_size_is t values ∙ sym (sum-map (value_size t) values)

@@ -67,7 +67,7 @@ fn number_size(ty: &Ty) -> u64
 }
 
 /// The bytes of an integer.
-pub(crate) fn width_size(width: Width) -> u64
+fn width_size(width: Width) -> u64
     ensures size { (n : ℤ) → length (whole (words width) n) ≡ result }
     ensures bound { result ≤ 8 }
 {

@@ -1,6 +1,6 @@
 //! Granules and layout.
 
-ghost use Rattle.std.specs.Prelude.{◌≡◌, ◌||◌, IfOk, nat_le};
+ghost use Rattle.std.specs.Prelude.{◌≡◌, ◌||◌, ℕ, IfOk, nat_le, nat_lt};
 ghost use Rattle.mt_defs.specs.WrittenGranules.{is_small, payload_size, written_granules};
 ghost use Rattle.mt_layout.specs.Sizes.{saturated};
 
@@ -37,7 +37,7 @@ pub fn layout_of(
         layout.compact ≡ is_small settings.now columns.now rows.now) }
 {
     let (granules, bytes) = granules_of(alloc, settings, columns, rows)?;
-    let compact = bytes < settings.wide_bytes || (rows.len() as u64) < settings.wide_rows;
+    let compact = is_small(settings, rows.len() as u64, bytes);
     Ok(Layout { granules, compact })
 }
 
@@ -73,9 +73,18 @@ fn granules_of(
     Ok((granules, all_bytes))
 }
 
+/// Whether a granule of so many rows and bytes takes no further row.
 fn is_full(settings: &Settings, rows: u64, bytes: u64) -> bool
-    ensures { result ≡
-        (nat_le settings.now.granule_rows rows || nat_le settings.now.granule_bytes bytes) }
+    ensures { (payload : ℕ) → bytes ≡ saturated payload
+        → result ≡ (nat_le settings.now.granule_rows rows || nat_le settings.now.granule_bytes payload) }
 {
     settings.granule_rows <= rows || settings.granule_bytes <= bytes
+}
+
+/// Whether so many rows and bytes make a Compact part.
+fn is_small(settings: &Settings, rows: u64, bytes: u64) -> bool
+    ensures { (payload : ℕ) → bytes ≡ saturated payload
+        → result ≡ (nat_lt payload settings.now.wide_bytes || nat_lt rows settings.now.wide_rows) }
+{
+    bytes < settings.wide_bytes || rows < settings.wide_rows
 }

@@ -3,13 +3,15 @@
 ghost use Rattle.std.specs.Prelude.{◌≡◌};
 ghost use Rattle.std.specs.List.{sum_by};
 ghost use Rattle.mt_types.specs.Defaults.{default_of};
+ghost use Rattle.mt_types.specs.declared.value.Value.{out-Value};
 ghost use Rattle.mt_defs.specs.Rows.{cell};
+ghost use Rattle.mt_defs.specs.WrittenStreams.{elements_at, or_default};
 ghost use Rattle.mt_layout.specs.Sizes as defined;
 ghost use Rattle.mt_layout.specs.Sizes.{saturated};
 
-use crate::item::{item_size, width_size};
+use crate::item::item_size;
 use mt_table::Column;
-use mt_types::{Agg, Ty, Value};
+use mt_types::{AggState, Ty, Value};
 
 /// A null map has a byte for each value.
 const NULL_BYTES: u64 = 1;
@@ -43,18 +45,37 @@ fn cell_size(ty: &Ty, row: &[Value], column_index: usize) -> u64
 fn value_size(ty: &Ty, value: &Value) -> u64
     ensures { result ≡ saturated (defined.value_size ty.now value.now) }
 {
-    match (ty, value) {
-        (Ty::Nullable(inner), Value::Null) => default_size(inner.get()).saturating_add(NULL_BYTES),
-        (Ty::Nullable(inner), _) => value_size(inner.get(), value).saturating_add(NULL_BYTES),
-        (Ty::Array(inner), Value::List(elements)) => {
-            values_size(inner.get(), elements.as_slice()).saturating_add(SIZE_BYTES)
-        }
-        (Ty::Array(_), _) => SIZE_BYTES,
+    match ty {
+        Ty::Nullable(inner) => filled_size(inner.get(), value).saturating_add(NULL_BYTES),
+        Ty::Array(inner) => elements_size(inner.get(), value).saturating_add(SIZE_BYTES),
         _ => item_size(ty, value),
     }
 }
 
+/// The bytes of a value, or of the default in the place of NULL.
+#[cycle(sizes)]
+fn filled_size(ty: &Ty, value: &Value) -> u64
+    ensures { result ≡ saturated (defined.value_size ty.now (or_default (default_of ty.now) value.now)) }
+{
+    match value {
+        Value::Null => default_size(ty),
+        _ => value_size(ty, value),
+    }
+}
+
 /// The bytes of the elements of an array.
+#[cycle(sizes)]
+fn elements_size(ty: &Ty, array: &Value) -> u64
+    ensures { result ≡ saturated (sum_by (defined.value_size ty.now)
+        (elements_at (out-Value array.now))) }
+{
+    match array {
+        Value::List(elements) => values_size(ty, elements.as_slice()),
+        _ => 0,
+    }
+}
+
+/// The bytes of values, added up.
 #[cycle(sizes)]
 fn values_size(ty: &Ty, values: &[Value]) -> u64
     ensures { result ≡ saturated (sum_by (defined.value_size ty.now) values.now) }
@@ -71,15 +92,14 @@ fn default_size(ty: &Ty) -> u64
     ensures { result ≡ saturated (defined.value_size ty.now (default_of ty.now)) }
 {
     match ty {
-        Ty::UInt(width) => width_size(*width),
-        Ty::Int(width) => width_size(*width),
-        Ty::Date => 2,
+        Ty::UInt(_) => item_size(ty, &Value::Num(0)),
+        Ty::Int(_) => item_size(ty, &Value::Num(0)),
+        Ty::Date => item_size(ty, &Value::Num(0)),
         Ty::FixedString(size) => u64::from(*size),
         Ty::Str => 1,
         Ty::Nullable(inner) => default_size(inner.get()).saturating_add(NULL_BYTES),
         Ty::Array(_) => SIZE_BYTES,
-        Ty::State(Agg::Sum, _) => 8,
-        Ty::State(_, _) => 1,
-        Ty::CountState => 1,
+        Ty::State(agg, _) => item_size(ty, &Value::State(agg.empty_state())),
+        Ty::CountState => item_size(ty, &Value::State(AggState::Count(0))),
     }
 }
