@@ -32,6 +32,16 @@ pub record IsCut (settings : Settings) (columns : List Column) (rows : List Row)
   pub measured : bytes ≡ saturated (payload_size columns begun)
   pub ahead : granules ++ granules_from (is_full settings columns) begun (drop next rows) ≡ written_granules settings columns rows
 
+-- under other names
+pub same_cut : (settings : Settings) (columns : List Column) (rows : List Row) (next : ℕ) (granules granules' : List ℕ) (count count' bytes bytes' : ℕ)
+    → granules' ≡ granules → count' ≡ count → bytes' ≡ bytes → IsCut settings columns rows next granules count bytes → IsCut settings columns rows next granules' count' bytes'
+same_cut settings columns rows next granules granules' count count' bytes bytes' g n b cut = record {
+  begun = cut.begun;
+  counted = n ∙ cut.counted;
+  measured = b ∙ cut.measured;
+  ahead = ap (λ (xs : List ℕ). xs ++ granules_from (is_full settings columns) cut.begun (drop next rows)) g ∙ cut.ahead;
+}
+
 -- nothing is begun
 pub nothing_begun : (settings : Settings) (columns : List Column) (rows : List Row) (next : ℕ) (granules : List ℕ)
     → granules ++ granules_from (is_full settings columns) [] (drop next rows) ≡ written_granules settings columns rows → IsCut settings columns rows next granules 0 0
@@ -87,6 +97,15 @@ ends_here settings columns rows next granules count bytes more size row cut with
     (append_assoc granules ((count + 1) ∷ []) (granules_from (is_full settings columns) [] (drop (next + 1) rows))
     ∙ ap (λ n. granules ++ n ∷ granules_from (is_full settings columns) [] (drop (next + 1) rows)) counted
     ∙ ap (λ rest. granules ++ rest) (sym (granules_next (is_full settings columns) cut.begun rows next row within is ∙ chosen _ true _ _ full)) ∙ cut.ahead)
+
+-- the bytes of all rows so far
+pub all_more : (columns : List Column) (rows : List Row) (next all more size : ℕ) (row : Row) → next < length rows → row ≡ get_or rows next row
+    → all ≡ saturated (payload_size columns (take next rows)) → size ≡ saturated (row_size columns row) → more ≡ min (all + size) (2 ^ 64 - 1)
+    → more ≡ saturated (payload_size columns (take (next + 1) rows))
+all_more columns rows next all more size row within is so_far sized added =
+    saturated-add more all size _ _ added so_far sized
+    ∙ ap saturated (sym (payload_size-push columns (take next rows) row))
+    ∙ ap (λ xs. saturated (payload_size columns xs)) (sym (take_more rows next row within ∙ ap (λ r. take next rows ++ r ∷ []) (sym is)))
 
 -- ---- the last granule
 
