@@ -1,0 +1,5 @@
+pub mod StreamLemmas
+pub mod SizeLemmas
+pub mod ItemLemmas
+pub mod PayloadLemmas
+pub mod GranuleLemmas

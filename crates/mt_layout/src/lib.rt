@@ -1,0 +1,14 @@
+//! The writer's layout of rows: their granules, and the choice between Wide and Compact.
+//!
+//! `layout_of` gives exactly the granules that the writer cuts of any rows, and exactly its choice.
+#![tactic(auto)]
+
+mod item;
+mod law;
+mod layout;
+mod rows;
+#[cfg(test)]
+mod tests;
+
+pub use law::{payloads_are_sums_over_rows, payloads_are_sums_over_values};
+pub use layout::{Layout, layout_of};
