@@ -1,22 +1,23 @@
 -- The folder of rows of numbers, file by file.
-use Rattle.std.proofs.Common.{◌≡◌, ℕ, ◌+◌, ◌<◌, ◌≤◌, Bool, true, false, List, [], ◌∷◌, ◌++◌, length, take, drop, get_or, min, ap, sym, ◌∙◌, subst, arith, append_assoc, zero-add, inl, inr}
+use Rattle.std.proofs.Common.{refl, All, ◌≡◌, ℕ, ◌+◌, ◌<◌, ◌≤◌, Bool, true, false, List, [], ◌∷◌, ◌++◌, length, take, drop, get_or, min, ap, sym, ◌∙◌, subst, arith, append_assoc, zero-add, inl, inr}
 use Rattle.std.specs.Prelude.{sum, IsTrue, nat_lt, ◌||◌, if◌then◌else◌}
 use Rattle.std.specs.List.{flat_map, enumerate_from}
 use Rattle.std.proofs.lemmas.Bool.{cases_Bool, ltb-true}
 use Rattle.std.proofs.lemmas.List.{append-nil, length-append, take_min, take_more, take_all, flat_map_more}
 use Rattle.std.proofs.lemmas.List.FromFn.{length-enumerate_from, get_or-enumerate_from}
 use Rattle.std.proofs.lemmas.List.Concat.{flat_map-append}
-use Rattle.std.proofs.lemmas.List.Elements.{All-head, All-drop}
+use Rattle.std.proofs.lemmas.List.Elements.{All-cons, All-drop, All-head, All-nil}
 use Rattle.std.proofs.lemmas.List.Sums.{sum_by-cons}
 use Rattle.mt_types.specs.declared.ty.Ty.{Ty}
 use Rattle.mt_types.specs.declared.ty.Ty.TheVariants.{UInt}
 use Rattle.mt_types.specs.declared.ty.Width.{Width}
+use Rattle.mt_types.specs.declared.ty.Width.TheVariants.{W64}
 use Rattle.mt_types.specs.declared.value.Value.TheVariants.{Null}
 use Rattle.mt_types.specs.Fits.{fits_of}
 use Rattle.mt_shelf.specs.declared.file.FileBytes.{FileBytes}
 use Rattle.mt_table.specs.declared.column.Column.{Column}
 use Rattle.mt_table.specs.declared.definition.Table.{Table}
-use Rattle.mt_table.specs.Form.{IsNumbersTable, numbers_fields, numbers_table}
+use Rattle.mt_table.specs.Form.{IsNumbersTable, numbers_fields, numbers_table, uint64_column}
 use Rattle.mt_table.specs.Kept.{keeps_rules}
 use Rattle.mt_defs.specs.Rows.{Row, RowFits, cell}
 use Rattle.mt_defs.specs.Sorting.{sorted_by}
@@ -25,7 +26,7 @@ use Rattle.mt_defs.specs.Projections.{base_of}
 use Rattle.mt_defs.specs.WrittenGranules.{granules_from, is_full, written_granules, is_small, payload_size}
 use Rattle.mt_defs.specs.WrittenColumns.{file, wide_files}
 use Rattle.mt_defs.specs.Writer.{written_folder, files_with, file_cmp}
-use Rattle.mt_build.specs.NumberColumns.{AreNumbers}
+use Rattle.mt_build.specs.NumberColumns.{AreNumbers, IsNumber}
 use Rattle.mt_build.specs.TextFiles.{text_files}
 use Rattle.mt_build.proofs.SizeLemmas.{Pointwise-get_or}
 
@@ -138,3 +139,11 @@ pub columns_end : (f : ℕ × Column → List FileBytes) (before now : List File
 columns_end f before now columns i h ahead =
     let few : length (enumerate_from 0 columns) ≡ length columns = length-enumerate_from 0 columns in
     ahead ∙ ap (λ l. before ++ flat_map f l) (take_all i (enumerate_from 0 columns) (omega arith))
+
+-- the columns of such a table are of numbers
+pub numbers_are : (table : Table) (columns : List Column) (rows : List Row) → IsNumbersTable table → columns ≡ table.columns → All (RowFits table.columns) rows → AreNumbers columns rows
+numbers_are table columns rows form same fit =
+    let two : List Column = uint64_column form.first ∷ uint64_column form.second ∷ [] in
+    let P : Column → Type 0 = λ column. IsNumber column.ty in
+    let all : All P two = All-cons P (uint64_column form.first) (uint64_column form.second ∷ []) (W64, refl) (All-cons P (uint64_column form.second) [] (W64, refl) (All-nil P)) in
+    subst (λ cs. AreNumbers cs rows) (sym same) (record { numbers = subst (All P) (sym (ap (λ (t : Table). t.columns) form.is)) all; fit = fit })

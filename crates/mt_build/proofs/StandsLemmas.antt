@@ -285,7 +285,7 @@ numbers_case name first second place count bytes rules rows one two differ writa
     let c : Contents = contents_of table rows granules in
     let files = seven first second c in
     let same : folder_of (written_folder table rows) ≡ folder_of files =
-    ap folder_of (numbers_folder name first second place count rows ∙ ap (sorted_by file_cmp) (files_are name first second place count bytes rules rows granules one two))
+    ap folder_of (numbers_folder name first second place count bytes rules rows ∙ ap (sorted_by file_cmp) (files_are name first second place count bytes rules rows granules one two))
     ∙ sorted_folder file_cmp files (seven_apart first second c differ) in
     subst (λ folder. StandsFor table folder rows) (sym same)
     (numbers_stand name first second place count bytes rules rows (folder_of files) one two (seven_found first second c differ) (λ sought there. found_is_listed files sought there) writable)
