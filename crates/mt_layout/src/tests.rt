@@ -129,7 +129,13 @@ fn has_size(alloc: Global, name: &str, value: Value, size: u64) -> Result<bool, 
 fn numbers_and_texts_have_their_sizes(rt: HostRuntime) -> Result<(), Fail> {
     let alloc = rt.alloc();
     let long = [b'a'; 128];
-    for (name, size) in [("UInt8", 1), ("Int16", 2), ("UInt32", 4), ("Int64", 8), ("Date", 2)] {
+    for (name, size) in [
+        ("UInt8", 1),
+        ("Int16", 2),
+        ("UInt32", 4),
+        ("Int64", 8),
+        ("Date", 2),
+    ] {
         assert!(rt; has_size(alloc, name, Value::Num(7), size)?, "at {name}");
     }
     for (name, bytes, size) in [
@@ -140,7 +146,10 @@ fn numbers_and_texts_have_their_sizes(rt: HostRuntime) -> Result<(), Fail> {
         ("String", &long, 130),
         ("Nullable(String)", b"ab".as_slice(), 4),
     ] {
-        assert!(rt; has_size(alloc, name, text(alloc, bytes)?, size)?, "at {name}");
+        assert!(rt;
+            has_size(alloc, name, text(alloc, bytes)?, size)?,
+            "at {name}"
+        );
     }
     Ok(())
 }
@@ -168,10 +177,21 @@ fn states_have_their_sizes(rt: HostRuntime) -> Result<(), Fail> {
         ("AggregateFunction(count)", AggState::Count(300), 2),
         ("AggregateFunction(sum, UInt8)", AggState::Sum(1), 8),
         ("AggregateFunction(min, Int16)", AggState::Least(None), 1),
-        ("AggregateFunction(min, Int16)", AggState::Least(Some(-2)), 3),
-        ("AggregateFunction(max, Date)", AggState::Greatest(Some(5)), 3),
+        (
+            "AggregateFunction(min, Int16)",
+            AggState::Least(Some(-2)),
+            3,
+        ),
+        (
+            "AggregateFunction(max, Date)",
+            AggState::Greatest(Some(5)),
+            3,
+        ),
     ] {
-        assert!(rt; has_size(alloc, name, Value::State(state), size)?, "at {name}");
+        assert!(rt;
+            has_size(alloc, name, Value::State(state), size)?,
+            "at {name}"
+        );
     }
     Ok(())
 }
