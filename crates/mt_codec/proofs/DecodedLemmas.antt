@@ -50,8 +50,7 @@ pub front_found : (t : Ty) → is_profile t ≡ true → (rows : ℕ) (bytes : L
 front_found t profile rows bytes values rest small read =
     let f = front_encodes t profile rows bytes values rest small read in
     let all : List ℕ = flat_map (λ s. s) f.0 in
-    let place = rest_at all rest bytes f.1 in
-    (
+    let place = rest_at all rest bytes f.1 in (
       omega (arith, ap (λ (b : List ℕ). length b) f.1, length-append all rest),
       place.1,
       (f.2, (f.0, f.3, place.0, f.1 ∙ ap (λ (r : List ℕ). all ++ r) (sym place.1))),
@@ -59,11 +58,10 @@ front_found t profile rows bytes values rest small read =
 
 -- bytes that begin with the values are read as them
 pub front_read : (t : Ty) → is_profile t ≡ true → (rows : ℕ) (bytes : List ℕ) (values : List Value) (used : ℕ) → AreFirstValues t rows bytes values used → (used ≤ length bytes) × (front_reading t rows bytes ≡ Ok (values, drop used bytes))
-front_read t profile rows bytes values used (many, (streams, encodes, size, is)) =
-    (
-      omega (arith, size, ap (λ (b : List ℕ). length b) is, length-append (flat_map (λ s. s) streams) (drop used bytes)),
-      encoded_front t profile rows bytes values streams (drop used bytes) many encodes is,
-    )
+front_read t profile rows bytes values used (many, (streams, encodes, size, is)) = (
+  omega (arith, size, ap (λ (b : List ℕ). length b) is, length-append (flat_map (λ s. s) streams) (drop used bytes)),
+  encoded_front t profile rows bytes values streams (drop used bytes) many encodes is,
+)
 
 same_place : (m n : ℕ) (bytes : List ℕ) → m ≤ length bytes → n ≤ length bytes → drop m bytes ≡ drop n bytes → m ≡ n
 same_place m n bytes few few' same = omega (arith, few, few', ap (λ (b : List ℕ). length b) same, length-drop m bytes, length-drop n bytes)
@@ -96,9 +94,9 @@ all_small bytes small j e inside = subst (λ (n : ℕ). n < 256) (sym (get_or_de
 -- one list more
 pub one_list : (streams : List (List ℕ)) (i : ℕ) (d bytes : List ℕ) → i < length streams → d ≡ get_or streams i d → bytes ≡ d → AreBytes bytes → ((k j : ℕ) → k < i → get_or (get_or streams k []) j 0 < 256) → (k j : ℕ) → k < i + 1 → get_or (get_or streams k []) j 0 < 256
 one_list streams i d bytes inside is same small are k j less = elim (before_or k i less) [
-    | inl below ↦ are k j below
-    | inr here ↦ subst (λ (n : ℕ). get_or (get_or streams n []) j 0 < 256) (sym here) (subst (λ (b : List ℕ). get_or b j 0 < 256) (same ∙ is ∙ get_or_default streams i d [] inside) (small_of bytes small j))
-  ]
+  | inl below ↦ are k j below
+  | inr here ↦ subst (λ (n : ℕ). get_or (get_or streams n []) j 0 < 256) (sym here) (subst (λ (b : List ℕ). get_or b j 0 < 256) (same ∙ is ∙ get_or_default streams i d [] inside) (small_of bytes small j))
+]
   where
     before_or : (k i : ℕ) → k < i + 1 → (k < i) ⊎ (k ≡ i)
     before_or k i less = grind (arith, less)

@@ -278,8 +278,7 @@ nullable_exact apart inner fits encodes width exact no_null = record { sound = s
         let p = ok_pair _ _ _ _ e in
         let s = stream_sound apart null_front (λ byte. nat_le byte 1) (λ byte. byte ∷ []) null_exact stream count streams nulls.0 nulls.1 small is in
         let v = exact.sound (stream + 1) count nulls.1 values.0 values.1 (small_rest apart (flat_map (λ byte. byte ∷ []) nulls.0) streams nulls.1 s.whole small) are_values in
-        let n = nulled_is fits no_null nulls.0 values.0 (s.many ∙ sym v.2) s.fit v.3 in
-        (
+        let n = nulled_is fits no_null nulls.0 values.0 (s.many ∙ sym v.2) s.fit v.3 in (
           nulls.0 ∷ v.0,
           s.whole ∙ ap (λ (b : List ℕ). before apart b nulls.1) (bytes_alone nulls.0) ∙ ap (before apart nulls.0) (v.1 ∙ ap (before_all apart v.0) (sym p.1)),
           ap (λ (xs : List Value). length xs) p.0 ∙ n.many ∙ v.2,
@@ -406,8 +405,7 @@ array_exact apart inner fits encodes width exact = record { sound = sound; compl
         let values : vs ≡ map Items (lists_of sizes.0 elements.0) = p.0 ∙ arrays_are sizes.0 elements.0 in
         let s = stream_sound apart size_front (λ n. nat_le n MAX_ELEMENTS) (to_le_bytes w64) size_exact stream count streams sizes.0 sizes.1 small is in
         let v = exact.sound (stream + 1) (sum sizes.0) sizes.1 elements.0 elements.1 (small_rest apart (flat_map (to_le_bytes w64) sizes.0) streams sizes.1 s.whole small) are_elements in
-        let c = cut_is fits sizes.0 elements.0 (sym v.2) s.fit v.3 in
-        (
+        let c = cut_is fits sizes.0 elements.0 (sym v.2) s.fit v.3 in (
           flat_map (to_le_bytes w64) sizes.0 ∷ v.0,
           s.whole ∙ ap (before apart (flat_map (to_le_bytes w64) sizes.0)) (v.1 ∙ ap (before_all apart v.0) (sym p.1)),
           ap (λ (xs : List Value). length xs) values ∙ c.many ∙ s.many,

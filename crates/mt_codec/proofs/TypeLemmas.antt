@@ -181,8 +181,7 @@ front_encodes t profile rows bytes values rest small e =
     let r = read_exactly false t profile in
     ok_then (column_from false t 0 rows (bytes ∷ [])) (λ read. Ok (read.0, bytes_left read.1)) (values, rest) e (λ read is e.
     let p = ok_pair _ _ _ _ e in
-    let s = r.exact.sound 0 rows (bytes ∷ []) read.0 read.1 (small, tt) is in
-    (
+    let s = r.exact.sound 0 rows (bytes ∷ []) read.0 read.1 (small, tt) is in (
       s.0,
       ap bytes_left s.1 ∙ left_all s.0 read.1 ∙ ap (λ (b : List ℕ). flat_map (λ s. s) s.0 ++ b) (sym p.1),
       ap (λ (xs : List Value). length xs) p.0 ∙ s.2,

@@ -105,8 +105,7 @@ sizes_alike : (inner : Encoding) (alike : Alike) → ((values : List Value) (str
 sizes_alike inner alike same values [] streams' encodes encodes' = absurd encodes
 sizes_alike inner alike same values (sizes ∷ streams) [] encodes encodes' = absurd encodes'
 sizes_alike inner alike same values (sizes ∷ streams) (sizes' ∷ streams') (xs, v, z, e) (ys, v', z', e') =
-    let arrays : xs ≡ ys = arrays_same xs ys (sym v ∙ v') in
-    (
+    let arrays : xs ≡ ys = arrays_same xs ys (sym v ∙ v') in (
       z ∙ ap size_bytes arrays ∙ sym z',
       same (flat_map (λ elements. elements) ys) streams streams' (subst (λ (zs : List (List Value)). inner (flat_map (λ elements. elements) zs) streams) arrays e) e',
     )

@@ -60,8 +60,7 @@ fn know_lists(streams: &[List<u8>])
 /// Does nothing: the numbers of a slice are bytes.
 fn know_bytes(bytes: &[u8])
     ensures { AreBytes bytes.now }
-{
-}
+{}
 
 /// The values, so many, that the substreams at the start of some bytes serialize, one after another,
 /// and how many bytes these take; or the first fault, in the order of `decode`. It never returns `Over`.

@@ -30,7 +30,7 @@ pub fn written_streams_are_decoded_in_front()
     ensures { (ty : Ty) (values : List Value) (rest : List ℕ) → is_profile ty ≡ true
         → list_all (fits_of ty) values ≡ true
         → front_reading ty (length values) (flat_map (λ s. s) (written_streams ty values) ++ rest)
-            ≡ Ok (values, rest) }
+        ≡ Ok (values, rest) }
 {}
 
 /// Two serializations of the same values differ only under NULL.

@@ -82,7 +82,12 @@ fn columns_are_read_in_front(rt: HostRuntime) -> Result<(), Fail> {
 
 #[test]
 fn any_item_may_stand_under_null(rt: HostRuntime) -> Result<(), Fail> {
-    let bytes = rewritten(rt.alloc(), "Nullable(UInt8)", 3, &[b"\0\x01\0", b"\x01\x07\x02"])?;
+    let bytes = rewritten(
+        rt.alloc(),
+        "Nullable(UInt8)",
+        3,
+        &[b"\0\x01\0", b"\x01\x07\x02"],
+    )?;
     assert_eq!(rt; bytes.as_slice(), b"\0\x01\0\x01\0\x02".as_slice());
     Ok(())
 }
@@ -104,7 +109,10 @@ fn values_are_written(rt: HostRuntime) -> Result<(), Fail> {
         return Err(Fail::new("the array doesn't fit"));
     }
     let bytes = written(alloc, &ty, &values)?;
-    assert_eq!(rt; bytes.as_slice(), b"\x02\0\0\0\0\0\0\0\x01\0\0\xfe".as_slice());
+    assert_eq!(rt;
+        bytes.as_slice(),
+        b"\x02\0\0\0\0\0\0\0\x01\0\0\xfe".as_slice()
+    );
     Ok(())
 }
 

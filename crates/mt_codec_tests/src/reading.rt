@@ -32,12 +32,7 @@ pub fn joined(alloc: Global, streams: &[&[u8]]) -> Result<List<u8>, NoMemory> {
 }
 
 /// What a list of bytes for each substream of a type is read as.
-pub fn decoded(
-    alloc: Global,
-    ty: &Ty,
-    rows: u64,
-    streams: &[List<u8>],
-) -> Result<List<Value>, Fail>
+pub fn decoded(alloc: Global, ty: &Ty, rows: u64, streams: &[List<u8>]) -> Result<List<Value>, Fail>
     requires { IsTrue (is_profile ty.now) }
     ensures { IfOk result (λ values. IsTrue (list_all (fits_of ty.now) values)) }
 {
@@ -47,12 +42,7 @@ pub fn decoded(
     }
 }
 
-fn read(
-    alloc: Global,
-    ty: &Ty,
-    rows: u64,
-    streams: &[List<u8>],
-) -> Result<List<Value>, CodecError>
+fn read(alloc: Global, ty: &Ty, rows: u64, streams: &[List<u8>]) -> Result<List<Value>, CodecError>
     requires { IsTrue (is_profile ty.now) }
     ensures { IfOk result (λ values. IsTrue (list_all (fits_of ty.now) values)) }
 {

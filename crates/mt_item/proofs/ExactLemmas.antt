@@ -99,8 +99,7 @@ bytes_sound count bytes text rest e =
 pub bytes_exact : (count : ℕ) → IsExact (bytes_front count) (λ text. length text == count) (λ text. text)
 bytes_exact count = record {
   sound = λ bytes text rest small e.
-      let s = bytes_sound count bytes text rest e in
-      (
+      let s = bytes_sound count bytes text rest e in (
         eq-eqb (length text) count (omega (arith, ap length s.1, length-take count bytes, s.0)),
         sym (take-append-drop count bytes) ∙ ap (λ (bs : List ℕ). bs ++ drop count bytes) (sym s.1) ∙ ap (λ (bs : List ℕ). text ++ bs) (sym s.2),
       );
@@ -155,8 +154,7 @@ text_exact = record { sound = sound; complete = complete }
         required (nat_le size.0 MAX_TEXT) TooLong (λ _. bytes_front size.0 size.1) (text, rest) e (λ few e.
         let s = bytes_sound size.0 size.1 text rest e in
         let long : length text ≡ size.0 = omega (arith, ap length s.1, length-take size.0 size.1, s.0) in
-        let all : size.1 ≡ text ++ rest = sym (take-append-drop size.0 size.1) ∙ ap (λ (bs : List ℕ). bs ++ drop size.0 size.1) (sym s.1) ∙ ap (λ (bs : List ℕ). text ++ bs) (sym s.2) in
-        (
+        let all : size.1 ≡ text ++ rest = sym (take-append-drop size.0 size.1) ∙ ap (λ (bs : List ℕ). bs ++ drop size.0 size.1) (sym s.1) ∙ ap (λ (bs : List ℕ). text ++ bs) (sym s.2) in (
           ap (λ (n : ℕ). nat_le n MAX_TEXT) long ∙ few,
           (length_exact.sound bytes size.0 size.1 small is).1 ∙ ap (λ (n : ℕ). leb128 n ++ size.1) (sym long) ∙ ap (λ (bs : List ℕ). leb128 (length text) ++ bs) all ∙ sym (append_assoc (leb128 (length text)) text rest),
         )))

@@ -74,27 +74,27 @@ later_complete zero n rest some few =
     let one : n ≡ 1 = omega (arith, few) in
     ap (λ (k : ℕ). later_front zero (leb128 k ++ rest)) one ∙ ap (λ (bs : List ℕ). later_front zero (bs ++ rest)) (leb128_small 1 (lit< tt)) ∙ later_last 1 rest ∙ ok_number 1 n rest (sym one)
 later_complete (suc more) n rest some few = elim (below_or n) [
-    | inl small ↦ ap (λ (bs : List ℕ). later_front (suc more) (bs ++ rest)) (leb128_small n small) ∙ later_small more n rest some small
-    | inr large ↦
-        let below : n / 128 < room more = omega (arith, few) in
-        let high = later_complete more (n / 128) rest (omega arith) below in
-        ap (λ (bs : List ℕ). later_front (suc more) (bs ++ rest)) (leb128_more n large)
-        ∙ later_large more (n % 128 + 128) (leb128 (n / 128) ++ rest) (omega arith)
-        ∙ ap (with_low (n % 128 + 128)) high ∙ ok_number (n % 128 + 128 - 128 + 128 * (n / 128)) n rest (omega arith)
-  ]
+  | inl small ↦ ap (λ (bs : List ℕ). later_front (suc more) (bs ++ rest)) (leb128_small n small) ∙ later_small more n rest some small
+  | inr large ↦
+      let below : n / 128 < room more = omega (arith, few) in
+      let high = later_complete more (n / 128) rest (omega arith) below in
+      ap (λ (bs : List ℕ). later_front (suc more) (bs ++ rest)) (leb128_more n large)
+      ∙ later_large more (n % 128 + 128) (leb128 (n / 128) ++ rest) (omega arith)
+      ∙ ap (with_low (n % 128 + 128)) high ∙ ok_number (n % 128 + 128 - 128 + 128 * (n / 128)) n rest (omega arith)
+]
 
 -- a number's encoding at the start is read
 pub length_complete : (n : ℕ) (rest : List ℕ) → n < 2 ^ 64 → leb128_front (leb128 n ++ rest) ≡ Ok (n, rest)
 length_complete n rest few = elim (below_or n) [
-    | inl small ↦ ap (λ (bs : List ℕ). leb128_front (bs ++ rest)) (leb128_small n small) ∙ first_small n rest small
-    | inr large ↦
-        let all : room 8 ≡ 2 ^ 57 = refl in
-        let below : n / 128 < room 8 = omega (arith, few, all) in
-        let high = later_complete 8 (n / 128) rest (omega arith) below in
-        ap (λ (bs : List ℕ). leb128_front (bs ++ rest)) (leb128_more n large)
-        ∙ first_large (n % 128 + 128) (leb128 (n / 128) ++ rest) (omega arith)
-        ∙ ap (with_low (n % 128 + 128)) high ∙ ok_number (n % 128 + 128 - 128 + 128 * (n / 128)) n rest (omega arith)
-  ]
+  | inl small ↦ ap (λ (bs : List ℕ). leb128_front (bs ++ rest)) (leb128_small n small) ∙ first_small n rest small
+  | inr large ↦
+      let all : room 8 ≡ 2 ^ 57 = refl in
+      let below : n / 128 < room 8 = omega (arith, few, all) in
+      let high = later_complete 8 (n / 128) rest (omega arith) below in
+      ap (λ (bs : List ℕ). leb128_front (bs ++ rest)) (leb128_more n large)
+      ∙ first_large (n % 128 + 128) (leb128 (n / 128) ++ rest) (omega arith)
+      ∙ ap (with_low (n % 128 + 128)) high ∙ ok_number (n % 128 + 128 - 128 + 128 * (n / 128)) n rest (omega arith)
+]
 
 -- ---- a proper prefix of an encoding is too short
 
@@ -109,27 +109,27 @@ later_short zero n (byte ∷ bytes) rest few some e =
     let tail : [] ≡ bytes ++ rest = cc in
     not_empty bytes rest some tail
 later_short (suc more) n (byte ∷ bytes) rest few some e = elim (below_or n) [
-    | inl small ↦ let one : leb128 n ≡ n ∷ [] = leb128_small n small in let tail : [] ≡ bytes ++ rest = cc in not_empty bytes rest some tail
-    | inr large ↦
-        let longer : leb128 n ≡ (n % 128 + 128) ∷ leb128 (n / 128) = leb128_more n large in
-        let head : n % 128 + 128 ≡ byte = cc in
-        let tail : leb128 (n / 128) ≡ bytes ++ rest = cc in
-        let below : n / 128 < room more = omega (arith, few) in
-        later_large more byte bytes (omega (arith, head)) ∙ ap (with_low byte) (later_short more (n / 128) bytes rest below some tail)
-  ]
+  | inl small ↦ let one : leb128 n ≡ n ∷ [] = leb128_small n small in let tail : [] ≡ bytes ++ rest = cc in not_empty bytes rest some tail
+  | inr large ↦
+      let longer : leb128 n ≡ (n % 128 + 128) ∷ leb128 (n / 128) = leb128_more n large in
+      let head : n % 128 + 128 ≡ byte = cc in
+      let tail : leb128 (n / 128) ≡ bytes ++ rest = cc in
+      let below : n / 128 < room more = omega (arith, few) in
+      later_large more byte bytes (omega (arith, head)) ∙ ap (with_low byte) (later_short more (n / 128) bytes rest below some tail)
+]
 
 length_short : (n : ℕ) (bytes rest : List ℕ) → n < 2 ^ 64 → rest ≢ [] → leb128 n ≡ bytes ++ rest → leb128_front bytes ≡ Err Short
 length_short n [] rest few some e = first_none
 length_short n (byte ∷ bytes) rest few some e = elim (below_or n) [
-    | inl small ↦ let one : leb128 n ≡ n ∷ [] = leb128_small n small in let tail : [] ≡ bytes ++ rest = cc in not_empty bytes rest some tail
-    | inr large ↦
-        let longer : leb128 n ≡ (n % 128 + 128) ∷ leb128 (n / 128) = leb128_more n large in
-        let head : n % 128 + 128 ≡ byte = cc in
-        let tail : leb128 (n / 128) ≡ bytes ++ rest = cc in
-        let all : room 8 ≡ 2 ^ 57 = refl in
-        let below : n / 128 < room 8 = omega (arith, few, all) in
-        first_large byte bytes (omega (arith, head)) ∙ ap (with_low byte) (later_short 8 (n / 128) bytes rest below some tail)
-  ]
+  | inl small ↦ let one : leb128 n ≡ n ∷ [] = leb128_small n small in let tail : [] ≡ bytes ++ rest = cc in not_empty bytes rest some tail
+  | inr large ↦
+      let longer : leb128 n ≡ (n % 128 + 128) ∷ leb128 (n / 128) = leb128_more n large in
+      let head : n % 128 + 128 ≡ byte = cc in
+      let tail : leb128 (n / 128) ≡ bytes ++ rest = cc in
+      let all : room 8 ≡ 2 ^ 57 = refl in
+      let below : n / 128 < room 8 = omega (arith, few, all) in
+      first_large byte bytes (omega (arith, head)) ∙ ap (with_low byte) (later_short 8 (n / 128) bytes rest below some tail)
+]
 
 -- ---- whatever is read is one of the three
 
@@ -166,9 +166,9 @@ later_is zero (byte ∷ bytes) small = at_test (byte == 1) refl
         whole' byte bytes (later_last byte bytes ∙ rw is refl) (omega (arith, one)) (omega (arith, one)) (sym (ap (λ (bs : List ℕ). bs ++ bytes) (leb128_small byte (omega (arith, one)))))
     at_test false is = wrong' (later_last byte bytes ∙ rw is refl)
 later_is (suc more) (byte ∷ bytes) small = elim (below_or byte) [
-    | inl less ↦ last byte less
-    | inr large ↦ longer large (later_is more bytes (λ i. small (suc i)))
-  ]
+  | inl less ↦ last byte less
+  | inr large ↦ longer large (later_is more bytes (λ i. small (suc i)))
+]
   where
     last : (k : ℕ) → k < 128 → IsLater (suc more) (k ∷ bytes) (later_front (suc more) (k ∷ bytes))
     last zero less = wrong' (later_next more zero bytes)
@@ -190,9 +190,9 @@ later_is (suc more) (byte ∷ bytes) small = elim (below_or byte) [
 pub length_is : (bytes : List ℕ) → Small bytes → IsLength (2 ^ 64) bytes (leb128_front bytes)
 length_is [] small = cut 1 (1 ∷ []) first_none (lit< tt) (some_more 1) (leb128_small 1 (lit< tt))
 length_is (byte ∷ bytes) small = elim (below_or byte) [
-    | inl less ↦ whole byte bytes (first_small byte bytes less) (omega (arith, less)) (sym (ap (λ (bs : List ℕ). bs ++ bytes) (leb128_small byte less)))
-    | inr large ↦ longer large (later_is 8 bytes (λ i. small (suc i)))
-  ]
+  | inl less ↦ whole byte bytes (first_small byte bytes less) (omega (arith, less)) (sym (ap (λ (bs : List ℕ). bs ++ bytes) (leb128_small byte less)))
+  | inr large ↦ longer large (later_is 8 bytes (λ i. small (suc i)))
+]
   where
     longer : 128 ≤ byte → IsLater 8 bytes (later_front 8 bytes) → IsLength (2 ^ 64) (byte ∷ bytes) (leb128_front (byte ∷ bytes))
     longer large (whole' n rest is some few e) =

@@ -68,8 +68,7 @@ whole_exact w = record { sound = sound; complete = complete }
         let p = ok_pair _ _ _ _ e in
         let s = (bytes_exact (byte_len (width w))).sound bytes first.0 first.1 small is in
         let long : length first.0 ≡ byte_len (width w) = eqb-true (length first.0) (byte_len (width w)) s.0 in
-        let back = whole_back w first.0 long (small_front first.0 first.1 (subst Small s.1 small)) in
-        (
+        let back = whole_back w first.0 long (small_front first.0 first.1 (subst Small s.1 small)) in (
           ap (λ (k : ℕ). nat_lt k (2 ^ bits w)) p.0 ∙ lt-ltb (from_le_bytes (width w) first.0) (2 ^ bits w) back.0,
           s.1 ∙ ap (λ (bs : List ℕ). bs ++ first.1) (sym back.1) ∙ ap (λ (k : ℕ). to_le_bytes (width w) k ++ first.1) (sym p.0) ∙ ap (λ (bs : List ℕ). to_le_bytes (width w) n ++ bs) (sym p.1),
         ))

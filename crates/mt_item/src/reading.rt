@@ -53,11 +53,7 @@ fn number_item<'a>(ty: &Ty, bytes: &'a [u8]) -> Result<(Value, &'a [u8]), ItemEr
     }
 }
 
-fn fixed_item<'a>(
-    alloc: Global,
-    size: u32,
-    bytes: &'a [u8],
-) -> Result<(Value, &'a [u8]), ItemError>
+fn fixed_item<'a>(alloc: Global, size: u32, bytes: &'a [u8]) -> Result<(Value, &'a [u8]), ItemError>
     ensures { GivesItem result (item_front (FixedString size) bytes.now) }
 {
     let Some((text, rest)) = bytes.split_at_checked(size as usize) else {
@@ -75,11 +71,7 @@ fn text_item<'a>(alloc: Global, bytes: &'a [u8]) -> Result<(Value, &'a [u8]), It
     }
 }
 
-fn state_item<'a>(
-    agg: Agg,
-    argument: &Ty,
-    bytes: &'a [u8],
-) -> Result<(Value, &'a [u8]), ItemError>
+fn state_item<'a>(agg: Agg, argument: &Ty, bytes: &'a [u8]) -> Result<(Value, &'a [u8]), ItemError>
     requires { IsTrue (is_number_type argument.now) }
     ensures { GivesItem result (item_front (State agg argument.now) bytes.now) }
 {

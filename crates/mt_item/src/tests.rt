@@ -57,6 +57,9 @@ fn other_bytes_have_a_why(rt: HostRuntime) {
         (Ty::Str, b"\x80\x80\x80\x08".as_slice(), CodecWhy::Short),
         (Ty::CountState, b"\x80\0".as_slice(), CodecWhy::Length),
     ] {
-        assert_eq!(rt; rewritten(alloc, &ty, bytes).err(), Some(ItemError::Bad(why)));
+        assert_eq!(rt;
+            rewritten(alloc, &ty, bytes).err(),
+            Some(ItemError::Bad(why))
+        );
     }
 }

@@ -20,6 +20,8 @@ returns-in_err-left c =
     c.in-Some.ensures c.in_ok-sizes.ensures.reads (c.len.ensures ∙ c.in_ok-sizes.ensures.many) c.in_err-left.ensures)
 
 pub returns : goal.returns
-returns c =
-    (c.in_ok-left.ensures.0, all_read (is_apart c.args.streams) size_front c.args.stream c.args.count c.len.result (lists c.args.streams) c.in-Some.bytes.now (others (lists c.args.streams)) c.in_ok-sizes.sizes c.in_ok-sizes.rest.now (lists c.in_ok-left.left)
-    c.in-Some.ensures c.in_ok-sizes.ensures.reads (c.len.ensures ∙ c.in_ok-sizes.ensures.many) c.in_ok-left.ensures.1)
+returns c = (
+  c.in_ok-left.ensures.0,
+  all_read (is_apart c.args.streams) size_front c.args.stream c.args.count c.len.result (lists c.args.streams) c.in-Some.bytes.now (others (lists c.args.streams)) c.in_ok-sizes.sizes c.in_ok-sizes.rest.now (lists c.in_ok-left.left)
+      c.in-Some.ensures c.in_ok-sizes.ensures.reads (c.len.ensures ∙ c.in_ok-sizes.ensures.many) c.in_ok-left.ensures.1,
+)

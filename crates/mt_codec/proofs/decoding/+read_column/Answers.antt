@@ -47,9 +47,8 @@ returns-in_ok-arrays_from-in-Array t c =
     let total : c.sum_of-total.result ≡ sum sizes = c.sum_of-total.ensures ∙ ap sum c.as_slice.ensures in
     let inner : column_from apart u (c.args.stream + 1) (sum sizes) (lists left) ≡ Ok (elements, lists more) = subst (λ (a : Bool). column_from a u (c.args.stream + 1) (sum sizes) (lists left) ≡ Ok (elements, lists more)) c.in_ok-sizes-in-Array.ensures.0
     (subst (λ (n : ℕ). column_from (is_apart left) u (c.args.stream + 1) n (lists left) ≡ Ok (elements, lists more)) total c.in_ok-elements-in-Array.ensures.1) in
-    let whole = array_read apart (column_from apart u) c.args.stream c.args.count (lists c.args.streams) sizes (lists left) elements (lists more) c.in_ok-sizes-in-Array.ensures.1 inner in
-    (
+    let whole = array_read apart (column_from apart u) c.args.stream c.args.count (lists c.args.streams) sizes (lists left) elements (lists more) c.in_ok-sizes-in-Array.ensures.1 inner in (
       c.in_ok-elements-in-Array.ensures.0 ∙ c.in_ok-sizes-in-Array.ensures.0,
       ap (λ (f : Column). f c.args.stream c.args.count (lists c.args.streams)) column ∙ whole
-      ∙ ap (λ (vs : List Value). let r : Read (List Value × List (List ℕ)) = Ok (vs, lists more) in r) (ap (λ (ns : List ℕ). arrays_from ns elements) (sym c.as_slice-in-Array.ensures) ∙ sym c.in_ok-arrays_from-in-Array.ensures),
+          ∙ ap (λ (vs : List Value). let r : Read (List Value × List (List ℕ)) = Ok (vs, lists more) in r) (ap (λ (ns : List ℕ). arrays_from ns elements) (sym c.as_slice-in-Array.ensures) ∙ sym c.in_ok-arrays_from-in-Array.ensures),
     )

@@ -27,9 +27,8 @@ nulled-requires c = c.in_ok-nulls.ensures.many ∙ sym c.in_ok-values.ensures.ma
 pub returns : goal.returns
 returns c =
     let apart = is_apart c.args.streams in
-    let inner = subst (λ (a : Bool). stream_from a (item_front c.args.inner.now) (c.args.stream + 1) c.args.count (lists c.in_ok-nulls.left) ≡ Ok (c.in_ok-values.values, lists c.in_ok-values.left)) c.in_ok-nulls.ensures.reads.0 c.in_ok-values.ensures.reads.1 in
-    (
+    let inner = subst (λ (a : Bool). stream_from a (item_front c.args.inner.now) (c.args.stream + 1) c.args.count (lists c.in_ok-nulls.left) ≡ Ok (c.in_ok-values.values, lists c.in_ok-values.left)) c.in_ok-nulls.ensures.reads.0 c.in_ok-values.ensures.reads.1 in (
       c.in_ok-values.ensures.reads.0 ∙ c.in_ok-nulls.ensures.reads.0,
       nullable_read apart (stream_from apart (item_front c.args.inner.now)) c.args.stream c.args.count (lists c.args.streams) c.in_ok-nulls.nulls.now (lists c.in_ok-nulls.left) c.in_ok-values.values (lists c.in_ok-values.left) c.in_ok-nulls.ensures.reads.1 inner
-      ∙ ap (λ (vs : List Value). let r : Read (List Value × List (List ℕ)) = Ok (vs, lists c.in_ok-values.left) in r) (sym c.nulled.ensures),
+          ∙ ap (λ (vs : List Value). let r : Read (List Value × List (List ℕ)) = Ok (vs, lists c.in_ok-values.left) in r) (sym c.nulled.ensures),
     )

@@ -20,6 +20,8 @@ returns-in_err-left-clause-reads c =
     c.in-Some.ensures c.in_ok-values.ensures.reads (c.len.ensures ∙ c.in_ok-values.ensures.many) c.in_err-left.ensures)
 
 pub returns-clause-reads : goal.returns-clause-reads
-returns-clause-reads c =
-    (c.in_ok-left.ensures.0, all_read (is_apart c.args.streams) (item_front c.args.ty.now) c.args.stream c.args.count c.len.result (lists c.args.streams) c.in-Some.bytes.now (others (lists c.args.streams)) c.in_ok-values.values c.in_ok-values.rest.now (lists c.in_ok-left.left)
-    c.in-Some.ensures c.in_ok-values.ensures.reads (c.len.ensures ∙ c.in_ok-values.ensures.many) c.in_ok-left.ensures.1)
+returns-clause-reads c = (
+  c.in_ok-left.ensures.0,
+  all_read (is_apart c.args.streams) (item_front c.args.ty.now) c.args.stream c.args.count c.len.result (lists c.args.streams) c.in-Some.bytes.now (others (lists c.args.streams)) c.in_ok-values.values c.in_ok-values.rest.now (lists c.in_ok-left.left)
+      c.in-Some.ensures c.in_ok-values.ensures.reads (c.len.ensures ∙ c.in_ok-values.ensures.many) c.in_ok-left.ensures.1,
+)

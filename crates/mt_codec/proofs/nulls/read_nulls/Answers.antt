@@ -20,6 +20,8 @@ returns-in_err-left-clause-reads c =
     c.in-Some.ensures c.in_ok-nulls.ensures.reads c.in_ok-nulls.ensures.many c.in_err-left.ensures)
 
 pub returns-clause-reads : goal.returns-clause-reads
-returns-clause-reads c =
-    (c.in_ok-left.ensures.0, all_read (is_apart c.args.streams) null_front c.args.stream c.args.count (length c.in_ok-nulls.nulls.now) (lists c.args.streams) c.in-Some.bytes.now (others (lists c.args.streams)) c.in_ok-nulls.nulls.now c.in_ok-nulls.rest.now (lists c.in_ok-left.left)
-    c.in-Some.ensures c.in_ok-nulls.ensures.reads c.in_ok-nulls.ensures.many c.in_ok-left.ensures.1)
+returns-clause-reads c = (
+  c.in_ok-left.ensures.0,
+  all_read (is_apart c.args.streams) null_front c.args.stream c.args.count (length c.in_ok-nulls.nulls.now) (lists c.args.streams) c.in-Some.bytes.now (others (lists c.args.streams)) c.in_ok-nulls.nulls.now c.in_ok-nulls.rest.now (lists c.in_ok-left.left)
+      c.in-Some.ensures c.in_ok-nulls.ensures.reads c.in_ok-nulls.ensures.many c.in_ok-left.ensures.1,
+)
