@@ -20,6 +20,8 @@ use Rattle.mt_codec.specs.declared.fault.CodecError.{CodecError}
 use Rattle.mt_codec.specs.declared.fault.CodecError.TheVariants.{At, NoMemory}
 use Rattle.mt_codec.specs.ColumnReading.{Read, decode_reading, front_reading}
 use Rattle.mt_codec.specs.Results.{FailsAs, Gives, GivesFront, AreValues, AreFirstValues, Returns}
+use Rattle.mt_item.specs.declared.fault.CodecWhy.TheVariants.{Over}
+use Rattle.mt_codec.proofs.NotOverLemmas.{front_not_over}
 use Rattle.mt_codec.proofs.TypeLemmas.{front_encodes, encoded_front}
 
 -- an error stays one
@@ -106,3 +108,11 @@ unique_front t rows bytes values values' used used' profile first second =
     let s = front_read t profile rows bytes values' used' second in
     let p = ok_pair values' values (drop used' bytes) (drop used bytes) (sym s.1 ∙ r.1) in
     (p.0, same_place used used' bytes r.0 s.0 p.1)
+
+-- no fault of substreams that follow each other is that bytes are left
+pub never_over : (t : Ty) → is_profile t ≡ true → (rows : ℕ) (bytes : List ℕ) (result : Result (List Value × ℕ) CodecError) → GivesFront bytes result (front_reading t rows bytes) → (stream item : ℕ) → result ≡ Err (At stream item Over) → ⊥
+never_over t profile rows bytes (Ok found) gives stream item is = cc
+never_over t profile rows bytes (Err NoMemory) gives stream item is = cc
+never_over t profile rows bytes (Err (At s i why)) gives stream item is =
+    let same : why ≡ Over = cc in
+    front_not_over t rows bytes s i why profile gives same

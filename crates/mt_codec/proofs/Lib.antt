@@ -11,3 +11,4 @@ pub mod ExactLemmas
 pub mod TypeLemmas
 pub mod DecodedLemmas
 pub mod UnderNullLemmas
+pub mod NotOverLemmas

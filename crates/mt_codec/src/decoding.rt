@@ -1,13 +1,15 @@
 //! Reading a column: its substreams as values.
 
-ghost use Rattle.std.specs.Prelude.{◌≡◌, ◌+◌, ◌≤◌, All, IfOk, IsTrue, List as Seq, length, ℕ};
+ghost use Rattle.std.specs.Prelude.{◌≡◌, ◌≢◌, ◌+◌, ◌≤◌, All, Err, IfOk, IsTrue, List as Seq, length, ℕ};
 ghost use Rattle.mt_types.specs.declared.limits.TheConstants.{MAX_ARRAY_DEPTH};
 ghost use Rattle.mt_types.specs.declared.value.Value.{Value as Entry};
 ghost use Rattle.mt_types.specs.Profile.{is_profile};
 ghost use Rattle.mt_table.specs.declared.limits.TheConstants.{MAX_ROWS};
 ghost use Rattle.mt_defs.specs.Lists.{AreBytes};
+ghost use Rattle.mt_item.specs.declared.fault.CodecWhy.TheVariants.{Over};
 ghost use Rattle.mt_item.specs.ItemReading.{item_front};
 ghost use Rattle.mt_item.specs.ItemTypes.{has_items};
+ghost use Rattle.mt_codec.specs.declared.fault.CodecError.TheVariants.{At};
 ghost use Rattle.mt_codec.specs.ColumnReading.{column_from, decode_reading, front_reading, nullable_from, stream_from};
 ghost use Rattle.mt_codec.specs.Cursor.{GivesColumn, is_apart, lists};
 ghost use Rattle.mt_codec.specs.Results.{AreFirstValues, AreValues, Gives, GivesFront, Returns};
@@ -74,6 +76,7 @@ pub fn decode_front(
     ensures found { IfOk result (λ read. AreFirstValues ty.now rows bytes.now read.0 read.1) }
     ensures only { (values : Seq Entry) (used : ℕ) → AreFirstValues ty.now rows bytes.now values used
         → Returns (values, used) result }
+    ensures never { (stream item : ℕ) → result ≢ Err (At stream item Over) }
 {
     let (values, left) = read_column(alloc, ty, 0, u128::from(rows), Streams::Joined(bytes))?;
     match left {

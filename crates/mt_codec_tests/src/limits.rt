@@ -2,13 +2,9 @@
 
 use crate::reading::{fault, rewritten};
 use mt_codec::{CodecError, CodecWhy};
+use mt_types::{List, MAX_ELEMENTS, MAX_TEXT, NoMemory};
+use std::alloc::Global;
 use std::test::Fail;
-
-/// The most elements of an array.
-const MAX_ELEMENTS: usize = 1_048_576;
-
-/// The most bytes of a text.
-const MAX_TEXT: usize = 16_777_216;
 
 /// The fault of the first item of the first substream.
 const TOO_LONG: CodecError = CodecError::At {
@@ -17,23 +13,31 @@ const TOO_LONG: CodecError = CodecError::At {
     why: CodecWhy::TooLong,
 };
 
+/// Some bytes, and so many sevens after them.
+fn followed(alloc: Global, start: &[u8], count: usize) -> Result<List<u8>, NoMemory> {
+    let sevens = vec![in alloc; 7u8; count]?;
+    let mut bytes = List::of_bytes(alloc, start)?;
+    bytes.append(&sevens)?;
+    Ok(bytes)
+}
+
 #[test]
 fn the_longest_array_is_read(rt: HostRuntime) -> Result<(), Fail> {
     let alloc = rt.alloc();
-    let elements = vec![in alloc; 7u8; MAX_ELEMENTS]?;
-    let sizes = [0, 0, 0x10, 0, 0, 0, 0, 0];
-    let bytes = rewritten(alloc, "Array(UInt8)", 1, &[&sizes, &elements])?;
-    assert_eq!(rt; bytes.len(), 8 + MAX_ELEMENTS);
-    assert!(rt; bytes.as_slice()[8..] == elements[..]);
+    let size = b"\0\0\x10\0\0\0\0\0".as_slice();
+    let elements = followed(alloc, b"", MAX_ELEMENTS)?;
+    let bytes = rewritten(alloc, "Array(UInt8)", 1, &[size, elements.as_slice()])?;
+    let want = followed(alloc, size, MAX_ELEMENTS)?;
+    assert!(rt; bytes.as_slice() == want.as_slice());
     Ok(())
 }
 
 #[test]
 fn an_array_of_one_more_is_too_long(rt: HostRuntime) -> Result<(), Fail> {
     let alloc = rt.alloc();
-    let elements = vec![in alloc; 7u8; MAX_ELEMENTS + 1]?;
-    let sizes = [1, 0, 0x10, 0, 0, 0, 0, 0];
-    let found = fault(alloc, "Array(UInt8)", 1, &[&sizes, &elements])?;
+    let size = b"\x01\0\x10\0\0\0\0\0".as_slice();
+    let elements = followed(alloc, b"", MAX_ELEMENTS + 1)?;
+    let found = fault(alloc, "Array(UInt8)", 1, &[size, elements.as_slice()])?;
     assert_eq!(rt; found, Some(TOO_LONG));
     Ok(())
 }
@@ -41,19 +45,17 @@ fn an_array_of_one_more_is_too_long(rt: HostRuntime) -> Result<(), Fail> {
 #[test]
 fn the_longest_text_is_read(rt: HostRuntime) -> Result<(), Fail> {
     let alloc = rt.alloc();
-    let mut text = vec![in alloc; 7u8; 4 + MAX_TEXT]?;
-    text[..4].copy_from_slice(b"\x80\x80\x80\x08");
-    let bytes = rewritten(alloc, "String", 1, &[&text])?;
-    assert!(rt; bytes.as_slice() == &text[..]);
+    let text = followed(alloc, b"\x80\x80\x80\x08", MAX_TEXT)?;
+    let bytes = rewritten(alloc, "String", 1, &[text.as_slice()])?;
+    assert!(rt; bytes.as_slice() == text.as_slice());
     Ok(())
 }
 
 #[test]
 fn a_text_of_one_more_is_too_long(rt: HostRuntime) -> Result<(), Fail> {
     let alloc = rt.alloc();
-    let mut text = vec![in alloc; 7u8; 5 + MAX_TEXT]?;
-    text[..4].copy_from_slice(b"\x81\x80\x80\x08");
-    let found = fault(alloc, "String", 1, &[&text])?;
+    let text = followed(alloc, b"\x81\x80\x80\x08", MAX_TEXT + 1)?;
+    let found = fault(alloc, "String", 1, &[text.as_slice()])?;
     assert_eq!(rt; found, Some(TOO_LONG));
     Ok(())
 }

@@ -1,11 +1,12 @@
-use Rattle.std.proofs.Common.{◌≡◌, ◌≤◌, ◌-◌, List, ℕ, [], ◌∷◌, length, drop, Ok, Err, false, ap, sym, subst, ◌∙◌, arith}
+use Rattle.std.proofs.Common.{◌≡◌, ◌≤◌, ◌-◌, List, ℕ, [], ◌∷◌, length, drop, Result, Ok, Err, false, ap, sym, subst, ◌∙◌, arith}
 use Rattle.std.proofs.lemmas.Result.{err_from_is_err_and}
 use Rattle.mt_types.specs.declared.value.Value.{Value}
 use Rattle.mt_types.specs.Steps.{◌>>=◌}
+use Rattle.mt_codec.specs.declared.fault.CodecError.{CodecError}
 use Rattle.mt_codec.specs.declared.streams.Streams.{Streams}
 use Rattle.mt_codec.specs.ColumnReading.{Read, bytes_left, column_from, front_reading}
 use Rattle.mt_codec.specs.Cursor.{lists}
-use Rattle.mt_codec.proofs.DecodedLemmas.{fails_on, front_found, front_read, returns_front}
+use Rattle.mt_codec.proofs.DecodedLemmas.{fails_on, never_over, front_found, front_read, returns_front}
 use Rattle.mt_codec.proofs.decoding.decode_front.Goals as goal
 
 pub returns-in_err-values-clause-only : goal.returns-in_err-values-clause-only
@@ -43,3 +44,11 @@ returns-clause-only c = λ values used are.
     let r = front_read ty c.requires.profile c.args.rows bytes values used are in
     let inside : place ≤ length bytes = omega arith in
     returns_front bytes (front_reading ty c.args.rows bytes) values used (Ok (c.in_ok-values.values, place)) (inside, read ∙ ap (λ (b : List ℕ). let r : Read (List Value × List ℕ) = Ok (c.in_ok-values.values, b) in r) (sym f.1)) r.0 r.1
+
+pub returns-in_err-values-clause-never : goal.returns-in_err-values-clause-never
+returns-in_err-values-clause-never c = λ stream item is.
+    let p = err_from_is_err_and c.from_residual.result c.from_residual.ensures.1 in
+    let ty = c.args.ty.now in
+    let bytes = c.args.bytes.now in
+    let fails = fails_on c.in_err-values.field-0.0 (column_from false ty 0 c.args.rows (bytes ∷ [])) (λ read. Ok (read.0, bytes_left read.1)) (rw c.from.ensures at c.in_err-values.ensures) in
+    never_over ty c.requires.profile c.args.rows bytes (Err c.in_err-values.field-0.0) fails stream item (sym (ap (λ (e : CodecError). let r : Result (List Value × ℕ) CodecError = Err e in r) p.2) ∙ sym p.1 ∙ is)
