@@ -1,5 +1,5 @@
 -- The exits of `write` once the folder is made, each as the plan has it.
-use Rattle.std.proofs.Common.{◌≡◌, ◌⊎◌, inl, inr, ℕ, true, false, List, [], map, Option, Some, None, IfSome, IsSome, Result, Ok, Err, refl, ap, sym, ◌∙◌, arith}
+use Rattle.std.proofs.Common.{◌≡◌, ◌⊎◌, inl, inr, ℕ, true, false, List, [], map, Option, Some, None, IfSome, IsSome, Result, Ok, Err, refl, ap, sym, ◌∙◌, arith, subst}
 use Rattle.std.proofs.lemmas.List.{append-nil}
 use Rattle.std.specs.Option.{option_map}
 use Rattle.std.specs.Io.KnownBytes.{append_known, IsAtEnd}
@@ -10,8 +10,8 @@ use Rattle.mt_shelf.specs.Files.{Files, gained_files}
 use Rattle.mt_shelf.specs.Held.{pair_of}
 use Rattle.mt_run.specs.Status.{is_outside, ◌>>=◌}
 use Rattle.mt_run.specs.Plans.{Meets, Leaves, Gains, Prints, PrintsPrefix, Answers, refusal_of, world, or_else, status_of, answer_of}
-use Rattle.mt_run.specs.Steps.{Stored}
-use Rattle.mt_run.specs.Write.{refusal, table_for, folder_for, with_folder, write_plan}
+use Rattle.mt_run.specs.Steps.{Counts, StepCausedBy, Stored}
+use Rattle.mt_run.specs.Write.{refusal, table_in, table_for, free_target, folder_for, with_folder, write_plan}
 use Rattle.mt_run.specs.declared.status.Status.{Status}
 use Rattle.mt_run.specs.declared.status.Status.TheVariants.{Done, BadWords, NoTable, BadTable, NotBuilt, Exists, NoRows, BadRows, ManyPartitions, TooMuch, SourceFault, ShelfFault, SinkFault, NoMemory}
 use Rattle.mt_run.proofs.Reported.{grew_by_nothing}
@@ -118,3 +118,56 @@ folder_stored path part table folder (Err (ManyPartitions line)) left left' writ
 folder_stored path part table folder (Err (TooMuch what limit)) left left' written files mid new a b c a' b' c' known same gives ended stored = absurd stored
 folder_stored path part table folder (Err SourceFault) left left' written files mid new a b c a' b' c' known same gives ended stored = absurd stored
 folder_stored path part table folder (Err SinkFault) left left' written files mid new a b c a' b' c' known same gives ended stored = absurd stored
+
+-- ---- a step before that is refused
+
+-- the target stands, or the shelf failed
+target_steps : {A : Type 0} (first : Result A Status) (second : Result Unit Status) (x : A) (status : Status) → first ≡ Ok x → second ≡ Err status → (first >>= λ y. second >>= λ _. (let r : Result A Status = Ok y in r)) ≡ Err status
+target_steps (Ok y) (Ok done) x status is gives = cc
+target_steps (Ok y) (Err other) x status is gives = let same : other ≡ status = cc in ap Err same
+target_steps (Err s) second x status is gives = cc
+
+pub target_refused : (path part : List ℕ) (table : Table) (status : Status) (files mid : Option Files) → IfSome files (λ f. table_in path f ≡ Ok table) → mid ≡ files
+    → IfSome mid (λ f. is_outside status ≡ false → free_target part f ≡ Err status) → IfSome files (λ f. is_outside status ≡ false → table_for path part f ≡ Err status)
+target_refused path part table status None mid known same gives = tt
+target_refused path part table status (Some f) mid known same gives =
+    let here : is_outside status ≡ false → free_target part f ≡ Err status = subst (λ files. IfSome files (λ g. is_outside status ≡ false → free_target part g ≡ Err status)) same gives in
+    λ inside. target_steps (table_in path f) (free_target part f) table status known (here inside)
+
+then_refuses : {A B : Type 0} (first : Result A Status) (second : A → Result B Status) (x : A) (status : Status) → first ≡ Ok x → (is_outside status ≡ false → second x ≡ Err status)
+    → Answers (or_else (refusal first) (refusal (first >>= second))) status
+then_refuses (Ok z) second x status is gives = λ inside. let same : z ≡ x = cc in sym (ap (λ r. status_of (refusal r)) (ap second same ∙ gives inside))
+then_refuses (Err s) second x status is gives = cc
+
+-- a step that fails leaves what was there
+left_before : (path part : List ℕ) (files mid : Option Files) (left left' written : Option (List ℕ)) (a b c a' b' c' : ℕ) (status : Status) (before now : Counts)
+    → mid ≡ files → StepCausedBy (let r : Result (List FileBytes) Status = Err status in r) before now → Leaves (write_plan path part) (world left written files a b c) (world left' written mid a' b' c') status × ¬ (status ≡ BadWords)
+left_before path part files mid left left' written a b c a' b' c' Done before now same cause = absurd cause
+left_before path part files mid left left' written a b c a' b' c' BadWords before now same cause = absurd cause
+left_before path part files mid left left' written a b c a' b' c' ShelfFault before now same cause = ((inr same, refl), λ e. cc)
+left_before path part files mid left left' written a b c a' b' c' SinkFault before now same cause = ((same, printed_prefix path part files left written), λ e. cc)
+left_before path part files mid left left' written a b c a' b' c' NoMemory before now same cause = ((inr same, printed_prefix path part files left written), λ e. cc)
+left_before path part files mid left left' written a b c a' b' c' NoTable before now same cause = ((same, refl), λ e. cc)
+left_before path part files mid left left' written a b c a' b' c' (BadTable why) before now same cause = ((same, refl), λ e. cc)
+left_before path part files mid left left' written a b c a' b' c' NotBuilt before now same cause = ((same, refl), λ e. cc)
+left_before path part files mid left left' written a b c a' b' c' Exists before now same cause = ((same, refl), λ e. cc)
+left_before path part files mid left left' written a b c a' b' c' NoRows before now same cause = ((same, refl), λ e. cc)
+left_before path part files mid left left' written a b c a' b' c' (BadRows line why) before now same cause = ((same, refl), λ e. cc)
+left_before path part files mid left left' written a b c a' b' c' (TooMuch what limit) before now same cause = ((same, refl), λ e. cc)
+left_before path part files mid left left' written a b c a' b' c' SourceFault before now same cause = ((same, refl), λ e. cc)
+
+-- the input is refused, or failed
+pub input_refused : (path part : List ℕ) (table : Table) (status : Status) (left left' written : Option (List ℕ)) (files mid : Option Files) (a b c a' b' c' : ℕ) (before now : Counts)
+    → IfSome files (λ f. table_for path part f ≡ Ok table) → mid ≡ files → IfSome left (λ input. is_outside status ≡ false → folder_for table input ≡ Err status)
+    → StepCausedBy (let r : Result (List FileBytes) Status = Err status in r) before now
+    → Meets (write_plan path part) (world left written files a b c) (world left' written mid a' b' c') status
+input_refused path part table status left left' written files mid a b c a' b' c' before now known same gives cause =
+    let both = left_before path part files mid left left' written a b c a' b' c' status before now same cause in
+    record {
+      answer = if_both (λ f input is refuses. then_refuses (table_for path part f) (λ t. folder_for t input) table status is refuses) files left known gives;
+      early = if_some (λ f is some. not_refused (table_for path part f) table is some) files known;
+      words = both.1;
+      left = both.0;
+      unread = λ none. cc;
+      taken = if_some (λ f is some. not_refused (table_for path part f) table is some) files known;
+    }

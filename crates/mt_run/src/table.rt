@@ -58,6 +58,7 @@ fn any_table_of(alloc: Global, text: &[u8]) -> Result<Table, Status>
 fn built_table(table: Table) -> Result<Table, Status>
     ensures gives { result ≡ built_table table }
     ensures numbers { IfOk result IsNumbersTable }
+    ensures cause { StepCausedBy result of_nothing of_nothing }
 {
     if table.has_two_numbers() {
         Ok(table)

@@ -52,8 +52,10 @@ fn table_for<F: Shelf>(
     ensures cause { StepCausedBy result (of_shelf (F.faults shelf.old)) (of_shelf (F.faults shelf.new)) }
 {
     let table = read_table(alloc, shelf, path)?;
-    free_target(shelf, part)?;
-    Ok(table)
+    match free_target(shelf, part) {
+        Ok(()) => Ok(table),
+        Err(status) => Err(status),
+    }
 }
 
 /// Reads the input to its end, and makes the folder of its rows.

@@ -10,7 +10,7 @@ use std::test::Fail;
 fn refuses_in_order(rt: HostRuntime) -> Result<(), Fail> {
     let alloc = rt.alloc();
     // Words, input, the note, and how many bytes of the input are left.
-    let cases: [(&[&str], &str, &str, usize); 17] = [
+    let cases: [(&[&str], &str, &str, usize); 18] = [
         (&[], INPUT, "words are no command", 15),
         (&["write", "u.sql", "p"], INPUT, "words are no command", 15),
         (
@@ -63,6 +63,7 @@ fn refuses_in_order(rt: HostRuntime) -> Result<(), Fail> {
             "bad table: Syntax",
             15,
         ),
+        (&["write", "other.sql", "old", "1"], INPUT, "not built", 15),
         (&["write", "u.sql", "old", "1"], INPUT, "target exists", 15),
         (
             &["write", "u.sql", "old/k.bin", "1"],
@@ -88,7 +89,12 @@ fn refuses_in_order(rt: HostRuntime) -> Result<(), Fail> {
         let words = words_of(alloc, words)?;
         let files = files_of(
             alloc,
-            &[("u.sql", TABLE), ("bad.sql", "CREATE"), ("old/k.bin", "")],
+            &[
+                ("u.sql", TABLE),
+                ("bad.sql", "CREATE"),
+                ("other.sql", "CREATE TABLE t (k UInt8) ENGINE = MergeTree ORDER BY k"),
+                ("old/k.bin", ""),
+            ],
         )?;
         let mut input = SureSource::new(List::of_bytes(alloc, text.as_bytes())?, 4);
         let mut output = SureSink::new(alloc, 4);

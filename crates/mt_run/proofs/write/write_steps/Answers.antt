@@ -1,4 +1,4 @@
-use Rattle.mt_run.proofs.WriteLemmas.{folder_stored}
+use Rattle.mt_run.proofs.WriteLemmas.{folder_stored, input_refused}
 use Rattle.mt_run.proofs.write.write_steps.Goals as goal
 
 pub store_folder-requires-clause-names : goal.store_folder-requires-clause-names
@@ -10,3 +10,8 @@ returns-clause-meets g c =
     _ _ _ _ _ _ _ _ _ _ _ _
     c.in_ok-table.ensures.gives c.in_ok-table.ensures.files c.in-Ok.ensures.gives c.in-Ok.ensures.ended
     (rw c.as_slice.ensures at c.store_folder.ensures.stored)
+
+pub returns-in-Err-clause-meets : goal.returns-in-Err-clause-meets
+returns-in-Err-clause-meets g c =
+    input_refused c.args.path.now c.args.part.now c.in_ok-table.table c.in-Err.status _ _ _ _ _ _ _ _ _ _ _ _ _
+    c.in_ok-table.ensures.gives c.in_ok-table.ensures.files c.in-Err.ensures.gives c.in-Err.ensures.cause
