@@ -92,7 +92,10 @@ fn refuses_in_order(rt: HostRuntime) -> Result<(), Fail> {
             &[
                 ("u.sql", TABLE),
                 ("bad.sql", "CREATE"),
-                ("other.sql", "CREATE TABLE t (k UInt8) ENGINE = MergeTree ORDER BY k"),
+                (
+                    "other.sql",
+                    "CREATE TABLE t (k UInt8) ENGINE = MergeTree ORDER BY k",
+                ),
                 ("old/k.bin", ""),
             ],
         )?;
