@@ -1,6 +1,6 @@
 //! The longest arrays and texts, and some of one more.
 
-use crate::reading::{fault, rewritten};
+use crate::reading::{fault, front_fault, rewritten, rewritten_front};
 use mt_codec::{CodecError, CodecWhy};
 use mt_types::{List, MAX_ELEMENTS, MAX_TEXT, NoMemory};
 use std::alloc::Global;
@@ -24,20 +24,18 @@ fn followed(alloc: Global, start: &[u8], count: usize) -> Result<List<u8>, NoMem
 #[test]
 fn the_longest_array_is_read(rt: HostRuntime) -> Result<(), Fail> {
     let alloc = rt.alloc();
-    let size = b"\0\0\x10\0\0\0\0\0".as_slice();
-    let elements = followed(alloc, b"", MAX_ELEMENTS)?;
-    let bytes = rewritten(alloc, "Array(UInt8)", 1, &[size, elements.as_slice()])?;
-    let want = followed(alloc, size, MAX_ELEMENTS)?;
-    assert!(rt; bytes.as_slice() == want.as_slice());
+    let array = followed(alloc, b"\0\0\x10\0\0\0\0\0", MAX_ELEMENTS)?;
+    let (bytes, used) = rewritten_front(alloc, "Array(UInt8)", 1, array.as_slice())?;
+    assert_eq!(rt; used, array.len());
+    assert!(rt; bytes.as_slice() == array.as_slice());
     Ok(())
 }
 
 #[test]
 fn an_array_of_one_more_is_too_long(rt: HostRuntime) -> Result<(), Fail> {
     let alloc = rt.alloc();
-    let size = b"\x01\0\x10\0\0\0\0\0".as_slice();
-    let elements = followed(alloc, b"", MAX_ELEMENTS + 1)?;
-    let found = fault(alloc, "Array(UInt8)", 1, &[size, elements.as_slice()])?;
+    let array = followed(alloc, b"\x01\0\x10\0\0\0\0\0", MAX_ELEMENTS + 1)?;
+    let found = front_fault(alloc, "Array(UInt8)", 1, array.as_slice())?;
     assert_eq!(rt; found, Some(TOO_LONG));
     Ok(())
 }
