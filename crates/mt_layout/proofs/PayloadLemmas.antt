@@ -89,7 +89,7 @@ one_more_column columns row i column size more both within is sized one all =
     let taken : take (i + 1) columns ≡ take i columns ++ column ∷ [] = take_more columns i column within ∙ ap (λ c. take i columns ++ c ∷ []) (sym is) in
     added both size more _ _ _ all sized one
     (ap (λ cs. columns_size 0 cs (row ∷ [])) taken ∙ columns_size-push 0 (take i columns) column (row ∷ [])
-        ∙ ap (λ j. columns_size 0 (take i columns) (row ∷ []) + column_size (row ∷ []) (j, column)) so_far)
+    ∙ ap (λ j. columns_size 0 (take i columns) (row ∷ []) + column_size (row ∷ []) (j, column)) so_far)
 
 -- the bytes of all columns
 pub all_columns : (columns : List Column) (row : Row) (i size : ℕ) → length columns ≤ i → size ≡ saturated (columns_size 0 (take i columns) (row ∷ [])) → size ≡ saturated (row_size columns row)
