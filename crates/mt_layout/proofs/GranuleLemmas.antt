@@ -1,7 +1,6 @@
 -- The writer's granules, one row at a time.
 use Rattle.std.proofs.Common.{◌≡◌, ℕ, zero, suc, ◌+◌, ◌-◌, ◌<◌, ◌≤◌, ◌^◌, min, Bool, true, false, List, [], ◌∷◌, ◌++◌, length, take, drop, get_or, refl, ap, sym, ◌∙◌, arith, inl, inr, append_assoc, append-nil, length-append}
 use Rattle.std.specs.Prelude.{nat_le, nat_lt, ◌||◌, if◌then◌else◌}
-use Rattle.std.proofs.lemmas.Bool.{cases_lt, le-leb, leb-false}
 use Rattle.std.proofs.lemmas.List.{drop_more, take_more}
 use Rattle.mt_table.specs.declared.column.Column.{Column}
 use Rattle.mt_table.specs.declared.settings.Settings.{Settings}
@@ -12,16 +11,9 @@ use Rattle.mt_layout.proofs.PayloadLemmas.{payload_size-push, payload_size-none}
 
 -- ---- saturated sums
 
+-- the sum of two
 pub saturated-add : (both a b x y : ℕ) → both ≡ min (a + b) (2 ^ 64 - 1) → a ≡ saturated x → b ≡ saturated y → both ≡ saturated (x + y)
 saturated-add both a b x y s p q = omega arith
-
--- a limit of 64 bits is reached by the saturated count where it is by the count
-pub saturated-reaches : (limit bytes payload : ℕ) → limit < 2 ^ 64 → bytes ≡ saturated payload → nat_le limit bytes ≡ nat_le limit payload
-saturated-reaches limit bytes payload small is =
-    elim (cases_lt payload (2 ^ 64)) [
-      | inl below ↦ ap (nat_le limit) (omega arith)
-      | inr above ↦ le-leb limit bytes (omega arith) ∙ sym (le-leb limit payload (omega arith))
-    ]
 
 -- ---- the granule that is begun
 
@@ -59,6 +51,7 @@ granules_next : (full : List Row → Bool) (begun rows : List Row) (next : ℕ) 
 granules_next full begun rows next row within is =
     ap (granules_from full begun) (drop_more rows next row within ∙ ap (λ r. r ∷ drop (next + 1) rows) (sym is))
 
+-- a choice by a test that is known
 chosen : {A : Type 0} (b c : Bool) (x y : A) → b ≡ c → (if b then x else y) ≡ (if c then x else y)
 chosen b c x y e = ap (λ d. if d then x else y) e
 
@@ -106,27 +99,3 @@ all_more columns rows next all more size row within is so_far sized added =
     saturated-add more all size _ _ added so_far sized
     ∙ ap saturated (sym (payload_size-push columns (take next rows) row))
     ∙ ap (λ xs. saturated (payload_size columns xs)) (sym (take_more rows next row within ∙ ap (λ r. take next rows ++ r ∷ []) (sym is)))
-
--- ---- the last granule
-
-last_some : (begun : List Row) (count : ℕ) → count ≡ length begun → 0 < count → last_granule begun ≡ count ∷ []
-last_some [] count is some = absurd (omega arith)
-last_some (row ∷ begun) count is some = ap (λ n. n ∷ []) (sym is)
-
-last_none : (begun : List Row) (count : ℕ) → count ≡ length begun → count ≤ 0 → last_granule begun ≡ []
-last_none [] count is none = refl
-last_none (row ∷ begun) count is none = absurd (omega (arith, is))
-
--- the rows that are left are the last granule
-pub last_is_pushed : (settings : Settings) (columns : List Column) (rows : List Row) (next : ℕ) (granules all : List ℕ) (count bytes : ℕ)
-    → IsCut settings columns rows next granules count bytes → drop next rows ≡ [] → 0 < count → all ≡ granules ++ count ∷ [] → all ≡ written_granules settings columns rows
-last_is_pushed settings columns rows next granules all count bytes cut end some is =
-    is ∙ ap (λ last. granules ++ last) (sym (last_some cut.begun count cut.counted some))
-    ∙ ap (λ rest. granules ++ granules_from (is_full settings columns) cut.begun rest) (sym end) ∙ cut.ahead
-
--- none are left
-pub none_is_pushed : (settings : Settings) (columns : List Column) (rows : List Row) (next : ℕ) (granules all : List ℕ) (count bytes : ℕ)
-    → IsCut settings columns rows next granules count bytes → drop next rows ≡ [] → count ≤ 0 → all ≡ granules → all ≡ written_granules settings columns rows
-none_is_pushed settings columns rows next granules all count bytes cut end none is =
-    is ∙ sym (append-nil granules) ∙ ap (λ last. granules ++ last) (sym (last_none cut.begun count cut.counted none))
-    ∙ ap (λ rest. granules ++ granules_from (is_full settings columns) cut.begun rest) (sym end) ∙ cut.ahead

@@ -76,7 +76,8 @@ fn granules_of(
 /// Whether a granule of so many rows and bytes takes no further row.
 fn is_full(settings: &Settings, rows: u64, bytes: u64) -> bool
     ensures { (payload : ℕ) → bytes ≡ saturated payload
-        → result ≡ (nat_le settings.now.granule_rows rows || nat_le settings.now.granule_bytes payload) }
+        → result ≡ (nat_le settings.now.granule_rows rows
+        || nat_le settings.now.granule_bytes payload) }
 {
     settings.granule_rows <= rows || settings.granule_bytes <= bytes
 }
@@ -84,7 +85,8 @@ fn is_full(settings: &Settings, rows: u64, bytes: u64) -> bool
 /// Whether so many rows and bytes make a Compact part.
 fn is_small(settings: &Settings, rows: u64, bytes: u64) -> bool
     ensures { (payload : ℕ) → bytes ≡ saturated payload
-        → result ≡ (nat_lt payload settings.now.wide_bytes || nat_lt rows settings.now.wide_rows) }
+        → result ≡ (nat_lt payload settings.now.wide_bytes
+        || nat_lt rows settings.now.wide_rows) }
 {
     bytes < settings.wide_bytes || rows < settings.wide_rows
 }

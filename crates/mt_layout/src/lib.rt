@@ -7,8 +7,6 @@ mod item;
 mod law;
 mod layout;
 mod rows;
-#[cfg(test)]
-mod tests;
 
 pub use law::{payloads_are_sums_over_rows, payloads_are_sums_over_values};
 pub use layout::{Layout, layout_of};

@@ -55,7 +55,8 @@ fn value_size(ty: &Ty, value: &Value) -> u64
 /// The bytes of a value, or of the default in the place of NULL.
 #[cycle(sizes)]
 fn filled_size(ty: &Ty, value: &Value) -> u64
-    ensures { result ≡ saturated (defined.value_size ty.now (or_default (default_of ty.now) value.now)) }
+    ensures { result ≡ saturated (defined.value_size ty.now
+        (or_default (default_of ty.now) value.now)) }
 {
     match value {
         Value::Null => default_size(ty),
