@@ -120,23 +120,35 @@ fn counts_have_limits(rt: HostRuntime) -> Result<(), Fail> {
 /// The longest text that is read from a file, in bytes.
 const LONGEST: usize = 1_048_576;
 
+/// Appends a piece so many times.
+fn append_repeated(text: &mut List<u8>, piece: &[u8], times: usize) -> Result<(), NoMemory> {
+    for _ in 0..times {
+        text.append(piece)?;
+    }
+    Ok(())
+}
+
+/// What is wrong with a text that blanks make as long as one may be.
+fn refusal_of(alloc: Global, mut text: List<u8>) -> Result<Option<TableError>, Fail> {
+    let left = LONGEST.saturating_sub(text.len());
+    append_repeated(&mut text, b" ", left)?;
+    if text.len() != LONGEST {
+        return Err(Fail::new("the text is too long"));
+    }
+    Ok(Table::read(alloc, text.as_slice()).err())
+}
+
 #[test]
 fn a_long_text_is_read(rt: HostRuntime) -> Result<(), Fail> {
     let alloc = rt.alloc();
     let mut text = List::of_bytes(alloc, b"CREATE TABLE t (")?;
-    let mut count = 0;
-    while text.len() + 500_000 < LONGEST {
-        append_numbered(alloc, &mut text, "c", count, " Date, ")?;
-        count += 1;
-    }
+    append_all(alloc, &mut text, 38_000, "c", " Date, ")?;
     text.append(b"x UInt8, PROJECTION p (SELECT ")?;
-    append_all(alloc, &mut text, count, "c", ", ")?;
+    append_all(alloc, &mut text, 38_000, "c", ", ")?;
     text.append(b"x ORDER BY x)) ENGINE = MergeTree ORDER BY (x")?;
-    while text.len() + 10 < LONGEST {
-        text.append(b",c7")?;
-    }
+    append_repeated(&mut text, b",c7", 80_000)?;
     text.append(b")")?;
-    let refusal = Table::read(alloc, text.as_slice()).err();
+    let refusal = refusal_of(alloc, text)?;
     assert_eq!(rt; refusal, Some(TableError::Bad(TableWhy::BadKey)));
     Ok(())
 }
@@ -145,13 +157,9 @@ fn a_long_text_is_read(rt: HostRuntime) -> Result<(), Fail> {
 fn a_long_text_of_many_columns_has_too_many(rt: HostRuntime) -> Result<(), Fail> {
     let alloc = rt.alloc();
     let mut text = List::of_bytes(alloc, b"CREATE TABLE t (")?;
-    let mut count = 0;
-    while text.len() + 80 < LONGEST {
-        append_numbered(alloc, &mut text, "c", count, " Date,")?;
-        count += 1;
-    }
+    append_all(alloc, &mut text, 84_000, "c", " Date,")?;
     text.append(b"x UInt8) ENGINE = MergeTree ORDER BY x")?;
-    let refusal = Table::read(alloc, text.as_slice()).err();
+    let refusal = refusal_of(alloc, text)?;
     assert_eq!(rt; refusal, Some(TableError::Bad(TableWhy::TooMany)));
     Ok(())
 }

@@ -117,7 +117,10 @@ fn what_is_not_given_has_a_default(rt: HostRuntime) -> Result<(), Fail> {
     assert_eq!(rt; table.settings, DEFAULTS);
     assert_eq!(rt; table.primary, 2);
     assert_eq!(rt; table.partition.len(), 0);
-    assert_eq!(rt; table.skips.as_slice()[0].granularity, 1);
+    let [skip] = table.skips.as_slice() else {
+        return Err(Fail::new("other indexes were read"));
+    };
+    assert_eq!(rt; skip.granularity, 1);
     let [Projection::Normal { columns, .. }] = table.projections.as_slice() else {
         return Err(Fail::new("others were read"));
     };
