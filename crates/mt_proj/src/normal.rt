@@ -9,7 +9,7 @@ ghost use Rattle.mt_table.specs.declared.projection.Projection.TheVariants.{Norm
 ghost use Rattle.mt_defs.specs.Rows.{key_of};
 ghost use Rattle.mt_defs.specs.Projections as defined;
 ghost use Rattle.mt_defs.specs.Writer.{projection_rows};
-ghost use Rattle.mt_proj.specs.Keys.{rows_in};
+ghost use Rattle.mt_proj.specs.Keys.{rows_in, columns_below};
 
 use crate::column::{compare_with, copy_cells};
 use crate::key::Key;
@@ -30,7 +30,7 @@ pub fn project_normal(
     ensures { (name : List ℕ) → IfOk result (λ made. made
         ≡ projection_rows table.now (Normal name columns.now sort.now) rows.now) }
 {
-    let stored = stored_columns(alloc, table, columns)?;
+    let stored = stored_columns(alloc, table.columns.len(), columns)?;
     let key = places_in(alloc, stored.as_slice(), sort)?;
     let made = select_cells(alloc, stored.as_slice(), rows)?;
     sort_rows(key.as_slice(), made)
@@ -58,7 +58,7 @@ pub fn stands_normal(
     ensures { IfOk result (λ stands. IsTrue stands ↔ IsPermutation
         (map (key_of (defined.stored_columns table.now columns.now)) rows.now) stored.now) }
 {
-    let selected = stored_columns(alloc, table, columns)?;
+    let selected = stored_columns(alloc, table.columns.len(), columns)?;
     let columns = selected.as_slice();
     let wanted = sorted_refs(alloc, &Key::Cells(columns), rows)?;
     let found = sorted_refs(alloc, &Key::Whole, stored)?;
@@ -81,12 +81,12 @@ fn are_cells(columns: &[usize], rows: &[&Row], values: &[&Row]) -> bool
     rows.len() >= values.len()
 }
 
-/// The columns that the projection stores, in the table's order.
-fn stored_columns(alloc: Global, table: &Table, columns: &[u32]) -> Result<List<usize>, NoMemory>
-    ensures { IfOk result (λ stored. stored ≡ defined.stored_columns table.now columns.now) }
+/// The columns that the projection stores, in the order of the table, which has this many.
+fn stored_columns(alloc: Global, count: usize, columns: &[u32]) -> Result<List<usize>, NoMemory>
+    ensures { IfOk result (λ stored. stored ≡ columns_below count columns.now) }
 {
     let mut stored = Vec::with_capacity(alloc, columns.len())?;
-    for column in 0..table.columns.len() {
+    for column in 0..count {
         if is_among(columns, column) {
             stored.push(column)?;
         }
