@@ -1,12 +1,12 @@
 -- The granules of rows of two columns of numbers.
-use Rattle.std.proofs.Common.{◌≡◌, ℕ, ◌+◌, ◌<◌, ◌≤◌, Bool, true, false, List, [], ◌∷◌, ◌++◌, length, map, take, drop, get_or, ap, sym, ◌∙◌, arith, append_assoc}
+use Rattle.std.proofs.Common.{◌≡◌, ℕ, ◌+◌, ◌<◌, ◌≤◌, Bool, true, false, List, [], ◌∷◌, ◌++◌, length, map, take, drop, get_or, refl, ap, sym, ◌∙◌, arith, append_assoc}
 use Rattle.std.specs.Prelude.{nat_le, ◌||◌, if◌then◌else◌, sum}
-use Rattle.std.proofs.lemmas.List.{drop_more, take_more, length-append, length-take-le}
+use Rattle.std.proofs.lemmas.List.{drop_all, drop_more, take_all, take_more, length-append, length-take-le}
 use Rattle.mt_types.specs.declared.ty.Width.TheVariants.{W64}
 use Rattle.mt_table.specs.declared.definition.Table.{Table}
 use Rattle.mt_table.specs.Form.{IsNumbersTable, uint64_column}
 use Rattle.mt_defs.specs.Rows.{Row, column_values}
-use Rattle.mt_defs.specs.WrittenGranules.{granules_from, is_full, column_size, payload_size, written_granules}
+use Rattle.mt_defs.specs.WrittenGranules.{granules_from, last_granule, is_full, column_size, payload_size, written_granules}
 use Rattle.mt_defs.proofs.Numbers.{written_streams_UInt}
 use Rattle.mt_plain.specs.NumberRows.{IsFirstGranule, items_of, payload_of}
 use Rattle.mt_plain.proofs.ItemLemmas.{columns_are}
@@ -67,6 +67,30 @@ pub ends_here : (full : List Row → Bool) (rows begun : List Row) (before count
     → all ≡ granules_from full (take before rows) (drop before rows) → all ≡ count ∷ granules_from full [] (drop count rows)
 ends_here full rows begun before count all next within is on ahead =
     ahead ∙ joins full rows before count next within ∙ chosen (full (take count rows)) true _ _ (ap full (sym is) ∙ on)
+
+some_left : (rows : List Row) → 1 ≤ length rows → last_granule rows ≡ length rows ∷ []
+some_left [] some = absurd (omega (arith, some))
+some_left (row ∷ rows) some = refl
+
+-- all of the rows are a granule, whether they fill it or not
+all_rows : (full : List Row → Bool) (rows : List Row) (filled : Bool) → 1 ≤ length rows
+    → (if filled then length rows ∷ granules_from full [] (drop (length rows) rows) else granules_from full (take (length rows) rows) (drop (length rows) rows))
+    ≡ length rows ∷ granules_from full [] (drop (length rows) rows)
+all_rows full rows true some = refl
+all_rows full rows false some =
+    let none : drop (length rows) rows ≡ [] = drop_all (length rows) rows (omega arith) in
+    ap (λ rest. granules_from full (take (length rows) rows) rest) none ∙ ap last_granule (take_all (length rows) rows (omega arith)) ∙ some_left rows some
+    ∙ ap (λ rest. length rows ∷ granules_from full [] rest) (sym none)
+
+pub at_least_one : (rows : List Row) → (rows ≡ [] → ⊥) → 1 ≤ length rows
+at_least_one [] some = absurd (some refl)
+at_least_one (row ∷ rows) some = omega arith
+
+-- all rows but the last don't fill it
+pub ends_last : (full : List Row → Bool) (rows : List Row) (before : ℕ) (all : List ℕ) → before + 1 ≡ length rows
+    → all ≡ granules_from full (take before rows) (drop before rows) → all ≡ length rows ∷ granules_from full [] (drop (length rows) rows)
+ends_last full rows before all next ahead =
+    ahead ∙ joins full rows before (length rows) next (omega arith) ∙ all_rows full rows (full (take (length rows) rows)) (omega (arith, next))
 
 -- ---- all granules
 
