@@ -153,6 +153,7 @@ left_before path part files mid left left' written a b c a' b' c' NotBuilt befor
 left_before path part files mid left left' written a b c a' b' c' Exists before now same cause = ((same, refl), λ e. cc)
 left_before path part files mid left left' written a b c a' b' c' NoRows before now same cause = ((same, refl), λ e. cc)
 left_before path part files mid left left' written a b c a' b' c' (BadRows line why) before now same cause = ((same, refl), λ e. cc)
+left_before path part files mid left left' written a b c a' b' c' (ManyPartitions line) before now same cause = ((same, refl), λ e. cc)
 left_before path part files mid left left' written a b c a' b' c' (TooMuch what limit) before now same cause = ((same, refl), λ e. cc)
 left_before path part files mid left left' written a b c a' b' c' SourceFault before now same cause = ((same, refl), λ e. cc)
 
