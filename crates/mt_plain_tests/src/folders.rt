@@ -1,6 +1,6 @@
 //! The folders that the writer and the plain program make of the same rows.
 
-ghost use Rattle.std.specs.Prelude.{◌≡◌, ◌≢◌, [], All, IfOk};
+ghost use Rattle.std.specs.Prelude.{◌≡◌, ◌≢◌, [], All, IfOk, IfSome};
 ghost use Rattle.mt_table.specs.Form.{IsNumbersTable};
 ghost use Rattle.mt_plain_tests.specs.Pairs.{IsPair};
 
@@ -43,6 +43,17 @@ fn row_of(alloc: Global, first: u64, second: u64) -> Result<Row, NoMemory>
     row.push(Value::Num(first as i128))?;
     row.push(Value::Num(second as i128))?;
     Ok(row)
+}
+
+/// The table, if it's of two `UInt64` columns.
+pub fn of_numbers(table: Table) -> Option<Table>
+    ensures { IfSome result IsNumbersTable }
+{
+    if table.has_two_numbers() {
+        Some(table)
+    } else {
+        None
+    }
 }
 
 /// Both folders of some rows of a table, put in key order.

@@ -7,4 +7,4 @@ mod folders;
 #[cfg(test)]
 mod same;
 
-pub use folders::{Folders, Pair, folders_of, rows_of};
+pub use folders::{Folders, Pair, folders_of, of_numbers, rows_of};

@@ -1,6 +1,6 @@
 //! Small cases: the worked row of docs/FORMAT.md, few rows, equal keys, granules and extreme keys.
 
-use crate::folders::{Folders, Pair, folders_of, rows_of};
+use crate::folders::{Folders, Pair, folders_of, of_numbers, rows_of};
 use mt_shelf::FileBytes;
 use mt_table::Table;
 use std::alloc::Global;
@@ -76,7 +76,10 @@ fn folders<R: Threads + Sync>(
     text: &str,
     pairs: &[Pair],
 ) -> Result<Folders, Fail> {
-    let table = Table::read(alloc, text.as_bytes())?;
+    let read = Table::read(alloc, text.as_bytes())?;
+    let Some(table) = of_numbers(read) else {
+        return Err(Fail::from("not two columns of numbers"));
+    };
     let rows = rows_of(alloc, pairs)?;
     if rows.is_empty() {
         return Err(Fail::from("no rows"));
