@@ -117,7 +117,7 @@ fn refuses_in_order(rt: HostRuntime) -> Result<(), Fail> {
         assert_eq!(rt; notes.shown(), line.as_bytes());
         assert_eq!(rt; status.code(), 2, "{note}");
         assert_eq!(rt; input.rest().len(), left, "{note}");
-        assert_eq!(rt; shelf.held().len(), 3, "{note}");
+        assert_eq!(rt; shelf.held().len(), 4, "{note}");
         assert!(rt; output.shown().is_empty());
     }
     Ok(())
