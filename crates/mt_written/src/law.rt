@@ -1,0 +1,27 @@
+//! Laws of the writer's folder, each the contract of a function that does nothing.
+
+ghost use Rattle.std.specs.Prelude.{List};
+ghost use Rattle.mt_table.specs.declared.definition.PartDef.{PartDef};
+ghost use Rattle.mt_table.specs.declared.definition.Table.{Table};
+ghost use Rattle.mt_table.specs.declared.settings.Settings.{Settings};
+ghost use Rattle.mt_defs.specs.Folder.{folder_of};
+ghost use Rattle.mt_defs.specs.Part.{HoldsRows, StandsFor};
+ghost use Rattle.mt_defs.specs.Rows.{Row, ArePartRows};
+ghost use Rattle.mt_defs.specs.Writer.{IsWritable, definition_files, written_folder};
+ghost use Rattle.mt_defs.specs.WrittenGranules.{written_granules};
+ghost use Rattle.mt_written.specs.Stored.{IsStored};
+ghost use Rattle.mt_written.specs.Texts.{HoldBytes};
+
+/// The writer's files of a definition's rows hold these rows, in the writer's granules.
+pub fn written_definition_holds_rows()
+    ensures { (settings : Settings) (definition : PartDef) (rows : List Row) → IsStored definition
+        → ArePartRows definition rows → HoldBytes rows
+        → HoldsRows definition (folder_of (definition_files settings definition rows)) rows
+        (written_granules settings definition.columns rows) }
+{}
+
+/// The writer's folder of writable rows stands for these rows, for every table.
+pub fn written_folder_stands()
+    ensures { (table : Table) (rows : List Row) → IsWritable table rows → HoldBytes rows
+        → StandsFor table (folder_of (written_folder table rows)) rows }
+{}
