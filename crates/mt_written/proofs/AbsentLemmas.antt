@@ -1,10 +1,9 @@
 -- Names that no file of the writer's folder has.
-use Rattle.std.proofs.Common.{◌≡◌, ◌≢◌, ℕ, zero, suc, ◌<◌, Bool, true, false, List, [], ◌∷◌, ◌++◌, length, map, get_or, refl, ap, sym, ◌∙◌, subst, arith, inl, inr, ◌⊎◌, eqb}
-use Rattle.std.specs.Prelude.{All, IsTrue, None, codes, ◌==◌, if◌then◌else◌}
-use Rattle.std.specs.List.{flat_map}
-use Rattle.std.proofs.lemmas.Bool.{cases_eq, cases_lt}
+use Rattle.std.proofs.Common.{◌≡◌, ◌≢◌, ℕ, zero, suc, ◌<◌, Bool, true, false, List, [], ◌∷◌, ◌++◌, length, get_or, refl, ap, sym, ◌∙◌, subst, arith, inl, inr, eqb}
+use Rattle.std.specs.Prelude.{All, IsTrue, None, ◌==◌, if◌then◌else◌}
+use Rattle.std.proofs.lemmas.Bool.{cases_eq}
 use Rattle.std.proofs.lemmas.List.{append_cancel_left, get_or_default}
-use Rattle.std.proofs.lemmas.List.Elements.{All-nil, All-cons, All-append, All-head, All-tail, All-weaker}
+use Rattle.std.proofs.lemmas.List.Elements.{All-nil, All-append, All-weaker}
 use Rattle.mt_types.specs.Profile.{is_profile}
 use Rattle.mt_shelf.specs.declared.file.FileBytes.{FileBytes}
 use Rattle.mt_table.specs.declared.column.Column.{Column}
@@ -15,7 +14,7 @@ use Rattle.mt_table.specs.declared.projection.Projection.{Projection}
 use Rattle.mt_defs.specs.Folder.{folder_of, folder_below}
 use Rattle.mt_defs.specs.Rows.{Row}
 use Rattle.mt_defs.specs.Compact.{compact_marks_name}
-use Rattle.mt_defs.specs.Partition.{partition_name, partition_bytes}
+use Rattle.mt_defs.specs.Partition.{partition_name}
 use Rattle.mt_defs.specs.Projections.{base_of, inner_of, projection_name, projection_prefix}
 use Rattle.mt_defs.specs.WrittenGranules.{written_granules}
 use Rattle.mt_defs.specs.WrittenPartition.{partition_files}
@@ -25,10 +24,10 @@ use Rattle.mt_written.proofs.ListLemmas.{All-to_flat_map, All-mapped}
 use Rattle.mt_written.proofs.NameLemmas.{is_stem, stem_of, has_slash}
 use Rattle.mt_written.proofs.ApartLemmas.{EachLater, Labelled, no}
 use Rattle.mt_written.proofs.DefinitionLemmas.{data_files, listing_files, written_layout}
-use Rattle.mt_written.proofs.DataNames.{AreOwn, IsData, data_are, data_end, each_column, ends_as_data, listing_ends}
+use Rattle.mt_written.proofs.DataNames.{data_end, each_column, ends_as_data, listing_ends}
 use Rattle.mt_written.proofs.StoredLemmas.{base_own, inner_own}
-use Rattle.mt_written.proofs.PartitionLemmas.{OfPartition, begins_as_skip, is_listing, partition_named}
-use Rattle.mt_written.proofs.ProjectionLemmas.{ProjectionRules, below_slash, below_stem, files_stem}
+use Rattle.mt_written.proofs.PartitionLemmas.{begins_as_skip, is_listing}
+use Rattle.mt_written.proofs.ProjectionLemmas.{below_slash, below_stem, files_stem}
 use Rattle.mt_written.proofs.FolderLemmas.{TableRules, absent, all_files, data_of, index_files, index_label, listing_label, own_data, own_files, own_listing, partition_label, plain_files, stored_files, stored_slash}
 
 -- no file has the name

@@ -1,10 +1,9 @@
 -- Files of different names, where lists of files are put together.
-use Rattle.std.proofs.Common.{◌≡◌, ◌≢◌, ℕ, zero, suc, ◌+◌, ◌<◌, Bool, true, false, List, [], ◌∷◌, ◌++◌, length, map, get_or, refl, ap, sym, ◌∙◌, arith}
+use Rattle.std.proofs.Common.{◌≡◌, ◌≢◌, ℕ, ◌+◌, true, false, List, [], ◌∷◌, ◌++◌, map, get_or, ap, sym, ◌∙◌}
 use Rattle.std.specs.Prelude.{All}
 use Rattle.std.specs.List.{flat_map, enumerate_from}
 use Rattle.std.proofs.lemmas.List.Elements.{All-nil, All-cons, All-head, All-tail, All-weaker}
 use Rattle.mt_shelf.specs.declared.file.FileBytes.{FileBytes}
-use Rattle.mt_defs.specs.Folder.{is_name}
 use Rattle.mt_build.proofs.LookupLemmas.{Apart, AreApart, other_name}
 use Rattle.mt_written.proofs.ListLemmas.{All-to_flat_map, All-mapped, All-of_map}
 

@@ -1,13 +1,13 @@
 -- A folder that has the writer's Compact files of some rows has the rows' columns.
-use Rattle.std.proofs.Common.{◌≡◌, ℕ, ◌<◌, ◌^◌, List, [], ◌∷◌, ◌++◌, length, map, refl, ap, sym, ◌∙◌, subst, lit<}
-use Rattle.std.specs.Prelude.{All, Some}
+use Rattle.std.proofs.Common.{◌≡◌, ℕ, ◌<◌, ◌^◌, List, [], ◌∷◌, ◌++◌, length, map, refl, ap, ◌∙◌, subst, lit<}
+use Rattle.std.specs.Prelude.{All}
 use Rattle.std.specs.List.{concat, enumerate_from}
 use Rattle.std.proofs.lemmas.List.{map-append}
 use Rattle.std.proofs.lemmas.List.Folds.{concat-append}
 use Rattle.std.proofs.lemmas.List.Elements.{All-nil, All-append, All-head, All-tail, All-weaker}
 use Rattle.std.proofs.lemmas.Simd.{map-map}
 use Rattle.mt_table.specs.declared.column.Column.{Column}
-use Rattle.mt_defs.specs.Lists.{AreBytes, Pointwise}
+use Rattle.mt_defs.specs.Lists.{AreBytes}
 use Rattle.mt_defs.specs.Folder.{Folder}
 use Rattle.mt_defs.specs.Rows.{Row, column_values}
 use Rattle.mt_defs.specs.Granules.{AreGranules, granule_rows}
@@ -19,7 +19,7 @@ use Rattle.mt_defs.specs.WrittenStreams.{written_streams}
 use Rattle.mt_defs.specs.WrittenFrames.{written_frames, written_marks_bytes}
 use Rattle.mt_defs.specs.WrittenColumns.{compact_files, compact_frames}
 use Rattle.mt_build.proofs.MarkLemmas.{framed_one_by_one, is_marks_file, joined}
-use Rattle.mt_written.proofs.ListLemmas.{All-granules, All-mapped, All-to_flat_map, Pointwise-mapped}
+use Rattle.mt_written.proofs.ListLemmas.{All-mapped, All-to_flat_map, Pointwise-mapped}
 use Rattle.mt_written.proofs.WideLemmas.{HasFile, no_file, ColumnHolds, column_encodes, column_bytes}
 
 -- ---- the payloads of a granule

@@ -1,10 +1,10 @@
 -- The files of a definition's rows have different names.
-use Rattle.std.proofs.Common.{◌≡◌, ◌≢◌, ℕ, Bool, true, false, ◌||◌, List, [], ◌∷◌, ◌++◌, length, map, get_or, refl, ap, sym, ◌∙◌, subst, append_assoc, arith, inl, inr, eqb}
-use Rattle.std.specs.Prelude.{All, IsTrue, codes, if◌then◌else◌}
-use Rattle.std.specs.List.{flat_map, concat, enumerate_from}
+use Rattle.std.proofs.Common.{◌≡◌, ◌≢◌, ℕ, Bool, true, false, ◌||◌, List, [], ◌∷◌, ◌++◌, length, map, get_or, refl, ap, sym, ◌∙◌, append_assoc, arith, inl, inr, eqb}
+use Rattle.std.specs.Prelude.{All, IsTrue, codes}
+use Rattle.std.specs.List.{concat, enumerate_from}
 use Rattle.std.specs.Fmt.{decimal}
 use Rattle.std.proofs.lemmas.List.{append_cancel_left, append_cancel_right}
-use Rattle.std.proofs.lemmas.List.Elements.{All-nil, All-cons, All-append, All-head, All-tail, All-weaker}
+use Rattle.std.proofs.lemmas.List.Elements.{All-head, All-tail, All-weaker}
 use Rattle.mt_types.specs.Profile.{is_profile}
 use Rattle.mt_shelf.specs.declared.file.FileBytes.{FileBytes}
 use Rattle.mt_table.specs.declared.column.Column.{Column}
@@ -25,7 +25,7 @@ use Rattle.mt_build.proofs.LookupLemmas.{AreApart, last_of, last_append, other_n
 use Rattle.mt_written.proofs.ListLemmas.{All-two, All-three, All-to_flat_map, All-both, All-mapped}
 use Rattle.mt_written.proofs.NameLemmas.{is_stem, stem_of, has_slash, stem_before_dot, stem_without_slash, no_slash_appended, file_name_stem, file_name_injective}
 use Rattle.mt_written.proofs.SuffixLemmas.{IsSuffix, are_suffixes, suffixes_differ}
-use Rattle.mt_written.proofs.ApartLemmas.{EachLater, Differ, later_weaker, later_mapped, later_numbered, All-numbered, Across, Unnamed, apart_each, apart_appended, apart_flat, across_labels, Labelled, no}
+use Rattle.mt_written.proofs.ApartLemmas.{EachLater, Differ, later_weaker, later_mapped, later_numbered, All-numbered, Across, Unnamed, apart_appended, apart_flat, across_labels, Labelled, no}
 use Rattle.mt_written.proofs.DefinitionLemmas.{data_files, listing_files, written_layout}
 
 -- ---- names of data and marks files

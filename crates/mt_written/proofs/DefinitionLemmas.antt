@@ -1,9 +1,9 @@
 -- A folder that has the writer's files of a definition's rows holds these rows.
-use Rattle.std.proofs.Common.{◌≡◌, ◌≢◌, ℕ, suc, ◌<◌, ◌≤◌, ◌^◌, Bool, true, false, List, [], ◌∷◌, length, map, get_or, refl, ap, sym, ◌∙◌, subst, arith, lit<, inl, inr}
+use Rattle.std.proofs.Common.{◌≡◌, ℕ, suc, ◌<◌, ◌^◌, Bool, true, false, List, [], ◌∷◌, length, map, refl, ap, sym, ◌∙◌, subst, arith, lit<, inl, inr}
 use Rattle.std.specs.Prelude.{All, IsTrue, Option, Some, None, is_some, if◌then◌else◌}
 use Rattle.std.specs.List.{list_all, range_with_len, enumerate_from}
 use Rattle.std.specs.Fmt.{decimal}
-use Rattle.std.proofs.lemmas.List.Elements.{All-head, All-tail, All-weaker}
+use Rattle.std.proofs.lemmas.List.Elements.{All-head, All-tail}
 use Rattle.std.proofs.lemmas.List.Sorted.{IsPermutation-refl}
 use Rattle.mt_types.specs.declared.value.Value.TheVariants.{Null}
 use Rattle.mt_types.specs.Fits.{fits_of}
@@ -19,12 +19,11 @@ use Rattle.mt_defs.specs.Rows.{Row, RowFits, ArePartRows, cell, key_of}
 use Rattle.mt_defs.specs.Granules.{AreGranules, granule_rows}
 use Rattle.mt_defs.specs.Metadata.{column_at, no_column, columns_name, count_name, columns_text}
 use Rattle.mt_defs.specs.PrimaryIndex.{index_name, primary_index_of}
-use Rattle.mt_defs.specs.Wide.{IsWide}
-use Rattle.mt_defs.specs.Compact.{IsCompact, compact_data_name, compact_marks_name}
+use Rattle.mt_defs.specs.Compact.{compact_marks_name}
 use Rattle.mt_defs.specs.Part.{HasColumns, HoldsRows, is_compact}
 use Rattle.mt_defs.specs.WrittenGranules.{written_granules, is_small}
 use Rattle.mt_defs.specs.WrittenColumns.{file, wide_files, compact_files}
-use Rattle.mt_defs.specs.Writer.{files_with, definition_files}
+use Rattle.mt_defs.specs.Writer.{definition_files}
 use Rattle.mt_build.proofs.LawLemmas.{granules_hold}
 use Rattle.mt_build.proofs.ColumnLemmas.{below_sum}
 use Rattle.mt_written.specs.Texts.{holds_bytes, HoldBytes}

@@ -1,23 +1,21 @@
 -- Names differ in the writer's folder of every table: each file is found by its name.
-use Rattle.std.proofs.Common.{◌≡◌, ◌≢◌, ℕ, ◌+◌, ◌<◌, Bool, true, false, List, [], ◌∷◌, ◌++◌, length, map, get_or, refl, ap, sym, ◌∙◌, subst, inl, inr, eqb}
-use Rattle.std.specs.Prelude.{All, IsTrue, Option, Some, None, codes, if◌then◌else◌}
+use Rattle.std.proofs.Common.{◌≡◌, ◌≢◌, ℕ, Bool, true, false, List, [], ◌∷◌, ◌++◌, get_or, refl, ap, sym, ◌∙◌}
+use Rattle.std.specs.Prelude.{All, IsTrue, Some, None, codes, if◌then◌else◌}
 use Rattle.std.specs.List.{flat_map, enumerate_from}
 use Rattle.std.proofs.lemmas.List.Elements.{All-nil, All-cons, All-append, All-head, All-tail, All-weaker}
 use Rattle.mt_types.specs.Profile.{is_profile}
 use Rattle.mt_shelf.specs.declared.file.FileBytes.{FileBytes}
 use Rattle.mt_table.specs.declared.column.Column.{Column}
 use Rattle.mt_table.specs.declared.definition.Table.{Table}
-use Rattle.mt_table.specs.declared.definition.PartDef.{PartDef}
 use Rattle.mt_table.specs.declared.skip.Skip.{Skip}
 use Rattle.mt_table.specs.Fields.{fields}
 use Rattle.mt_table.specs.Names.{skip_stem}
-use Rattle.mt_table.specs.Kept.{keeps_columns, keeps_partition, keeps_skips, keeps_projections}
+use Rattle.mt_table.specs.Kept.{keeps_columns, keeps_partition}
 use Rattle.mt_table.proofs.KeptLemmas.{each_of}
-use Rattle.mt_defs.specs.Folder.{Folder, is_name, folder_of}
+use Rattle.mt_defs.specs.Folder.{folder_of}
 use Rattle.mt_defs.specs.Rows.{Row}
 use Rattle.mt_defs.specs.FileNames.{file_name}
 use Rattle.mt_defs.specs.Projections.{base_of}
-use Rattle.mt_defs.specs.Sorting.{sorted_by}
 use Rattle.mt_defs.specs.WrittenGranules.{written_granules, is_small}
 use Rattle.mt_defs.specs.WrittenColumns.{wide_column, wide_files, compact_files}
 use Rattle.mt_defs.specs.WrittenPartition.{partition_files}
@@ -28,7 +26,7 @@ use Rattle.mt_written.proofs.ListLemmas.{All-to_flat_map}
 use Rattle.mt_written.proofs.NameLemmas.{stem_of, has_slash, file_name_injective}
 use Rattle.mt_written.proofs.ApartLemmas.{Across, Unnamed, Labelled, across_flat, across_labels, apart_appended, no, All-numbered}
 use Rattle.mt_written.proofs.DefinitionLemmas.{data_files, listing_files}
-use Rattle.mt_written.proofs.DataNames.{AreOwn, IsData, OfStem, column_named, data_are, data_end, definition_apart, ends_as_data, labels_of, listing_ends, of_compact, of_listing}
+use Rattle.mt_written.proofs.DataNames.{IsData, column_named, data_are, data_end, definition_apart, ends_as_data, labels_of, of_compact, of_listing}
 use Rattle.mt_written.proofs.StoredLemmas.{base_own}
 use Rattle.mt_written.proofs.PartitionLemmas.{OfPartition, begins_as_skip, is_listing, partition_apart, partition_named}
 use Rattle.mt_written.proofs.SkipLemmas.{IndexRules, OfIndex, index_rules, index_stem, skip_labels, skip_named, skips_apart, stem_of_column}

@@ -1,6 +1,6 @@
 -- Nothing else is in the writer's folder: each of its names may stand below a part.
-use Rattle.std.proofs.Common.{◌≡◌, ◌≢◌, ℕ, suc, ◌+◌, ◌<◌, Bool, true, false, List, [], ◌∷◌, ◌++◌, length, map, take, get_or, refl, ap, sym, ◌∙◌, subst, arith, inl, inr}
-use Rattle.std.specs.Prelude.{All, IsTrue, Contains, IsSome, codes, ◌==◌, if◌then◌else◌}
+use Rattle.std.proofs.Common.{◌≡◌, ℕ, ◌+◌, Bool, true, false, List, [], ◌∷◌, ◌++◌, length, map, take, get_or, refl, ap, sym, ◌∙◌, subst, arith}
+use Rattle.std.specs.Prelude.{All, Contains, IsSome, ◌==◌, if◌then◌else◌}
 use Rattle.std.specs.List.{flat_map, enumerate_from}
 use Rattle.std.proofs.lemmas.List.{map-append, length-map, get_or-map}
 use Rattle.std.proofs.lemmas.List.Elements.{All-nil, All-cons, All-append, All-contains, All-contains_itself, All-weaker, Contains-append_left, Contains-append_right}
@@ -22,14 +22,14 @@ use Rattle.mt_defs.specs.Projections.{base_of, inner_of, projection_prefix}
 use Rattle.mt_defs.specs.Part.{is_compact, marks_ending, side_names, wide_names, column_names, definition_names, partition_names, skip_names, projection_names, known_names}
 use Rattle.mt_defs.specs.SkipIndexes.{skip_data_name, skip_marks_name}
 use Rattle.mt_defs.specs.Wide.{stream_payloads}
-use Rattle.mt_defs.specs.WrittenColumns.{file, stream_files, granule_streams, wide_column, wide_files}
+use Rattle.mt_defs.specs.WrittenColumns.{file, stream_files, granule_streams, wide_column}
 use Rattle.mt_defs.specs.WrittenGranules.{written_granules, is_small}
 use Rattle.mt_defs.specs.WrittenPartition.{minmax_file, partition_files}
 use Rattle.mt_defs.specs.WrittenSkips.{skip_files}
 use Rattle.mt_defs.specs.Writer.{definition_files, file_below, projection_files, projection_rows}
 use Rattle.mt_build.proofs.LookupLemmas.{found_is_listed}
 use Rattle.mt_written.proofs.ListLemmas.{All-mapped, All-of_map, All-to_flat_map}
-use Rattle.mt_written.proofs.DefinitionLemmas.{data_files, listing_files, written_layout}
+use Rattle.mt_written.proofs.DefinitionLemmas.{data_files, written_layout}
 use Rattle.mt_written.proofs.PartitionLemmas.{distinct, distinct_all, key_columns}
 use Rattle.mt_written.proofs.FolderLemmas.{all_files, index_files, own_files, stored_files}
 
@@ -129,7 +129,7 @@ below_known prefix names files known =
 pub record Layouts (table : Table) (rows : List Row) (folder : Folder) : Type 0 where
   pub own : is_compact folder ≡ written_layout table.settings (base_of table) rows
   pub stored :
-    All (λ projection. is_compact (folder_below folder (projection_prefix projection)) ≡ written_layout table.settings (inner_of table projection) (projection_rows table projection rows)) table.projections
+      All (λ projection. is_compact (folder_below folder (projection_prefix projection)) ≡ written_layout table.settings (inner_of table projection) (projection_rows table projection rows)) table.projections
 
 stored_known : (table : Table) (rows : List Row) (folder : Folder) → Layouts table rows folder → Known (flat_map (projection_names table folder) table.projections) (stored_files table rows)
 stored_known table rows folder layouts =

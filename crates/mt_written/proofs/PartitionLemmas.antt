@@ -1,8 +1,8 @@
 -- The partition's files: their names differ, and a folder that has them has the partition.
-use Rattle.std.proofs.Common.{◌≡◌, ◌≢◌, ℕ, suc, ◌+◌, ◌<◌, ◌≤◌, Bool, true, false, not, cond, ◌&&◌, ◌||◌, List, [], ◌∷◌, ◌++◌, length, map, take, get_or, refl, ap, sym, ◌∙◌, subst, arith, lit<, inl, inr, eqb}
-use Rattle.std.specs.Prelude.{All, IsTrue, Option, Some, None, filter, codes, ◌==◌, nat_le, if◌then◌else◌}
+use Rattle.std.proofs.Common.{◌≡◌, ◌≢◌, ℕ, ◌<◌, Bool, true, false, not, cond, ◌||◌, List, [], ◌∷◌, ◌++◌, length, map, take, get_or, refl, ap, sym, ◌∙◌, subst, arith, eqb}
+use Rattle.std.specs.Prelude.{All, None, filter, codes, ◌==◌, nat_le, if◌then◌else◌}
 use Rattle.std.specs.List.{list_all, filter_map, flat_map}
-use Rattle.std.proofs.lemmas.Bool.{cases_Bool, and_parts, eqb-true, eq-eqb}
+use Rattle.std.proofs.lemmas.Bool.{and_parts, eqb-true, eq-eqb}
 use Rattle.std.proofs.lemmas.List.{append_cancel_left, append_cancel_right}
 use Rattle.std.proofs.lemmas.List.Elements.{All-nil, All-cons, All-filter, All-head, All-tail, All-weaker, filter_passes}
 use Rattle.mt_shelf.specs.declared.file.FileBytes.{FileBytes}
@@ -14,15 +14,12 @@ use Rattle.mt_table.specs.ColumnTypes.{is_key_type, is_date_type}
 use Rattle.mt_table.specs.Kept.{keeps_partition, keeps_expression, plain_place, month_place}
 use Rattle.mt_table.specs.Names.{places_differ}
 use Rattle.mt_table.specs.declared.limits.TheConstants.{MAX_PARTITION}
-use Rattle.mt_types.specs.declared.value.Value.{Value}
-use Rattle.mt_types.specs.Items.{item_bytes}
 use Rattle.mt_defs.specs.Lists.{distinct_by}
 use Rattle.mt_defs.specs.Folder.{Folder}
 use Rattle.mt_defs.specs.Rows.{Row, cell, column_values}
 use Rattle.mt_defs.specs.FileNames.{file_name}
 use Rattle.mt_defs.specs.Metadata.{column_at}
 use Rattle.mt_defs.specs.Partition.{HasPartition, HasMinmax, IsMinmaxOf, partition_bytes, partition_name, minmax_name, expression_column}
-use Rattle.mt_defs.specs.SkipIndexes.{Summarizes}
 use Rattle.mt_defs.specs.WrittenColumns.{file}
 use Rattle.mt_defs.specs.WrittenPartition.{minmax_bytes, minmax_file, partition_files}
 use Rattle.mt_skip.proofs.LawLemmas.{written_agree}
@@ -30,10 +27,10 @@ use Rattle.mt_table.specs.declared.skip.SkipKind.TheVariants.{Minmax}
 use Rattle.mt_build.proofs.LookupLemmas.{AreApart, last_of, last_append}
 use Rattle.mt_written.proofs.ListLemmas.{All-mapped, All-of_map}
 use Rattle.mt_written.proofs.NameLemmas.{has_slash, no_slash_appended, stem_without_slash, file_name_stem, file_name_injective}
-use Rattle.mt_written.proofs.ApartLemmas.{EachLater, Differ, later_weaker, later_mapped, apart_each, Labelled}
-use Rattle.mt_written.proofs.DataNames.{AreOwn, ends_as_data}
+use Rattle.mt_written.proofs.ApartLemmas.{EachLater, Differ, later_mapped, apart_each}
+use Rattle.mt_written.proofs.DataNames.{ends_as_data}
 use Rattle.mt_written.proofs.RuleLemmas.{place_of, each_passes, names_at, later_kept}
-use Rattle.mt_written.proofs.WideLemmas.{HasFile, no_file}
+use Rattle.mt_written.proofs.WideLemmas.{HasFile}
 
 -- ---- columns of the key, each once
 

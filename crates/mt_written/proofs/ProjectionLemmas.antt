@@ -1,11 +1,11 @@
 -- The files of projections: their names differ, and their rows' texts are bytes.
-use Rattle.std.proofs.Common.{◌≡◌, ◌≢◌, ℕ, ◌<◌, Bool, true, false, not, List, [], ◌∷◌, ◌++◌, length, map, get_or, refl, ap, sym, ◌∙◌, subst, append_assoc, ◌&&◌, eqb}
+use Rattle.std.proofs.Common.{◌≡◌, ◌≢◌, ℕ, Bool, true, false, not, List, [], ◌∷◌, ◌++◌, map, get_or, refl, ap, sym, ◌∙◌, append_assoc}
 use Rattle.std.specs.Prelude.{All, IsTrue, filter, codes}
 use Rattle.std.specs.List.{list_all, flat_map}
 use Rattle.std.proofs.lemmas.Bool.{and_parts, and_from}
 use Rattle.std.proofs.lemmas.List.{append_cancel_left}
 use Rattle.std.proofs.lemmas.List.Folds.{list_all-append}
-use Rattle.std.proofs.lemmas.List.Elements.{All-nil, All-cons, All-filter, All-head, All-tail, All-weaker}
+use Rattle.std.proofs.lemmas.List.Elements.{All-cons, All-filter, All-head, All-tail, All-weaker}
 use Rattle.mt_types.specs.declared.value.Value.{Value}
 use Rattle.mt_types.specs.declared.value.AggState.{AggState}
 use Rattle.mt_types.specs.declared.value.Value.TheOpen.{Value-F}
@@ -27,7 +27,7 @@ use Rattle.mt_defs.specs.Folds.{fold_of}
 use Rattle.mt_defs.specs.Projections.{inner_of, stored_columns, projection_name, projection_prefix, is_same_key, with_key}
 use Rattle.mt_defs.specs.Writer.{definition_files, file_below, folded_row, projection_files, projection_rows}
 use Rattle.mt_defs.proofs.Sorted.{All-sorted_rows}
-use Rattle.mt_build.proofs.LookupLemmas.{Apart, AreApart, name_is, same_name, other_name}
+use Rattle.mt_build.proofs.LookupLemmas.{Apart, AreApart, same_name, other_name}
 use Rattle.mt_written.specs.Texts.{holds_bytes, HoldBytes}
 use Rattle.mt_written.proofs.ByteLemmas.{holds_at}
 use Rattle.mt_written.proofs.ListLemmas.{All-mapped, list_all-mapped}
@@ -135,9 +135,9 @@ below_one : (prefix : List ℕ) (file : FileBytes) (files : List FileBytes) → 
 below_one prefix file [] apart = tt
 below_one prefix file (other ∷ files) apart = (
   other_name (prefix ++ file.name) (prefix ++ other.name) (λ same.
-  (let yes : is_same_name file.name other.name ≡ true = same_name file.name other.name (append_cancel_left prefix file.name other.name same) in
-  let bad : true ≡ false = sym yes ∙ apart.0 in
-  cc)),
+      (let yes : is_same_name file.name other.name ≡ true = same_name file.name other.name (append_cancel_left prefix file.name other.name same) in
+      let bad : true ≡ false = sym yes ∙ apart.0 in
+      cc)),
   below_one prefix file files apart.1,
 )
 

@@ -1,7 +1,7 @@
 -- What the rules of a table say of its names, columns and keys.
-use Rattle.std.proofs.Common.{◌≡◌, ◌≢◌, ℕ, zero, suc, ◌+◌, ◌<◌, ◌≤◌, Bool, true, false, not, cond, ◌&&◌, ◌||◌, List, [], ◌∷◌, ◌++◌, length, map, get_or, refl, ap, sym, ◌∙◌, subst, arith, eqb}
-use Rattle.std.specs.Prelude.{All, IsTrue, Option, Some, None, nat_eq, filter, codes}
-use Rattle.std.specs.List.{list_all, list_any, range_with_len, filter_map}
+use Rattle.std.proofs.Common.{◌≡◌, ◌≢◌, ℕ, zero, suc, ◌+◌, ◌<◌, ◌≤◌, Bool, true, false, not, cond, ◌||◌, List, [], ◌∷◌, ◌++◌, length, map, get_or, refl, ap, sym, ◌∙◌, arith}
+use Rattle.std.specs.Prelude.{All, nat_eq, filter}
+use Rattle.std.specs.List.{list_all, list_any, range_with_len}
 use Rattle.std.specs.Str.{bytes_eq}
 use Rattle.std.specs.Char.{is_ascii_digit}
 use Rattle.std.proofs.lemmas.Bool.{and_parts, and_from, eq-eqb}
@@ -11,12 +11,10 @@ use Rattle.mt_types.specs.declared.ty.Ty.{Ty}
 use Rattle.mt_tokens.specs.Bytes.{is_word_start, is_word_byte as is_name_byte}
 use Rattle.mt_tokens.specs.Words.{is_name, is_word_text}
 use Rattle.mt_table.specs.declared.column.Column.{Column}
-use Rattle.mt_table.specs.ColumnTypes.{column_has, place_has}
+use Rattle.mt_table.specs.ColumnTypes.{place_has}
 use Rattle.mt_table.specs.Names.{are_different}
 use Rattle.mt_defs.specs.Metadata.{column_at, no_column}
-use Rattle.mt_written.proofs.ListLemmas.{All-mapped}
 use Rattle.mt_written.proofs.ApartLemmas.{EachLater, Differ, later_mapped}
-use Rattle.mt_written.proofs.NameLemmas.{is_stem, is_stem_byte}
 
 -- ---- lists without repetition
 

@@ -1,7 +1,7 @@
 -- The files of skip indexes: their names differ, and a folder that has them has the indexes.
-use Rattle.std.proofs.Common.{◌≡◌, ◌≢◌, ℕ, zero, suc, ◌+◌, ◌<◌, ◌≤◌, ◌^◌, Bool, true, false, not, cond, ◌&&◌, ◌||◌, List, [], ◌∷◌, ◌++◌, length, map, take, drop, get_or, refl, ap, sym, ◌∙◌, subst, append_assoc, arith, lit<, inl, inr, eqb}
+use Rattle.std.proofs.Common.{◌≡◌, ◌≢◌, ℕ, zero, suc, ◌+◌, ◌<◌, ◌≤◌, Bool, true, false, not, List, [], ◌∷◌, ◌++◌, length, map, take, drop, get_or, refl, ap, sym, ◌∙◌, subst, arith, lit<}
 use Rattle.std.specs.Prelude.{All, IsTrue, Some, filter, codes, nat_le, if◌then◌else◌}
-use Rattle.std.specs.List.{list_all, list_any, flat_map, concat}
+use Rattle.std.specs.List.{list_all, flat_map, concat}
 use Rattle.std.specs.List.Sorted.{IsNonDecreasingBy}
 use Rattle.std.specs.Int.{w64}
 use Rattle.std.specs.Str.{bytes_eq}
@@ -20,16 +20,14 @@ use Rattle.mt_table.specs.declared.definition.Table.{Table}
 use Rattle.mt_table.specs.declared.skip.Skip.{Skip}
 use Rattle.mt_table.specs.declared.skip.SkipKind.{SkipKind}
 use Rattle.mt_table.specs.declared.skip.SkipKind.TheVariants.{Minmax, Set}
-use Rattle.mt_table.specs.ColumnTypes.{is_key_type, place_has}
 use Rattle.mt_table.specs.Names.{are_apart, is_among, names_differ, skip_stem}
 use Rattle.mt_table.specs.Kept.{keeps_skip, keeps_skips, names_of, skip_names}
 use Rattle.mt_tokens.specs.Words.{is_name}
-use Rattle.mt_defs.specs.declared.mark.Mark.{Mark}
-use Rattle.mt_defs.specs.Frames.{Block, IsBlock, IsFileOf, IsFramed, block_bytes, file_of}
+use Rattle.mt_defs.specs.Frames.{Block, IsBlock, IsFileOf, block_bytes, file_of}
 use Rattle.mt_defs.specs.Lists.{AreBytes, Pointwise, distinct_by, offsets_from}
 use Rattle.mt_defs.specs.Folder.{Folder}
 use Rattle.mt_defs.specs.Rows.{Row, cell, column_values}
-use Rattle.mt_defs.specs.Granules.{AreGranules, granule_rows}
+use Rattle.mt_defs.specs.Granules.{granule_rows}
 use Rattle.mt_defs.specs.FileNames.{file_name, escaped_byte}
 use Rattle.mt_defs.specs.Marks.{MarksPosition, u64_bytes}
 use Rattle.mt_defs.specs.Metadata.{column_at}
@@ -48,7 +46,7 @@ use Rattle.mt_written.proofs.ByteLemmas.{item_is_bytes, number_bytes}
 use Rattle.mt_written.proofs.ListLemmas.{All-two, All-mapped, All-of_map, All-to_flat_map, All-granules}
 use Rattle.mt_written.proofs.WideLemmas.{HasFile, no_file, cell_holds}
 use Rattle.mt_written.proofs.NameLemmas.{is_stem, stem_of, has_slash, stem_before_dot, stem_without_slash, no_slash_appended, stems_appended, file_name_stem, file_name_injective}
-use Rattle.mt_written.proofs.ApartLemmas.{EachLater, Differ, later_unmapped, later_weaker, Across, apart_each, apart_flat, across_labels, Labelled}
+use Rattle.mt_written.proofs.ApartLemmas.{EachLater, later_unmapped, later_weaker, Across, apart_flat, across_labels, Labelled}
 use Rattle.mt_written.proofs.PartitionLemmas.{begins_as_skip}
 use Rattle.mt_written.proofs.RuleLemmas.{not_true, names_are_different, none_pass, each_passes}
 

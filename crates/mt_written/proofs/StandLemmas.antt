@@ -1,9 +1,7 @@
 -- The writer's folder of writable rows stands for these rows.
 use Rattle.std.proofs.Common.{◌≡◌, ◌≢◌, ℕ, suc, ◌<◌, ◌≤◌, List, [], ◌∷◌, ◌++◌, length, get_or, refl, sym, subst, arith}
 use Rattle.std.specs.Prelude.{All, AllPairs}
-use Rattle.std.specs.List.{flat_map}
 use Rattle.std.proofs.lemmas.List.Elements.{All-weaker}
-use Rattle.mt_types.specs.Profile.{is_profile}
 use Rattle.mt_shelf.specs.declared.file.FileBytes.{FileBytes}
 use Rattle.mt_table.specs.declared.column.Column.{Column}
 use Rattle.mt_table.specs.declared.definition.Table.{Table}
@@ -17,7 +15,7 @@ use Rattle.mt_defs.specs.Compact.{compact_marks_name}
 use Rattle.mt_defs.specs.Part.{HasProjection, HoldsRows, StandsFor, is_compact, marks_ending}
 use Rattle.mt_defs.specs.Projections.{base_of, inner_of, projection_prefix}
 use Rattle.mt_defs.specs.SkipIndexes.{HasSkipIndex}
-use Rattle.mt_defs.specs.WrittenGranules.{written_granules, is_small}
+use Rattle.mt_defs.specs.WrittenGranules.{written_granules}
 use Rattle.mt_defs.specs.WrittenPartition.{partition_files}
 use Rattle.mt_defs.specs.WrittenSkips.{skip_files}
 use Rattle.mt_defs.specs.Writer.{IsWritable, definition_files, file_below, projection_files, projection_rows, written_folder}

@@ -1,18 +1,17 @@
 -- A table's own definition and those of its projections have columns of different names, of types of the profile.
-use Rattle.std.proofs.Common.{◌≡◌, ◌≢◌, ℕ, zero, suc, ◌+◌, ◌<◌, ◌≤◌, Bool, true, false, not, cond, zero-add, ◌&&◌, ◌||◌, List, [], ◌∷◌, ◌++◌, length, map, get_or, refl, ap, sym, ◌∙◌, subst, arith, inl, inr, ◌⊎◌, eqb}
-use Rattle.std.specs.Prelude.{All, IsTrue, Option, Some, None, nat_eq, nat_le, codes}
+use Rattle.std.proofs.Common.{◌≡◌, ◌≢◌, ℕ, ◌+◌, ◌<◌, ◌≤◌, Bool, true, false, cond, zero-add, ◌||◌, List, [], ◌∷◌, ◌++◌, length, map, get_or, refl, ap, sym, ◌∙◌, arith, inl, inr, ◌⊎◌, eqb}
+use Rattle.std.specs.Prelude.{All, IsTrue, Option, Some, None, nat_le, codes}
 use Rattle.std.specs.List.{list_all, list_any, range_with_len, filter_map, cons_option, count_by}
 use Rattle.std.proofs.lemmas.Bool.{and_parts, leb-true, eq-eqb, ne_eqb}
 use Rattle.std.proofs.lemmas.Option.{same_Some}
 use Rattle.std.proofs.lemmas.List.{append_cancel_left, append_cancel_right}
-use Rattle.std.proofs.lemmas.List.Folds.{list_any-append}
 use Rattle.std.proofs.lemmas.List.Sums.{sum_by-cons}
 use Rattle.std.proofs.lemmas.List.Elements.{All-nil, All-cons, All-append, All-filter, All-head, All-tail, All-weaker}
 use Rattle.mt_types.specs.declared.ty.Agg.{Agg}
 use Rattle.mt_types.specs.declared.ty.Agg.TheVariants.{Sum, Min, Max}
 use Rattle.mt_types.specs.declared.ty.Ty.{Ty, out-Ty}
 use Rattle.mt_types.specs.declared.ty.Ty.TheOpen.{Ty-F}
-use Rattle.mt_types.specs.declared.ty.Ty.TheVariants.{State, CountState}
+use Rattle.mt_types.specs.declared.ty.Ty.TheVariants.{State}
 use Rattle.mt_types.specs.Profile.{Kind, Whole, Day, kind_of, is_profile, is_known, state_kind}
 use Rattle.mt_types.proofs.Levels.{kind_at, kind-State, kind-CountState}
 use Rattle.mt_tokens.specs.Bytes.{is_word_byte as is_name_byte}
@@ -23,15 +22,15 @@ use Rattle.mt_table.specs.declared.projection.Aggregate.{Aggregate}
 use Rattle.mt_table.specs.declared.projection.Aggregate.TheVariants.{Count, Of}
 use Rattle.mt_table.specs.declared.projection.Projection.{Projection}
 use Rattle.mt_table.specs.declared.projection.Projection.TheVariants.{Normal, Grouped}
-use Rattle.mt_table.specs.ColumnTypes.{is_column_type, is_state_type, is_integer_type, is_integer_at, is_number_type, is_number_at, is_key_type, place_has}
-use Rattle.mt_table.specs.Names.{are_different, names_differ, places_differ}
-use Rattle.mt_table.specs.Kept.{is_column, names_of, keeps_columns, keeps_key, keeps_normal, keeps_grouped, keeps_projection, keeps_aggregate, aggregates_differ, is_count, sum_place, min_place, max_place, is_place}
+use Rattle.mt_table.specs.ColumnTypes.{is_column_type, is_integer_type, is_integer_at, is_number_type, is_number_at, is_key_type, place_has}
+use Rattle.mt_table.specs.Names.{names_differ, places_differ}
+use Rattle.mt_table.specs.Kept.{is_column, names_of, keeps_columns, keeps_key, keeps_grouped, keeps_projection, keeps_aggregate, aggregates_differ, is_count, sum_place, min_place, max_place}
 use Rattle.mt_defs.specs.Metadata.{column_at, no_column}
 use Rattle.mt_defs.specs.Projections.{inner_of, stored_columns, state_column, aggregate_word}
 use Rattle.mt_written.proofs.ListLemmas.{All-mapped}
 use Rattle.mt_written.proofs.ApartLemmas.{EachLater, Differ, later_unmapped, later_mapped}
 use Rattle.mt_written.proofs.DataNames.{AreOwn}
-use Rattle.mt_written.proofs.RuleLemmas.{names_are_different, places_are_different, none_pass, HasPlace, place_of, places_of, each_passes, names_at, selected_differ, range_differs, range_below, later_kept, later_appended, name_bytes}
+use Rattle.mt_written.proofs.RuleLemmas.{names_are_different, places_are_different, HasPlace, place_of, places_of, each_passes, names_at, selected_differ, range_differs, range_below, later_kept, later_appended, name_bytes}
 
 -- ---- a table's own columns
 

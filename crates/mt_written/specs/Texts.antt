@@ -1,5 +1,5 @@
 -- Rows whose texts are bytes, as those of each program are.
-use Rattle.std.specs.Prelude.{◌<◌, Bool, true, List, All, IsTrue, nat_lt}
+use Rattle.std.specs.Prelude.{Bool, true, List, All, IsTrue, nat_lt}
 use Rattle.std.specs.List.{list_all}
 use Rattle.mt_types.specs.declared.value.Value.{Value}
 use Rattle.mt_types.specs.declared.value.Value.TheOpen.{Value-F}

@@ -1,4 +1,4 @@
-use Rattle.std.proofs.Common.{sym, ◌∙◌, ap, subst}
+use Rattle.std.proofs.Common.{sym, ◌∙◌, ap}
 use Rattle.std.specs.List.{list_all}
 use Rattle.mt_written.specs.Texts.{holds_bytes}
 use Rattle.mt_written.proofs.TextLemmas.{array_holds}
