@@ -72,7 +72,7 @@ length_bytes n = leb128_bytes n n (omega arith)
 
 -- ---- one level of a value
 
-all_small : (bytes : List ℕ) → list_all (λ byte. nat_lt byte 256) bytes ≡ true → AreBytes bytes
+pub all_small : (bytes : List ℕ) → list_all (λ byte. nat_lt byte 256) bytes ≡ true → AreBytes bytes
 all_small [] e = All-nil IsByte
 all_small (byte ∷ bytes) e =
     let both = and_parts (nat_lt byte 256) (list_all (λ byte. nat_lt byte 256) bytes) e in

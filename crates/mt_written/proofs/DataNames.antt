@@ -94,20 +94,25 @@ stream_marks granules name payloads = file (marks_name name) (written_marks_byte
 of_stream : (P : FileBytes → Type 0) (granules name : List ℕ) (payloads : List (List ℕ)) → P (stream_data name payloads) → P (stream_marks granules name payloads) → All P (stream_files granules name payloads)
 of_stream P granules name payloads one two = All-two P (stream_data name payloads) (stream_marks granules name payloads) one two
 
-stream_named : (stem suffix : List ℕ) (granules : List ℕ) (payloads : List (List ℕ)) → is_stem stem ≡ true → IsSuffix suffix → All (OfStem stem) (stream_files granules (stem ++ suffix) payloads)
-stream_named stem suffix granules payloads is s =
-    of_stream (OfStem stem) granules (stem ++ suffix) payloads (data_named stem suffix is s) (marks_named stem suffix is s)
+-- what holds of the names of a column's two files, whatever the suffix of the stream
+pub of_column : (Q : List ℕ → Type 0) (rows : List Row) (granules : List ℕ) (k : ℕ) (column : Column) → is_profile column.ty ≡ true
+    → ((suffix : List ℕ) → IsSuffix suffix → Q (data_name (file_name column.name ++ suffix)) × Q (marks_name (file_name column.name ++ suffix))) → All (λ f. Q f.name) (wide_column rows granules (k, column))
+of_column Q rows granules k column profile names =
+    let stem : List ℕ = file_name column.name in
+    let payloads : ℕ → List (List ℕ) = λ i. stream_payloads i (granule_streams rows granules k column) in
+    let Named : FileBytes → Type 0 = λ f. Q f.name in
+    let P : List ℕ → Type 0 = λ name. (i : ℕ) → All Named (stream_files granules name (payloads i)) in
+    let each : All P (stream_names column) =
+    All-mapped P (λ suffix. stem ++ suffix) (stream_suffixes column.ty)
+    (All-weaker IsSuffix (λ suffix. P (stem ++ suffix)) (λ suffix s i. of_stream Named granules (stem ++ suffix) (payloads i) (names suffix s).0 (names suffix s).1) (stream_suffixes column.ty) (are_suffixes column.ty profile)) in
+    All-to_flat_map Named (λ (i, name). stream_files granules name (payloads i)) (enumerate_from 0 (stream_names column))
+    (All-weaker (λ p. P p.1) (λ p. All Named (stream_files granules p.1 (payloads p.0))) (λ p here. here p.0) (enumerate_from 0 (stream_names column)) (All-numbered P 0 (stream_names column) each))
 
 pub column_named : (rows : List Row) (granules : List ℕ) (k : ℕ) (column : Column) → is_profile column.ty ≡ true → All (OfStem (file_name column.name)) (wide_column rows granules (k, column))
 column_named rows granules k column profile =
     let stem : List ℕ = file_name column.name in
-    let payloads : ℕ → List (List ℕ) = λ i. stream_payloads i (granule_streams rows granules k column) in
-    let P : List ℕ → Type 0 = λ name. (i : ℕ) → All (OfStem stem) (stream_files granules name (payloads i)) in
-    let each : All P (stream_names column) =
-    All-mapped P (λ suffix. stem ++ suffix) (stream_suffixes column.ty)
-    (All-weaker IsSuffix (λ suffix. P (stem ++ suffix)) (λ suffix s i. stream_named stem suffix granules (payloads i) (file_name_stem column.name) s) (stream_suffixes column.ty) (are_suffixes column.ty profile)) in
-    All-to_flat_map (OfStem stem) (λ (i, name). stream_files granules name (payloads i)) (enumerate_from 0 (stream_names column))
-    (All-weaker (λ p. P p.1) (λ p. All (OfStem stem) (stream_files granules p.1 (payloads p.0))) (λ p here. here p.0) (enumerate_from 0 (stream_names column)) (All-numbered P 0 (stream_names column) each))
+    let is : is_stem stem ≡ true = file_name_stem column.name in
+    of_column (IsColumnName stem) rows granules k column profile (λ suffix s. (data_named stem suffix is s, marks_named stem suffix is s))
 
 -- the two files of a stream, and those of two streams
 data_not_marks : (a b : List ℕ) → data_name a ≢ marks_name b

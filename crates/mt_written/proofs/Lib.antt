@@ -5,6 +5,7 @@ pub mod CompactLemmas
 pub mod DefinitionLemmas
 pub mod NameLemmas
 pub mod ApartLemmas
+pub mod PlainLemmas
 pub mod SuffixLemmas
 pub mod DataNames
 pub mod RuleLemmas
@@ -17,3 +18,4 @@ pub mod AbsentLemmas
 pub mod KnownLemmas
 pub mod StandLemmas
 pub mod TextLemmas
+pub mod PathLemmas

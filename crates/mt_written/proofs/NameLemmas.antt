@@ -73,7 +73,7 @@ digit_by : (n : ℕ) (b : Bool) → nat_lt n 10 ≡ b → 48 ≤ (if b then 48 +
 digit_by n true e = omega arith
 digit_by n false e = omega arith
 
-digit_high : (n : ℕ) → 48 ≤ hex_digit n
+pub digit_high : (n : ℕ) → 48 ≤ hex_digit n
 digit_high n = digit_by n (nat_lt n 10) refl
 
 digit_stem : (n : ℕ) → is_stem_byte (hex_digit n) ≡ true

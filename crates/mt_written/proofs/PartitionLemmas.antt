@@ -79,7 +79,7 @@ expression_within : (columns : List Column) (expression : PartExpr) → keeps_ex
 expression_within columns (Plain i) keeps = (place_of is_key_type columns i keeps).within
 expression_within columns (Month i) keeps = (place_of is_date_type columns i keeps).within
 
-key_within : (table : Table) → keeps_partition table.columns table.partition ≡ true → All (λ i. i < length table.columns) (key_columns table)
+pub key_within : (table : Table) → keeps_partition table.columns table.partition ≡ true → All (λ i. i < length table.columns) (key_columns table)
 key_within table keeps =
     let one = and_parts (nat_le (length table.partition) MAX_PARTITION) _ keeps in
     let two = and_parts (places_differ (filter_map plain_place table.partition)) _ one.1 in
@@ -117,10 +117,10 @@ minmax_named table i =
     }
 
 -- the files where there is a partition key
-abbrev key_files : Table → List Row → List FileBytes
+abbrev pub key_files : Table → List Row → List FileBytes
 key_files table rows = file partition_name (flat_map (partition_bytes table) (take 1 rows)) ∷ map (minmax_file table rows) (distinct (key_columns table))
 
-files_by : (table : Table) (rows : List Row) (P : List FileBytes → Type 0) → P [] → P (key_files table rows) → P (partition_files table rows)
+pub files_by : (table : Table) (rows : List Row) (P : List FileBytes → Type 0) → P [] → P (key_files table rows) → P (partition_files table rows)
 files_by table rows P none some = by (length table.partition == 0)
   where
     by : (b : Bool) → P (if b then [] else key_files table rows)

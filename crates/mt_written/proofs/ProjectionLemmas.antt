@@ -87,7 +87,7 @@ same_names : (projection : Projection) → name_of projection ≡ projection_nam
 same_names (Normal name columns sort) = refl
 same_names (Grouped name keys aggs) = refl
 
-name_kept : (table : Table) (projection : Projection) → keeps_projection table.columns projection ≡ true → is_name (projection_name projection) ≡ true
+pub name_kept : (table : Table) (projection : Projection) → keeps_projection table.columns projection ≡ true → is_name (projection_name projection) ≡ true
 name_kept table (Normal name columns sort) keeps = (and_parts (is_name name) (keeps_normal table.columns columns sort) keeps).0
 name_kept table (Grouped name keys aggs) keeps = (and_parts (is_name name) (keeps_grouped table.columns keys aggs) keeps).0
 

@@ -3,6 +3,7 @@ use Rattle.std.proofs.Common.{◌≡◌, ◌≢◌, ℕ, suc, ◌<◌, ◌≤◌
 use Rattle.std.specs.Prelude.{All, AllPairs}
 use Rattle.std.proofs.lemmas.List.Elements.{All-weaker}
 use Rattle.mt_shelf.specs.declared.file.FileBytes.{FileBytes}
+use Rattle.std.proofs.lemmas.List.Kept.{AllPairs-cons}
 use Rattle.mt_table.specs.declared.column.Column.{Column}
 use Rattle.mt_table.specs.declared.definition.Table.{Table}
 use Rattle.mt_table.specs.declared.definition.PartDef.{PartDef}
@@ -18,7 +19,8 @@ use Rattle.mt_defs.specs.SkipIndexes.{HasSkipIndex}
 use Rattle.mt_defs.specs.WrittenGranules.{written_granules}
 use Rattle.mt_defs.specs.WrittenPartition.{partition_files}
 use Rattle.mt_defs.specs.WrittenSkips.{skip_files}
-use Rattle.mt_defs.specs.Writer.{IsWritable, definition_files, file_below, projection_files, projection_rows, written_folder}
+use Rattle.mt_defs.specs.Writer.{IsWritable, definition_files, file_cmp, file_below, projection_files, projection_rows, written_folder}
+use Rattle.mt_defs.proofs.Sorted.{All-sorted_by}
 use Rattle.mt_proj.proofs.LawLemmas.{written_stand}
 use Rattle.mt_written.specs.Stored.{IsStored}
 use Rattle.mt_written.specs.Texts.{HoldBytes}
@@ -44,6 +46,23 @@ own_of definition stored = record { differ = later definition.columns stored.nam
     later [] pairs = tt
     later (column ∷ columns) pairs =
         (λ k d inside. pairs 0 (suc k) d (omega arith) (omega (arith, inside)), later columns (λ i j d low inside. pairs (suc i) (suc j) d (omega (arith, low)) (omega (arith, inside))))
+
+stored_of : (definition : PartDef) → AreOwn definition.columns → IsStored definition
+stored_of definition own = record { names = pairs definition.columns own.differ; types = own.types }
+  where
+    pairs : (columns : List Column) → EachLater (λ a b. a.name ≢ b.name) columns → AllPairs (λ a b. a.name ≢ b.name) columns
+    pairs [] each = λ i j d low inside. absurd (omega (arith, inside))
+    pairs (column ∷ columns) each = AllPairs-cons (λ a b. a.name ≢ b.name) column columns each.0 (pairs columns each.1)
+
+-- the definitions of a table
+pub base_stored : (table : Table) → IsStored (base_of table)
+base_stored table = stored_of (base_of table) (base_own table.columns (rules_of table).columns)
+
+pub inner_stored : (table : Table) → All (λ projection. IsStored (inner_of table projection)) table.projections
+inner_stored table k d inside =
+    let rules = rules_of table in
+    let projection : Projection = get_or table.projections k d in
+    stored_of (inner_of table projection) (inner_own table projection rules.columns (rules.projections.each k d inside))
 
 -- the writer's files of a definition's rows hold these rows
 pub definition_holds : (settings : Settings) (definition : PartDef) (rows : List Row) → IsStored definition → ArePartRows definition rows → HoldBytes rows
@@ -132,6 +151,13 @@ module _ (table : Table) (rows : List Row) (writable : IsWritable table rows) (b
     projections = has_projection;
     known = names_known table rows folder refl layouts;
   }
+
+-- each file of the writer's folder is found by its name
+pub written_found : (table : Table) (rows : List Row) → All (HasFile (folder_of (written_folder table rows))) (written_folder table rows)
+written_found table rows =
+    let rules = rules_of table in
+    let files = all_files table rows in
+    subst (λ folder. All (HasFile folder) (written_folder table rows)) (sym (folder_is table rows rules)) (All-sorted_by file_cmp (HasFile (folder_of files)) files (all_found files (folder_apart table rows rules)))
 
 -- the writer's folder stands for the rows
 pub written_stands : (table : Table) (rows : List Row) → IsWritable table rows → HoldBytes rows → StandsFor table (folder_of (written_folder table rows)) rows

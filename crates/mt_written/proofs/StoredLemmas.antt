@@ -37,7 +37,7 @@ use Rattle.mt_written.proofs.RuleLemmas.{names_are_different, places_are_differe
 abbrev Apart : Column → Column → Type 0
 Apart a b = a.name ≢ b.name
 
-abbrev IsKnown : Column → Type 0
+abbrev pub IsKnown : Column → Type 0
 IsKnown column = IsTrue (is_profile column.ty)
 
 pub base_own : (columns : List Column) → keeps_columns columns ≡ true → AreOwn columns
@@ -62,11 +62,16 @@ selected_own columns places own within differ = record {
   types = All-mapped IsKnown (column_at columns) places (λ k d inside. own.types (get_or places k d) no_column (within k d inside));
 }
 
+pub stored_within : (table : Table) (selected : List ℕ) → All (λ i. i < length table.columns) (stored_columns table selected)
+stored_within table selected =
+    let count = length table.columns in
+    All-filter (λ i. list_any (λ j. eqb j i) selected) (λ i. i < count) (range_with_len 0 count) (range_below 0 count count (omega arith))
+
 normal_own : (table : Table) (selected : List ℕ) → AreOwn table.columns → AreOwn (map (column_at table.columns) (stored_columns table selected))
 normal_own table selected own =
     let count = length table.columns in
     let test : ℕ → Bool = λ i. list_any (λ j. eqb j i) selected in
-    selected_own table.columns (stored_columns table selected) own (All-filter test (λ i. i < count) (range_with_len 0 count) (range_below 0 count count (omega arith)))
+    selected_own table.columns (stored_columns table selected) own (stored_within table selected)
     (later_kept test (λ i j. i ≢ j) (range_with_len 0 count) (range_differs 0 count))
 
 -- ---- states
@@ -116,11 +121,11 @@ state_type table (Of Max i) keeps =
     either_known Max ty refl refl (number_level ty (out-Ty ty) refl place.passes)
 
 -- the column of an aggregate is there
-abbrev IsOver : List Column → Aggregate → Type 0
+abbrev pub IsOver : List Column → Aggregate → Type 0
 IsOver columns Count = Unit {0}
 IsOver columns (Of agg i) = i < length columns
 
-is_over : (columns : List Column) (aggregate : Aggregate) → keeps_aggregate columns aggregate ≡ true → IsOver columns aggregate
+pub is_over : (columns : List Column) (aggregate : Aggregate) → keeps_aggregate columns aggregate ≡ true → IsOver columns aggregate
 is_over columns Count keeps = tt
 is_over columns (Of Sum i) keeps = (place_of is_integer_type columns i keeps).within
 is_over columns (Of Min i) keeps = (place_of is_number_type columns i keeps).within
@@ -248,26 +253,40 @@ key_state_apart table k a word same =
     let bad : false ≡ true = sym (word_bracket (column_at table.columns k).name (name_bytes (column_at table.columns k).name word)) ∙ ap has_bracket same ∙ state_bracket table a in
     cc
 
+-- what the rules say of the keys and aggregates of a projection
+pub record GroupRules (columns : List Column) (keys : List ℕ) (aggs : List Aggregate) : Type 0 where
+  pub within : All (λ i. i < length columns) keys
+  pub keys_differ : Differ keys
+  pub each : All (λ a. keeps_aggregate columns a ≡ true) aggs
+  pub aggs_differ : Differ aggs
+
+pub grouped_rules : (columns : List Column) (keys : List ℕ) (aggs : List Aggregate) → keeps_grouped columns keys aggs ≡ true → GroupRules columns keys aggs
+grouped_rules columns keys aggs keeps =
+    let one = and_parts (keeps_key columns keys) _ keeps in
+    let key = and_parts (places_differ keys) (list_all (place_has is_key_type columns) keys) (and_parts _ _ one.0).1 in
+    let rules = and_parts (aggregates_differ aggs) (list_all (keeps_aggregate columns) aggs) (and_parts _ _ one.1).1 in
+    record {
+      within = All-weaker (HasPlace is_key_type columns) (λ i. i < length columns) (λ i place. place.within) keys (places_of is_key_type columns keys key.1);
+      keys_differ = places_are_different keys key.0;
+      each = each_passes (keeps_aggregate columns) aggs rules.1;
+      aggs_differ = aggregates_apart aggs (once_of aggs rules.0);
+    }
+
 grouped_own : (table : Table) (keys : List ℕ) (aggs : List Aggregate) → keeps_columns table.columns ≡ true → keeps_grouped table.columns keys aggs ≡ true
     → AreOwn (map (column_at table.columns) keys ++ map (state_column table) aggs)
 grouped_own table keys aggs columns keeps =
     let own = base_own table.columns columns in
-    let one = and_parts (keeps_key table.columns keys) _ keeps in
-    let key = and_parts (places_differ keys) (list_all (place_has is_key_type table.columns) keys) (and_parts _ _ one.0).1 in
-    let rules = and_parts (aggregates_differ aggs) (list_all (keeps_aggregate table.columns) aggs) (and_parts _ _ one.1).1 in
-    let each = each_passes (keeps_aggregate table.columns) aggs rules.1 in
+    let rules = grouped_rules table.columns keys aggs keeps in
     let Keeps : Aggregate → Type 0 = λ a. keeps_aggregate table.columns a ≡ true in
-    let places : All (HasPlace is_key_type table.columns) keys = places_of is_key_type table.columns keys key.1 in
-    let within : All (λ i. i < length table.columns) keys = All-weaker (HasPlace is_key_type table.columns) (λ i. i < length table.columns) (λ i place. place.within) keys places in
     let words = names_are_words table.columns columns in
-    let chosen = selected_own table.columns keys own within (places_are_different keys key.0) in
+    let chosen = selected_own table.columns keys own rules.within rules.keys_differ in
     record {
       differ =
           later_appended Apart (map (column_at table.columns) keys) (map (state_column table) aggs) chosen.differ
-          (later_mapped Apart (state_column table) aggs (all_states_apart table aggs own.differ (All-weaker Keeps (IsOver table.columns) (is_over table.columns) aggs each) (aggregates_apart aggs (once_of aggs rules.0))))
+          (later_mapped Apart (state_column table) aggs (all_states_apart table aggs own.differ (All-weaker Keeps (IsOver table.columns) (is_over table.columns) aggs rules.each) rules.aggs_differ))
           (All-mapped (λ column. All (Apart column) (map (state_column table) aggs)) (column_at table.columns) keys (λ k d inside.
-          All-mapped (Apart (column_at table.columns (get_or keys k d))) (state_column table) aggs (λ j e within_aggs. key_state_apart table (get_or keys k d) (get_or aggs j e) (words (get_or keys k d) no_column (within k d inside)))));
-      types = All-append IsKnown (map (column_at table.columns) keys) (map (state_column table) aggs) chosen.types (All-mapped IsKnown (state_column table) aggs (All-weaker Keeps (λ a. IsKnown (state_column table a)) (state_type table) aggs each));
+          All-mapped (Apart (column_at table.columns (get_or keys k d))) (state_column table) aggs (λ j e within_aggs. key_state_apart table (get_or keys k d) (get_or aggs j e) (words (get_or keys k d) no_column (rules.within k d inside)))));
+      types = All-append IsKnown (map (column_at table.columns) keys) (map (state_column table) aggs) chosen.types (All-mapped IsKnown (state_column table) aggs (All-weaker Keeps (λ a. IsKnown (state_column table a)) (state_type table) aggs rules.each));
     }
 
 -- ---- each projection

@@ -7,5 +7,8 @@
 mod law;
 mod rows;
 
-pub use law::{written_definition_holds_rows, written_folder_stands};
+pub use law::{
+    definitions_are_stored, written_definition_holds_rows, written_files_are_found,
+    written_folder_stands, written_names_are_paths,
+};
 pub use rows::{know_rows, rows_stand};
