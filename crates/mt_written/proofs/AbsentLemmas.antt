@@ -22,7 +22,7 @@ use Rattle.mt_defs.specs.Writer.{definition_files, file_below, projection_files,
 use Rattle.mt_build.proofs.LookupLemmas.{last_of}
 use Rattle.mt_written.proofs.ListLemmas.{All-to_flat_map, All-mapped}
 use Rattle.mt_written.proofs.NameLemmas.{is_stem, stem_of, has_slash}
-use Rattle.mt_written.proofs.ApartLemmas.{EachLater, Labelled, no}
+use Rattle.mt_written.proofs.ApartLemmas.{EachLater, Labelled, no, yes}
 use Rattle.mt_written.proofs.DefinitionLemmas.{data_files, listing_files, written_layout}
 use Rattle.mt_written.proofs.DataNames.{data_end, each_column, ends_as_data, listing_ends}
 use Rattle.mt_written.proofs.StoredLemmas.{base_own, inner_own}
@@ -36,9 +36,6 @@ Absent name = All (λ file. file.name ≢ name)
 
 absent_label : {L : Type 0} (label : List ℕ → L) (value : L) (name : List ℕ) (files : List FileBytes) → label name ≢ value → Labelled label value files → Absent name files
 absent_label label value name files other labelled = All-weaker (λ f. label f.name ≡ value) (λ f. f.name ≢ name) (λ f is same. other (sym (ap label same) ∙ is)) files labelled
-
-yes : true ≢ false
-yes e = cc
 
 -- ---- the marks of a Compact part, in a Wide one
 

@@ -89,3 +89,6 @@ across_labels label a b some others differ one two =
 
 pub no : false ≢ true
 no e = cc
+
+pub yes : true ≢ false
+yes e = cc

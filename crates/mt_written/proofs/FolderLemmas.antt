@@ -24,12 +24,12 @@ use Rattle.mt_defs.specs.Writer.{definition_files, projection_files, written_fol
 use Rattle.mt_build.proofs.LookupLemmas.{Apart, AreApart, found_here, found_later, other_name, sorted_folder}
 use Rattle.mt_written.proofs.ListLemmas.{All-to_flat_map}
 use Rattle.mt_written.proofs.NameLemmas.{stem_of, has_slash, file_name_injective}
-use Rattle.mt_written.proofs.ApartLemmas.{Across, Unnamed, Labelled, across_flat, across_labels, apart_appended, no, All-numbered}
+use Rattle.mt_written.proofs.ApartLemmas.{Across, Unnamed, Labelled, across_flat, across_labels, apart_appended, no, yes, All-numbered}
 use Rattle.mt_written.proofs.DefinitionLemmas.{data_files, listing_files}
 use Rattle.mt_written.proofs.DataNames.{IsData, column_named, data_are, data_end, definition_apart, ends_as_data, labels_of, of_compact, of_listing}
 use Rattle.mt_written.proofs.StoredLemmas.{base_own}
 use Rattle.mt_written.proofs.PartitionLemmas.{OfPartition, begins_as_skip, is_listing, partition_apart, partition_named}
-use Rattle.mt_written.proofs.SkipLemmas.{IndexRules, OfIndex, index_rules, index_stem, skip_labels, skip_named, skips_apart, stem_of_column}
+use Rattle.mt_written.proofs.SkipNames.{IndexRules, OfIndex, index_rules, index_stem, skip_labels, skip_named, skips_apart, stem_of_column}
 use Rattle.mt_written.proofs.ProjectionLemmas.{ProjectionRules, files_slash, projection_rules, projections_apart}
 use Rattle.mt_written.proofs.WideLemmas.{HasFile}
 
@@ -93,9 +93,6 @@ own_partition table rows rules =
     All-append (λ f. Unnamed f.name (partition_files table rows)) (own_listing table rows) (own_data table rows)
     (across_labels is_listing true false (own_listing table rows) (partition_files table rows) yes (listing_label is_listing true table rows refl refl refl) (partition_label is_listing false table rows (λ f is. is.listing)))
     (across_labels ends_as_data true false (own_data table rows) (partition_files table rows) yes (data_end (own_data table rows) (data_of table rows rules)) (partition_label ends_as_data false table rows (λ f is. is.ends)))
-  where
-    yes : true ≢ false
-    yes e = cc
 
 -- no column is named as an index's files
 column_index : (table : Table) (rows : List Row) (granules : List ℕ) (k : ℕ) (column : Column) (skip : Skip) → is_profile column.ty ≡ true → column.name ≢ skip_stem skip.name

@@ -28,9 +28,9 @@ use Rattle.mt_defs.specs.WrittenPartition.{minmax_file, partition_files}
 use Rattle.mt_defs.specs.WrittenSkips.{skip_files}
 use Rattle.mt_defs.specs.Writer.{definition_files, file_below, projection_files, projection_rows}
 use Rattle.mt_build.proofs.LookupLemmas.{found_is_listed}
-use Rattle.mt_written.proofs.ListLemmas.{All-mapped, All-of_map, All-to_flat_map}
+use Rattle.mt_written.proofs.ListLemmas.{All-distinct, All-mapped, All-of_map, All-to_flat_map}
 use Rattle.mt_written.proofs.DefinitionLemmas.{data_files, written_layout}
-use Rattle.mt_written.proofs.PartitionLemmas.{distinct, distinct_all, key_columns}
+use Rattle.mt_written.proofs.PartitionLemmas.{distinct, is_same, key_columns}
 use Rattle.mt_written.proofs.FolderLemmas.{all_files, index_files, own_files, stored_files}
 
 -- each file's name is one of these
@@ -108,7 +108,7 @@ partition_by table rows first false is =
     (All-weaker (λ e. Contains names (minmax_name table (expression_column e))) (λ e. Contains (partition_name ∷ names) (minmax_name table (expression_column e))) (λ e among. later (minmax_name table (expression_column e)) among) table.partition
     (All-of_map (Contains names) (λ expression. minmax_name table (expression_column expression)) table.partition (All-contains_itself names))) in
     All-cons (λ f. Contains (partition_name ∷ names) f.name) first (map (minmax_file table rows) (distinct (key_columns table))) (0, omega arith, sym is)
-    (All-mapped (λ f. Contains (partition_name ∷ names) f.name) (minmax_file table rows) (distinct (key_columns table)) (distinct_all (λ i. Contains (partition_name ∷ names) (minmax_name table i)) (key_columns table) each))
+    (All-mapped (λ f. Contains (partition_name ∷ names) f.name) (minmax_file table rows) (distinct (key_columns table)) (All-distinct (λ i. Contains (partition_name ∷ names) (minmax_name table i)) is_same (key_columns table) each))
 
 partition_known : (table : Table) (rows : List Row) → Known (partition_names table) (partition_files table rows)
 partition_known table rows = partition_by table rows (file partition_name (flat_map (partition_bytes table) (take 1 rows))) (length table.partition == 0) refl

@@ -9,8 +9,10 @@ pub mod PlainLemmas
 pub mod SuffixLemmas
 pub mod DataNames
 pub mod RuleLemmas
+pub mod AggregateLemmas
 pub mod StoredLemmas
 pub mod PartitionLemmas
+pub mod SkipNames
 pub mod SkipLemmas
 pub mod ProjectionLemmas
 pub mod FolderLemmas
@@ -18,4 +20,5 @@ pub mod AbsentLemmas
 pub mod KnownLemmas
 pub mod StandLemmas
 pub mod TextLemmas
+pub mod PlainPaths
 pub mod PathLemmas

@@ -1,12 +1,12 @@
 -- What holds of each element of lists that are made of others.
-use Rattle.std.proofs.Common.{◌≡◌, ℕ, ◌+◌, ◌<◌, Bool, true, List, [], ◌∷◌, ◌++◌, length, map, take, drop, get_or, refl, ap, sym, ◌∙◌, subst, arith}
-use Rattle.std.specs.Prelude.{All}
+use Rattle.std.proofs.Common.{◌≡◌, ℕ, ◌+◌, ◌<◌, Bool, true, not, List, [], ◌∷◌, ◌++◌, length, map, take, drop, get_or, refl, ap, sym, ◌∙◌, subst, arith}
+use Rattle.std.specs.Prelude.{All, filter}
 use Rattle.std.specs.List.{flat_map, list_all, enumerate_from, range_with_len}
 use Rattle.std.proofs.lemmas.Bool.{and_from}
 use Rattle.std.proofs.lemmas.List.{same_lists, get_or_default}
 use Rattle.std.proofs.lemmas.List.FromFn.{length-enumerate_from, get_or-enumerate_from, length-map-range_with_len, get_or-map-range_with_len}
-use Rattle.std.proofs.lemmas.List.Elements.{All-nil, All-cons, All-append, All-head, All-tail, All-take, All-drop}
-use Rattle.mt_defs.specs.Lists.{Pointwise}
+use Rattle.std.proofs.lemmas.List.Elements.{All-nil, All-cons, All-append, All-filter, All-head, All-tail, All-take, All-drop}
+use Rattle.mt_defs.specs.Lists.{Pointwise, distinct_by}
 use Rattle.mt_defs.specs.Rows.{Row}
 use Rattle.mt_defs.specs.Granules.{granule_rows}
 
@@ -62,6 +62,12 @@ list_all-mapped test f (x ∷ xs) all =
 pub Pointwise-mapped : {X Y : Type 0} (R : X → Y → Type 0) (f : X → Y) (xs : List X) → All (λ x. R x (f x)) xs → Pointwise R xs (map f xs)
 Pointwise-mapped R f [] all = tt
 Pointwise-mapped R f (x ∷ xs) all = (All-head (λ x. R x (f x)) x xs all, Pointwise-mapped R f xs (All-tail (λ x. R x (f x)) x xs all))
+
+-- what holds of each element holds of each distinct one
+pub All-distinct : {X : Type 0} (P : X → Type 0) (same : X → X → Bool) (xs : List X) → All P xs → All P (distinct_by same xs)
+All-distinct P same [] all = all
+All-distinct P same (x ∷ xs) all =
+    All-cons P x (filter (λ y. not (same x y)) (distinct_by same xs)) (All-head P x xs all) (All-filter (λ y. not (same x y)) P (distinct_by same xs) (All-distinct P same xs (All-tail P x xs all)))
 
 -- what holds of all rows holds of those of each granule
 pub All-granules : (P : Row → Type 0) (granules : List ℕ) (rows : List Row) → All P rows → All (All P) (granule_rows granules rows)

@@ -25,7 +25,7 @@ stem_of (c ∷ name) = if eqb c 46 then [] else c ∷ stem_of name
 abbrev pub has_slash : List ℕ → Bool
 has_slash = list_any (λ c. eqb c 47)
 
-not_true : (b : Bool) → not b ≡ true → b ≡ false
+pub not_true : (b : Bool) → not b ≡ true → b ≡ false
 not_true true e = cc
 not_true false e = refl
 

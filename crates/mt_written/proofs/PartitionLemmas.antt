@@ -4,7 +4,7 @@ use Rattle.std.specs.Prelude.{All, None, filter, codes, ◌==◌, nat_le, if◌t
 use Rattle.std.specs.List.{list_all, filter_map, flat_map}
 use Rattle.std.proofs.lemmas.Bool.{and_parts, eqb-true, eq-eqb}
 use Rattle.std.proofs.lemmas.List.{append_cancel_left, append_cancel_right}
-use Rattle.std.proofs.lemmas.List.Elements.{All-nil, All-cons, All-filter, All-head, All-tail, All-weaker, filter_passes}
+use Rattle.std.proofs.lemmas.List.Elements.{All-nil, All-cons, All-head, All-tail, All-weaker, filter_passes}
 use Rattle.mt_shelf.specs.declared.file.FileBytes.{FileBytes}
 use Rattle.mt_table.specs.declared.column.Column.{Column}
 use Rattle.mt_table.specs.declared.definition.Table.{Table}
@@ -25,7 +25,7 @@ use Rattle.mt_defs.specs.WrittenPartition.{minmax_bytes, minmax_file, partition_
 use Rattle.mt_skip.proofs.LawLemmas.{written_agree}
 use Rattle.mt_table.specs.declared.skip.SkipKind.TheVariants.{Minmax}
 use Rattle.mt_build.proofs.LookupLemmas.{AreApart, last_of, last_append}
-use Rattle.mt_written.proofs.ListLemmas.{All-mapped, All-of_map}
+use Rattle.mt_written.proofs.ListLemmas.{All-distinct, All-mapped, All-of_map}
 use Rattle.mt_written.proofs.NameLemmas.{has_slash, no_slash_appended, stem_without_slash, file_name_stem, file_name_injective}
 use Rattle.mt_written.proofs.ApartLemmas.{EachLater, Differ, later_mapped, apart_each}
 use Rattle.mt_written.proofs.DataNames.{ends_as_data}
@@ -34,16 +34,11 @@ use Rattle.mt_written.proofs.WideLemmas.{HasFile}
 
 -- ---- columns of the key, each once
 
-abbrev is_same : ℕ → ℕ → Bool
+abbrev pub is_same : ℕ → ℕ → Bool
 is_same i j = i == j
 
 abbrev pub distinct : List ℕ → List ℕ
 distinct = distinct_by is_same
-
-pub distinct_all : (P : ℕ → Type 0) (xs : List ℕ) → All P xs → All P (distinct xs)
-distinct_all P [] all = all
-distinct_all P (x ∷ xs) all =
-    All-cons P x (filter (λ y. not (is_same x y)) (distinct xs)) (All-head P x xs all) (All-filter (λ y. not (is_same x y)) P (distinct xs) (distinct_all P xs (All-tail P x xs all)))
 
 distinct_differ : (xs : List ℕ) → Differ (distinct xs)
 distinct_differ [] = tt
@@ -150,7 +145,7 @@ minmax_later table (i ∷ places) own within differ =
 pub partition_apart : (table : Table) (rows : List Row) → EachLater (λ a b. a.name ≢ b.name) table.columns → keeps_partition table.columns table.partition ≡ true → AreApart (partition_files table rows)
 partition_apart table rows own keeps =
     let places : List ℕ = distinct (key_columns table) in
-    let within : All (λ i. i < length table.columns) places = distinct_all (λ i. i < length table.columns) (key_columns table) (key_within table keeps) in
+    let within : All (λ i. i < length table.columns) places = All-distinct (λ i. i < length table.columns) is_same (key_columns table) (key_within table keeps) in
     let first : All (λ f. partition_name ≢ f.name) (map (minmax_file table rows) places) =
     All-mapped (λ f. partition_name ≢ f.name) (minmax_file table rows) places (λ k d inside same. (let bad : 112 ≡ 109 = ap (λ l. get_or l 0 0) same in omega (arith, bad))) in
     files_by table rows AreApart tt (apart_each (key_files table rows) (

@@ -1,11 +1,11 @@
 -- The files of projections: their names differ, and their rows' texts are bytes.
-use Rattle.std.proofs.Common.{◌≡◌, ◌≢◌, ℕ, Bool, true, false, not, List, [], ◌∷◌, ◌++◌, map, get_or, refl, ap, sym, ◌∙◌, append_assoc}
-use Rattle.std.specs.Prelude.{All, IsTrue, filter, codes}
+use Rattle.std.proofs.Common.{◌≡◌, ◌≢◌, ℕ, true, false, List, [], ◌∷◌, ◌++◌, map, get_or, refl, ap, sym, ◌∙◌, append_assoc}
+use Rattle.std.specs.Prelude.{All, IsTrue, codes}
 use Rattle.std.specs.List.{list_all, flat_map}
 use Rattle.std.proofs.lemmas.Bool.{and_parts, and_from}
 use Rattle.std.proofs.lemmas.List.{append_cancel_left}
 use Rattle.std.proofs.lemmas.List.Folds.{list_all-append}
-use Rattle.std.proofs.lemmas.List.Elements.{All-cons, All-filter, All-head, All-tail, All-weaker}
+use Rattle.std.proofs.lemmas.List.Elements.{All-head, All-tail, All-weaker}
 use Rattle.mt_types.specs.declared.value.Value.{Value}
 use Rattle.mt_types.specs.declared.value.AggState.{AggState}
 use Rattle.mt_types.specs.declared.value.Value.TheOpen.{Value-F}
@@ -30,7 +30,7 @@ use Rattle.mt_defs.proofs.Sorted.{All-sorted_rows}
 use Rattle.mt_build.proofs.LookupLemmas.{Apart, AreApart, same_name, other_name}
 use Rattle.mt_written.specs.Texts.{holds_bytes, HoldBytes}
 use Rattle.mt_written.proofs.ByteLemmas.{holds_at}
-use Rattle.mt_written.proofs.ListLemmas.{All-mapped, list_all-mapped}
+use Rattle.mt_written.proofs.ListLemmas.{All-distinct, All-mapped, list_all-mapped}
 use Rattle.mt_written.proofs.WideLemmas.{cell_holds}
 use Rattle.mt_written.proofs.NameLemmas.{is_stem, is_stem_byte, stem_of, has_slash, stem_before_dot, slash_first, slash_later, stem_byte}
 use Rattle.mt_written.proofs.ApartLemmas.{EachLater, later_unmapped, later_weaker, Across, apart_flat, across_labels, Labelled}
@@ -49,12 +49,6 @@ RowHolds row = IsTrue (list_all holds_bytes row)
 keys_hold : (places : List ℕ) (rows : List Row) → HoldBytes rows → HoldBytes (map (key_of places) rows)
 keys_hold places rows holds = All-mapped RowHolds (key_of places) rows (All-weaker RowHolds (λ row. RowHolds (key_of places row)) (λ row h. cells_hold row places h) rows holds)
 
-distinct_holds : (same : Row → Row → Bool) (rows : List Row) → HoldBytes rows → HoldBytes (distinct_by same rows)
-distinct_holds same [] all = all
-distinct_holds same (row ∷ rows) all =
-    All-cons RowHolds row (filter (λ y. not (same row y)) (distinct_by same rows)) (All-head RowHolds row rows all)
-    (All-filter (λ y. not (same row y)) RowHolds (distinct_by same rows) (distinct_holds same rows (All-tail RowHolds row rows all)))
-
 state_holds : (state : AggState) → holds_bytes (State state) ≡ true
 state_holds state = holds_at (State state) (Value-F.State state) (outs-State state) refl
 
@@ -72,7 +66,7 @@ projection_rows_hold table (Grouped name keys aggs) rows holds =
     let all : HoldBytes sorted = All-sorted_rows RowHolds keys rows holds in
     let distinct : List Row = distinct_by is_same_key (map (key_of keys) sorted) in
     All-mapped RowHolds (folded_row (Grouped name keys aggs) rows) distinct
-    (All-weaker RowHolds (λ key. RowHolds (folded_row (Grouped name keys aggs) rows key)) (folded_holds name keys aggs rows) distinct (distinct_holds is_same_key (map (key_of keys) sorted) (keys_hold keys sorted all)))
+    (All-weaker RowHolds (λ key. RowHolds (folded_row (Grouped name keys aggs) rows key)) (folded_holds name keys aggs rows) distinct (All-distinct RowHolds is_same_key (map (key_of keys) sorted) (keys_hold keys sorted all)))
 
 -- ---- names
 

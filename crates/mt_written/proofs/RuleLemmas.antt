@@ -14,13 +14,10 @@ use Rattle.mt_table.specs.declared.column.Column.{Column}
 use Rattle.mt_table.specs.ColumnTypes.{place_has}
 use Rattle.mt_table.specs.Names.{are_different}
 use Rattle.mt_defs.specs.Metadata.{column_at, no_column}
+use Rattle.mt_written.proofs.NameLemmas.{not_true}
 use Rattle.mt_written.proofs.ApartLemmas.{EachLater, Differ, later_mapped}
 
 -- ---- lists without repetition
-
-pub not_true : (b : Bool) → not b ≡ true → b ≡ false
-not_true true e = cc
-not_true false e = refl
 
 first_no : (a b : Bool) → (a || b) ≡ false → a ≡ false
 first_no true b e = cc
