@@ -18,6 +18,7 @@ pub mod ProjectionLemmas
 pub mod FolderLemmas
 pub mod AbsentLemmas
 pub mod KnownLemmas
+pub mod OrderLemmas
 pub mod StandLemmas
 pub mod TextLemmas
 pub mod PlainPaths

@@ -3,7 +3,6 @@ use Rattle.std.proofs.Common.{◌≡◌, ◌≢◌, ℕ, suc, ◌<◌, ◌≤◌
 use Rattle.std.specs.Prelude.{All, AllPairs}
 use Rattle.std.proofs.lemmas.List.Elements.{All-weaker}
 use Rattle.mt_shelf.specs.declared.file.FileBytes.{FileBytes}
-use Rattle.std.proofs.lemmas.List.Kept.{AllPairs-cons}
 use Rattle.mt_table.specs.declared.column.Column.{Column}
 use Rattle.mt_table.specs.declared.definition.Table.{Table}
 use Rattle.mt_table.specs.declared.definition.PartDef.{PartDef}
@@ -26,6 +25,7 @@ use Rattle.mt_written.specs.Stored.{IsStored}
 use Rattle.mt_written.specs.Texts.{HoldBytes}
 use Rattle.mt_written.proofs.ListLemmas.{All-left, All-right, All-of_flat_map, All-of_map}
 use Rattle.mt_written.proofs.WideLemmas.{HasFile}
+use Rattle.mt_written.proofs.OrderLemmas.{Differently, each_later, later_sorted, pairs_of}
 use Rattle.mt_written.proofs.ApartLemmas.{EachLater}
 use Rattle.mt_written.proofs.DefinitionLemmas.{definition_held, definition_layout, written_layout}
 use Rattle.mt_written.proofs.DataNames.{AreOwn, definition_apart}
@@ -48,11 +48,7 @@ own_of definition stored = record { differ = later definition.columns stored.nam
         (λ k d inside. pairs 0 (suc k) d (omega arith) (omega (arith, inside)), later columns (λ i j d low inside. pairs (suc i) (suc j) d (omega (arith, low)) (omega (arith, inside))))
 
 stored_of : (definition : PartDef) → AreOwn definition.columns → IsStored definition
-stored_of definition own = record { names = pairs definition.columns own.differ; types = own.types }
-  where
-    pairs : (columns : List Column) → EachLater (λ a b. a.name ≢ b.name) columns → AllPairs (λ a b. a.name ≢ b.name) columns
-    pairs [] each = λ i j d low inside. absurd (omega (arith, inside))
-    pairs (column ∷ columns) each = AllPairs-cons (λ a b. a.name ≢ b.name) column columns each.0 (pairs columns each.1)
+stored_of definition own = record { names = pairs_of (λ a b. a.name ≢ b.name) definition.columns own.differ; types = own.types }
 
 -- the definitions of a table
 pub base_stored : (table : Table) → IsStored (base_of table)
@@ -158,6 +154,12 @@ written_found table rows =
     let rules = rules_of table in
     let files = all_files table rows in
     subst (λ folder. All (HasFile folder) (written_folder table rows)) (sym (folder_is table rows rules)) (All-sorted_by file_cmp (HasFile (folder_of files)) files (all_found files (folder_apart table rows rules)))
+
+-- no two files of the writer's folder have one name
+pub written_differ : (table : Table) (rows : List Row) → AllPairs (λ f g. f.name ≢ g.name) (written_folder table rows)
+written_differ table rows =
+    let files = all_files table rows in
+    pairs_of Differently (written_folder table rows) (later_sorted Differently (λ f g other same. other (sym same)) file_cmp files (each_later files (folder_apart table rows (rules_of table))))
 
 -- the writer's folder stands for the rows
 pub written_stands : (table : Table) (rows : List Row) → IsWritable table rows → HoldBytes rows → StandsFor table (folder_of (written_folder table rows)) rows

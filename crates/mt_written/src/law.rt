@@ -1,6 +1,6 @@
 //! Laws of the writer's folder, each the contract of a function that does nothing.
 
-ghost use Rattle.std.specs.Prelude.{◌≡◌, List, Some, All};
+ghost use Rattle.std.specs.Prelude.{◌≡◌, ◌≢◌, List, Some, All, AllPairs};
 ghost use Rattle.mt_shelf.specs.Held.{HasName};
 ghost use Rattle.mt_table.specs.declared.definition.PartDef.{PartDef};
 ghost use Rattle.mt_table.specs.declared.definition.Table.{Table};
@@ -29,13 +29,19 @@ pub fn written_definition_holds_rows()
         (written_granules settings definition.columns rows) }
 {}
 
-/// The writer's folder of writable rows stands for these rows, for every table.
+/// The writer's folder of writable rows, whose texts are bytes, stands for these rows: for every table.
 pub fn written_folder_stands()
     ensures { (table : Table) (rows : List Row) → IsWritable table rows → HoldBytes rows
         → StandsFor table (folder_of (written_folder table rows)) rows }
 {}
 
-/// Each file of the writer's folder is found by its name: no two have one name.
+/// No two files of the writer's folder have one name.
+pub fn written_names_differ()
+    ensures { (table : Table) (rows : List Row)
+        → AllPairs (λ f g. f.name ≢ g.name) (written_folder table rows) }
+{}
+
+/// Each file of the writer's folder is found by its name.
 pub fn written_files_are_found()
     ensures { (table : Table) (rows : List Row) → All (λ file.
         folder_of (written_folder table rows) file.name ≡ Some file.bytes) (written_folder table rows) }
