@@ -1,3 +1,4 @@
+pub mod Definitions
 pub mod NumberColumns
 pub mod TextFiles
 pub mod WrongFolders
