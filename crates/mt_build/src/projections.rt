@@ -1,14 +1,18 @@
 //! The folders of projections, below the part.
 
+ghost use Rattle.std.specs.Prelude.{◌≡◌, ◌<◌, ◌++◌, length, map, All, IfOk, OnOk};
+ghost use Rattle.std.specs.List.{flat_map};
+ghost use Rattle.mt_table.specs.Stored.{projection_at};
+ghost use Rattle.mt_defs.specs.Projections as defined;
+ghost use Rattle.mt_defs.specs.Rows.{RowFits};
+ghost use Rattle.mt_defs.specs.Writer.{file_below, projection_files};
+
 use crate::definition::definition_files;
 use mt_proj::project;
 use mt_shelf::FileBytes;
 use mt_table::{Projection, Table};
 use mt_types::{List, NoMemory, Row};
 use std::alloc::Global;
-
-/// What the name of a projection's folder ends with.
-const ENDING: &[u8] = b".proj/";
 
 /// Appends the files of all projections of the table.
 pub(crate) fn append_projections(
@@ -17,6 +21,9 @@ pub(crate) fn append_projections(
     rows: &[Row],
     files: &mut Vec<FileBytes>,
 ) -> Result<(), NoMemory>
+    requires fit { All (RowFits table.now.columns) rows.now }
+    ensures { OnOk result (files.new.items ≡
+        files.old.items ++ flat_map (projection_files table.now rows.now) table.now.projections) }
 {
     for projection in 0..table.projections.len() {
         append_projection(alloc, table, projection, rows, files)?;
@@ -24,7 +31,8 @@ pub(crate) fn append_projections(
     Ok(())
 }
 
-/// Appends the files of a projection, by its place from 0.
+/// Appends the files of a projection, by its place from 0: those of its own definition and rows, below
+/// its folder (docs/FORMAT.md, "Projections"; ClickHouse: `MergeTreeDataWriter`).
 fn append_projection(
     alloc: Global,
     table: &Table,
@@ -32,6 +40,10 @@ fn append_projection(
     rows: &[Row],
     files: &mut Vec<FileBytes>,
 ) -> Result<(), NoMemory>
+    requires there { projection < length table.now.projections }
+    requires fit { All (RowFits table.now.columns) rows.now }
+    ensures { OnOk result (files.new.items ≡ files.old.items
+        ++ projection_files table.now rows.now (projection_at table.now projection)) }
 {
     let definition = table.inner(alloc, projection)?;
     let stored = project(alloc, table, projection, rows)?;
@@ -42,13 +54,15 @@ fn append_projection(
 
 /// The folder of a projection, with a `/` at its end.
 fn projection_prefix(alloc: Global, projection: &Projection) -> Result<List<u8>, NoMemory>
+    ensures { IfOk result (λ prefix. prefix ≡ defined.projection_prefix projection.now) }
 {
     let mut prefix = List::of_bytes(alloc, projection_name(projection))?;
-    prefix.append(ENDING)?;
+    prefix.append(b".proj/")?;
     Ok(prefix)
 }
 
 fn projection_name(projection: &Projection) -> &[u8]
+    ensures { result.now ≡ defined.projection_name projection.now }
 {
     match projection {
         Projection::Normal { name, .. } => name.as_slice(),
@@ -63,6 +77,8 @@ fn append_below(
     below: Vec<FileBytes>,
     files: &mut Vec<FileBytes>,
 ) -> Result<(), NoMemory>
+    ensures { OnOk result (files.new.items ≡
+        files.old.items ++ map (file_below prefix.now) below.items) }
 {
     for file in below {
         files.push(with_prefix(alloc, prefix, file)?)?;
@@ -72,6 +88,7 @@ fn append_below(
 
 /// The file, with a prefix before its name.
 fn with_prefix(alloc: Global, prefix: &[u8], file: FileBytes) -> Result<FileBytes, NoMemory>
+    ensures { IfOk result (λ made. made ≡ file_below prefix.now file) }
 {
     let FileBytes { name: below, bytes } = file;
     let mut name = List::of_bytes(alloc, prefix)?;
