@@ -1,5 +1,5 @@
-use Rattle.mt_run.proofs.PartitionLemmas.{numbers_key}
+use Rattle.mt_build.proofs.SkipLemmas.{partition_keys}
 use Rattle.mt_run.proofs.folder.folder_of.Goals as goal
 
 pub one_partition-requires-clause-key : goal.one_partition-requires-clause-key
-one_partition-requires-clause-key g c = numbers_key c.args.table.now c.requires.numbers
+one_partition-requires-clause-key g c = partition_keys c.args.table.now
