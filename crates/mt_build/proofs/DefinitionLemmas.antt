@@ -1,5 +1,5 @@
 -- What the rules of a table give the writer: its base part and its projections are definitions.
-use Rattle.std.proofs.Common.{◌≡◌, ℕ, suc, ◌+◌, ◌<◌, ◌≤◌, Bool, true, false, List, [], ◌∷◌, ◌++◌, length, map, get_or, refl, ap, sym, ◌∙◌, subst, arith, inl, inr, eqb}
+use Rattle.std.proofs.Common.{◌≡◌, ℕ, zero, suc, ◌+◌, ◌<◌, ◌≤◌, Bool, true, false, List, [], ◌∷◌, ◌++◌, length, map, get_or, refl, ap, sym, ◌∙◌, subst, arith, inl, inr, eqb}
 use Rattle.std.specs.Prelude.{All, IsTrue, nat_le, nat_lt, nat_eq, ◌&&◌, ◌==◌, Option, Some, None, slice_get, cond}
 use Rattle.std.specs.List.{list_all, list_any, filter, range_with_len}
 use Rattle.std.proofs.lemmas.Bool.{cases_Bool, leb-true, ltb-true, eqb-true}
@@ -56,7 +56,7 @@ pub record HasColumn (test : Ty → Bool) (columns : List Column) (place : ℕ) 
 
 pub has_column : (test : Ty → Bool) (columns : List Column) (place : ℕ) → place_has test columns place ≡ true → HasColumn test columns place
 has_column test [] place e = cc
-has_column test (column ∷ columns) 0 e = record { known = omega arith; passes = e }
+has_column test (column ∷ columns) zero e = record { known = omega arith; passes = e }
 has_column test (column ∷ columns) (suc place) e =
     let more = has_column test columns place e in
     record { known = omega (arith, more.known); passes = more.passes }

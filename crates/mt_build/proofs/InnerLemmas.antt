@@ -2,7 +2,7 @@
 use Rattle.std.proofs.Common.{◌≡◌, ℕ, zero, suc, ◌+◌, ◌<◌, ◌≤◌, Bool, true, false, List, [], ◌∷◌, ◌++◌, length, map, get_or, refl, ap, sym, ◌∙◌, subst, arith, inl, inr, eqb, ◌⊎◌, lit≤}
 use Rattle.std.specs.Prelude.{All, IsTrue, nat_le, nat_eq, ◌&&◌, ◌||◌, ◌==◌, cond}
 use Rattle.std.specs.List.{list_all, list_any, filter, range_with_len}
-use Rattle.std.proofs.lemmas.Bool.{cases_Bool, leb-true, ltb-true, eqb-true}
+use Rattle.std.proofs.lemmas.Bool.{cases_Bool, cases_order, leb-true, ltb-true, eq-eqb, eqb-true, eqb-false}
 use Rattle.std.proofs.lemmas.List.{length-map, length-append, get_or-map, get_or_append_left}
 use Rattle.std.proofs.lemmas.List.FromFn.{length-range_with_len, get_or-range_with_len}
 use Rattle.std.proofs.lemmas.List.Sums.{length-filter, count_by-le-length}
@@ -18,7 +18,7 @@ use Rattle.mt_types.proofs.StepLemmas.{both_true}
 use Rattle.mt_item.specs.ItemTypes.{is_scalar}
 use Rattle.mt_table.specs.declared.column.Column.{Column}
 use Rattle.mt_table.specs.declared.definition.Table.{Table}
-use Rattle.mt_table.specs.declared.limits.TheConstants.{MAX_COLUMNS, MAX_KEY}
+use Rattle.mt_table.specs.declared.limits.TheConstants.{MAX_COLUMNS, MAX_KEY, MAX_PROJECTIONS}
 use Rattle.mt_table.specs.declared.projection.Aggregate.{Aggregate}
 use Rattle.mt_table.specs.declared.projection.Aggregate.TheVariants.{Count, Of}
 use Rattle.mt_table.specs.declared.projection.Projection.{Projection}
@@ -36,11 +36,7 @@ use Rattle.mt_build.proofs.DefinitionLemmas.{HasColumn, all_pass, columns_are, h
 -- ---- places among others
 
 same_both : (m n : ℕ) → eqb m n ≡ true → eqb n m ≡ true
-same_both m n e = let P : ℕ → Type 0 = λ k. eqb k m ≡ true in subst P (eqb-true m n e) (self m)
-  where
-    self : (k : ℕ) → eqb k k ≡ true
-    self zero = refl
-    self (suc k) = self k
+same_both m n e = eq-eqb n m (sym (eqb-true m n e))
 
 -- a test finds what it tells from nothing
 any_here : {X : Type 0} (test : X → Bool) (x : X) (xs : List X) → test x ≡ true → list_any test (x ∷ xs) ≡ true
@@ -86,6 +82,14 @@ any_kept keep place (x ∷ xs) passes e =
       ])
     ]
 
+next : (a place : ℕ) → a ≤ place → (a ≡ place → ⊥) → a + 1 ≤ place
+next a place low apart =
+    elim (cases_order a place) [
+      | inl same ↦ absurd (apart same)
+      | inr (inl below) ↦ omega (arith, below)
+      | inr (inr above) ↦ absurd (omega (arith, above, low))
+    ]
+
 any_in_range : (a n place : ℕ) → a ≤ place → place < a + n → list_any (λ i. i == place) (range_with_len a n) ≡ true
 any_in_range a zero place low high = absurd (omega (arith, low, high))
 any_in_range a (suc n) place low high =
@@ -93,19 +97,9 @@ any_in_range a (suc n) place low high =
     elim (cases_Bool (eqb a place)) [
       | inl here ↦ any_here test a (range_with_len (a + 1) n) here
       | inr apart ↦
-          let above : a + 1 ≤ place = next a place low apart in
+          let above : a + 1 ≤ place = next a place low (eqb-false a place apart) in
           any_later test a (range_with_len (a + 1) n) (any_in_range (a + 1) n place above (omega (arith, high)))
     ]
-  where
-    self : (k : ℕ) → eqb k k ≡ true
-    self zero = refl
-    self (suc k) = self k
-
-    next : (a place : ℕ) → a ≤ place → eqb a place ≡ false → a + 1 ≤ place
-    next zero zero low apart = cc
-    next zero (suc place) low apart = omega arith
-    next (suc a) zero low apart = absurd (omega (arith, low))
-    next (suc a) (suc place) low apart = let more = next a place (omega (arith, low)) apart in omega (arith, more)
 
 -- where a place stands among others
 pub record StandsAt (xs : List ℕ) (place index : ℕ) : Type 0 where
@@ -157,7 +151,7 @@ pub record IsStored (columns : List Column) (stored : List ℕ) (index : ℕ) : 
 
 stored_key : (columns : List Column) (stored : List ℕ) (place index : ℕ) → HasColumn is_key_type columns place → StandsAt stored place index → IsStored columns stored index
 stored_key columns stored place index has stands =
-    let size = length-map (column_at columns) stored in
+    let size = length-map stored (column_at columns) in
     let within = stands.within in
     let same : column_at (map (column_at columns) stored) index ≡ column_at columns place = get_or-map (column_at columns) stored index 0 no_column within ∙ ap (column_at columns) (stands.is 0) in
     record { within = omega (arith, size, within); scalar = ap (λ (c : Column). is_scalar c.ty) same ∙ key_scalar (column_at columns place).ty has.passes }
@@ -177,8 +171,8 @@ normal_is table name columns sort are keeps =
     let selected : All (λ place. is_one_of columns place ≡ true) sort = all_pass (is_one_of columns) sort both.0 in
     let has : All (HasColumn is_key_type table.columns) sort = key_columns table.columns sort both.1 in
     let each : All (λ place. IsStored table.columns stored (index_in stored place)) sort = λ k d h.
-        let here = has k d h in stored_key table.columns stored (get_or sort k d) (index_in stored (get_or sort k d)) here (stored_has table columns (get_or sort k d) here.known (selected k d h)) in
-    let size = length-map (column_at table.columns) stored in
+    let here = has k d h in stored_key table.columns stored (get_or sort k d) (index_in stored (get_or sort k d)) here (stored_has table columns (get_or sort k d) here.known (selected k d h)) in
+    let size = length-map stored (column_at table.columns) in
     let some = (key_length table.columns sort both.1).0 in
     let first = (each 0 0 some).within in
     let kept = length-filter (λ i. list_any (λ j. j == i) columns) (range_with_len 0 n) in
@@ -195,7 +189,7 @@ normal_is table name columns sort are keeps =
         known = All-map (λ i. i < length (map (column_at table.columns) stored)) (index_in stored) sort (λ k d h. (each k d h).within);
         scalar = All-map (λ i. is_scalar (column_at (map (column_at table.columns) stored) i).ty ≡ true) (index_in stored) sort (λ k d h. (each k d h).scalar);
       };
-      primary = let same = length-map (index_in stored) sort in omega (arith, same);
+      primary = let same = length-map sort (index_in stored) in omega (arith, same);
     }
 
 -- ---- aggregate projections
@@ -270,8 +264,8 @@ grouped_is table name keys aggs are keeps =
     let many = length_keys.1 in
     let few = kept.few in
     let size = length-append firsts lasts in
-    let size_firsts = length-map (column_at table.columns) keys in
-    let size_lasts = length-map (state_column table) aggs in
+    let size_firsts = length-map keys (column_at table.columns) in
+    let size_lasts = length-map aggs (state_column table) in
     let twice = twice_key in
     let n = length keys in
     let count = length-range_with_len 0 n in
@@ -286,7 +280,7 @@ grouped_is table name keys aggs are keeps =
         known = λ k d h. let value = get_or-range_with_len 0 n k d (omega (arith, count, h)) in omega (arith, value, count, h, size, size_firsts);
         scalar = λ k d h.
             let inside : k < n = omega (arith, count, h) in
-            let value : get_or (range_with_len 0 n) k d ≡ k = get_or-range_with_len 0 n k d inside in
+            let value : get_or (range_with_len 0 n) k d ≡ k = let at = get_or-range_with_len 0 n k d inside in omega (arith, at) in
             let here : column_at (firsts ++ lasts) k ≡ column_at table.columns (get_or keys k 0) = get_or_append_left firsts lasts no_column k (omega (arith, size_firsts, inside)) ∙ get_or-map (column_at table.columns) keys k 0 no_column inside in
             ap (λ i. is_scalar (column_at (firsts ++ lasts) i).ty) value ∙ ap (λ (c : Column). is_scalar c.ty) here ∙ key_scalar (column_at table.columns (get_or keys k 0)).ty (has k 0 inside).passes;
       };
@@ -306,7 +300,7 @@ table_columns table = columns_are table.columns (each_of (fields_of_table table)
 pub projections_kept : (table : Table) → All (λ projection. keeps_projection table.columns projection ≡ true) table.projections
 projections_kept table =
     let keeps = (each_of (fields_of_table table) table.rules).projections in
-    let parts = both_true _ _ keeps in
+    let parts = both_true (nat_le (length table.projections) MAX_PROJECTIONS) _ keeps in
     let each = both_true (list_all (keeps_projection table.columns) table.projections) _ parts.1 in
     all_pass (keeps_projection table.columns) table.projections each.0
 

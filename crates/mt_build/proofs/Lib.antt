@@ -1,8 +1,8 @@
+pub mod AppendLemmas
 pub mod ColumnLemmas
 pub mod DefinitionLemmas
 pub mod ExampleLemmas
 pub mod FolderLemmas
-pub mod GranuleLemmas
 pub mod HeldLemmas
 pub mod InnerLemmas
 pub mod ItemLemmas

@@ -1,6 +1,6 @@
 -- Each file that the writer makes has a name that a file of a part may have.
 use Rattle.std.proofs.Common.{◌≡◌, ℕ, zero, suc, ◌+◌, ◌<◌, ◌≤◌, ◌/◌, ◌%◌, Bool, true, false, cond, not, ◌&&◌, ◌||◌, List, [], ◌∷◌, ◌++◌, map, length, All, refl, sym, ap, ◌∙◌, subst, arith, inl, inr, eqb, ltb, leb}
-use Rattle.std.specs.Prelude.{codes, if◌then◌else◌, IsTrue, take, ◌==◌}
+use Rattle.std.specs.Prelude.{codes, if◌then◌else◌, IsTrue, nat_le, take, ◌==◌}
 use Rattle.std.specs.Fmt.{decimal, digits, digits_onto, digit_glyph}
 use Rattle.std.specs.List.{list_all, flat_map, enumerate_from}
 use Rattle.std.specs.Str.{IsAscii}
@@ -33,6 +33,7 @@ use Rattle.mt_table.specs.declared.skip.Skip.{Skip}
 use Rattle.mt_table.specs.declared.skip.SkipKind.{SkipKind}
 use Rattle.mt_table.specs.declared.skip.SkipKind.TheVariants as kind
 use Rattle.mt_tokens.specs.Bytes.{is_word_start, is_word_byte as is_name_byte}
+use Rattle.mt_table.specs.declared.limits.TheConstants.{MAX_COLUMNS, MAX_SKIPS}
 use Rattle.mt_table.specs.ColumnTypes.{is_key_type}
 use Rattle.mt_table.specs.Kept.{is_column, keeps_columns, keeps_grouped, keeps_projection, keeps_skip}
 use Rattle.mt_table.specs.Tables.{fields_of_table}
@@ -46,7 +47,8 @@ use Rattle.mt_defs.specs.Lists.{distinct_by}
 use Rattle.mt_defs.specs.Partition.{expression_column, minmax_name, partition_bytes, partition_name}
 use Rattle.mt_defs.specs.Projections.{aggregate_word, base_of, inner_of, projection_name, projection_prefix, state_column, stored_columns}
 use Rattle.mt_defs.specs.SkipIndexes.{data_ending, skip_data_name, skip_marks_name}
-use Rattle.mt_defs.specs.WrittenColumns.{file, wide_column, wide_files, compact_files}
+use Rattle.mt_defs.specs.Wide.{stream_payloads}
+use Rattle.mt_defs.specs.WrittenColumns.{file, granule_streams, stream_files, wide_column, wide_files, compact_files}
 use Rattle.mt_defs.specs.WrittenGranules.{written_granules, is_small}
 use Rattle.mt_defs.specs.WrittenPartition.{minmax_file, partition_files}
 use Rattle.mt_defs.specs.WrittenSkips.{skip_files}
@@ -288,17 +290,21 @@ name_plain name e = let word = word_of name e in record { bytes = plain_bytes na
 
 -- each file has a plain name
 abbrev pub AllPlain : List FileBytes → Type 0
-AllPlain = All (λ file. IsPlain file.name)
+AllPlain [] = Unit {0}
+AllPlain (first ∷ files) = IsPlain first.name × AllPlain files
 
-two_plain : (a b : FileBytes) → IsPlain a.name → IsPlain b.name → AllPlain (a ∷ b ∷ [])
-two_plain a b p q =
-    let P : FileBytes → Type 0 = λ f. IsPlain f.name in
-    All-cons P a (b ∷ []) p (All-cons P b [] q (All-nil P))
+append_plain : (some others : List FileBytes) → AllPlain some → AllPlain others → AllPlain (some ++ others)
+append_plain [] others one two = two
+append_plain (first ∷ some) others one two = (one.0, append_plain some others one.1 two)
 
--- what holds of the lists of all elements holds of all together
-all_enumerated : {X Y : Type 0} (P : Y → Type 0) (Q : X → Type 0) (f : ℕ × X → List Y) → ((i : ℕ) (x : X) → Q x → All P (f (i, x))) → (n : ℕ) (xs : List X) → All Q xs → All P (flat_map f (enumerate_from n xs))
-all_enumerated P Q f each n [] all = All-nil P
-all_enumerated P Q f each n (x ∷ xs) all = All-append P (f (n, x)) (flat_map f (enumerate_from (n + 1) xs)) (each n x (All-head Q x xs all)) (all_enumerated P Q f each (n + 1) xs (All-tail Q x xs all))
+-- what holds of the files of each element holds of all together
+all_enumerated : {X : Type 0} (Q : X → Type 0) (f : ℕ × X → List FileBytes) → ((i : ℕ) (x : X) → Q x → AllPlain (f (i, x))) → (n : ℕ) (xs : List X) → All Q xs → AllPlain (flat_map f (enumerate_from n xs))
+all_enumerated Q f each n [] all = tt
+all_enumerated Q f each n (x ∷ xs) all = append_plain (f (n, x)) (flat_map f (enumerate_from (n + 1) xs)) (each n x (All-head Q x xs all)) (all_enumerated Q f each (n + 1) xs (All-tail Q x xs all))
+
+all_mapped : {X : Type 0} (f : X → FileBytes) → ((x : X) → IsPlain (f x).name) → (xs : List X) → AllPlain (map f xs)
+all_mapped f each [] = tt
+all_mapped f each (x ∷ xs) = (each x, all_mapped f each xs)
 
 all_flat : {X Y : Type 0} (P : Y → Type 0) (Q : X → Type 0) (f : X → List Y) → ((x : X) → Q x → All P (f x)) → (xs : List X) → All Q xs → All P (flat_map f xs)
 all_flat P Q f each [] all = All-nil P
@@ -363,7 +369,8 @@ streams_plain column named =
 
 column_plain : (rows : List Row) (granules : List ℕ) (i : ℕ) (column : Column) → IsNamed column.name → AllPlain (wide_column rows granules (i, column))
 column_plain rows granules i column named =
-    all_enumerated (λ (f : FileBytes). IsPlain f.name) IsPlain _ (λ k name plain. two_plain _ _ (with_ending name (codes ".bin") plain refl) (with_ending name (codes ".mrk2") plain refl)) 0 (stream_names column) (streams_plain column named)
+    all_enumerated IsPlain (λ (stream_index, name). stream_files granules name (stream_payloads stream_index (granule_streams rows granules i column)))
+    (λ k name plain. (with_ending name (codes ".bin") plain refl, (with_ending name (codes ".mrk2") plain refl, tt))) 0 (stream_names column) (streams_plain column named)
 
 -- each column has a name
 abbrev pub AreNamed : List Column → Type 0
@@ -371,10 +378,10 @@ AreNamed = All (λ column. IsNamed column.name)
 
 wide_plain : (columns : List Column) (rows : List Row) (granules : List ℕ) → AreNamed columns → AllPlain (wide_files columns rows granules)
 wide_plain columns rows granules named =
-    all_enumerated (λ (f : FileBytes). IsPlain f.name) (λ (column : Column). IsNamed column.name) (wide_column rows granules) (λ i column here. column_plain rows granules i column here) 0 columns named
+    all_enumerated (λ (column : Column). IsNamed column.name) (wide_column rows granules) (λ i column here. column_plain rows granules i column here) 0 columns named
 
 compact_plain : (columns : List Column) (rows : List Row) (granules : List ℕ) → AllPlain (compact_files columns rows granules)
-compact_plain columns rows granules = two_plain _ _ (record { bytes = refl; starts = refl }) (record { bytes = refl; starts = refl })
+compact_plain columns rows granules = (record { bytes = refl; starts = refl }, (record { bytes = refl; starts = refl }, tt))
 
 data_plain : (columns : List Column) (rows : List Row) (granules : List ℕ) (compact : Bool) → AreNamed columns → AllPlain (if compact then compact_files columns rows granules else wide_files columns rows granules)
 data_plain columns rows granules true named = compact_plain columns rows granules
@@ -382,15 +389,14 @@ data_plain columns rows granules false named = wide_plain columns rows granules 
 
 files_plain : (definition : PartDef) (rows : List Row) (granules : List ℕ) (compact : Bool) → AreNamed definition.columns → AllPlain (files_with definition rows granules compact)
 files_plain definition rows granules compact named =
-    let P : FileBytes → Type 0 = λ f. IsPlain f.name in
-    All-cons P _ _ (record { bytes = refl; starts = refl }) (All-cons P _ _ (record { bytes = refl; starts = refl }) (All-cons P _ _ (record { bytes = refl; starts = refl }) (data_plain definition.columns rows granules compact named)))
+    (record { bytes = refl; starts = refl }, (record { bytes = refl; starts = refl }, (record { bytes = refl; starts = refl }, data_plain definition.columns rows granules compact named)))
 
 -- ---- columns of a table and of its projections
 
 pub columns_named : (table : Table) → AreNamed table.columns
 columns_named table =
     let keeps = (each_of (fields_of_table table) table.rules).columns in
-    let parts = both_true _ _ keeps in
+    let parts = both_true (nat_le 1 (length table.columns) && nat_le (length table.columns) MAX_COLUMNS) _ keeps in
     let each = both_true (list_all is_column table.columns) _ parts.1 in
     All-weaker (λ column. is_column column ≡ true) (λ (column : Column). IsNamed column.name) (λ column e. name_is column.name (both_true (is_name column.name) _ e).0) table.columns (all_pass is_column table.columns each.0)
 
@@ -432,10 +438,10 @@ inner_named table (Grouped name keys aggs) keeps =
 
 part_plain : (beginning name ending : List ℕ) → list_all is_plain beginning ≡ true → starts_plain beginning ≡ true → list_all is_byte name ≡ true → list_all is_plain ending ≡ true → IsPlain (beginning ++ file_name name ++ ending)
 part_plain beginning name ending plain starts bytes last = record {
-  bytes = list_all-append is_plain beginning (file_name name ++ ending)
-      ∙ and_from (list_all is_plain beginning) (list_all is_plain (file_name name ++ ending)) plain
-      (list_all-append is_plain (file_name name) ending ∙ and_from (list_all is_plain (file_name name)) (list_all is_plain ending) (file_bytes name bytes) last);
-  starts = starts_more beginning (file_name name ++ ending) starts;
+  bytes = list_all-append is_plain (beginning ++ file_name name) ending
+      ∙ and_from (list_all is_plain (beginning ++ file_name name)) (list_all is_plain ending)
+      (list_all-append is_plain beginning (file_name name) ∙ and_from (list_all is_plain beginning) (list_all is_plain (file_name name)) plain (file_bytes name bytes)) last;
+  starts = starts_more (beginning ++ file_name name) ending (starts_more beginning (file_name name) starts);
 }
 
 minmax_plain : (table : Table) (rows : List Row) (i : ℕ) → IsPlain (minmax_file table rows i).name
@@ -443,10 +449,9 @@ minmax_plain table rows i = part_plain (codes "minmax_") (column_at table.column
 
 partition_plain : (table : Table) (rows : List Row) → AllPlain (partition_files table rows)
 partition_plain table rows =
-    let P : FileBytes → Type 0 = λ f. IsPlain f.name in
     elim (eqb (length table.partition) 0) as (λ b. AllPlain (if b then [] else file partition_name (flat_map (partition_bytes table) (take 1 rows)) ∷ map (minmax_file table rows) (distinct_by (λ i j. i == j) (map expression_column table.partition)))) [
-      | true ↦ All-nil P
-      | false ↦ All-cons P _ _ (record { bytes = refl; starts = refl }) (All-map P (minmax_file table rows) (distinct_by (λ i j. i == j) (map expression_column table.partition)) (λ k d h. minmax_plain table rows _))
+      | true ↦ tt
+      | false ↦ (record { bytes = refl; starts = refl }, all_mapped (minmax_file table rows) (minmax_plain table rows) (distinct_by (λ i j. i == j) (map expression_column table.partition)))
     ]
 
 data_ending_plain : (kind : SkipKind) → list_all is_plain (data_ending kind) ≡ true
@@ -459,22 +464,25 @@ marks_ending_plain false = refl
 
 skip_plain : (table : Table) (rows : List Row) (skip : Skip) → is_name skip.name ≡ true → AllPlain (skip_files table rows skip)
 skip_plain table rows skip named =
-    let bytes = (name_is skip.name named).bytes in
-    two_plain _ _
-    (part_plain (codes "skp_idx_") skip.name (data_ending skip.kind) refl refl bytes (data_ending_plain skip.kind))
-    (part_plain (codes "skp_idx_") skip.name (marks_ending (is_small table.settings table.columns rows)) refl refl bytes (marks_ending_plain (is_small table.settings table.columns rows)))
+    let bytes = (name_is skip.name named).bytes in (
+      part_plain (codes "skp_idx_") skip.name (data_ending skip.kind) refl refl bytes (data_ending_plain skip.kind),
+      (part_plain (codes "skp_idx_") skip.name (marks_ending (is_small table.settings table.columns rows)) refl refl bytes (marks_ending_plain (is_small table.settings table.columns rows)), tt),
+    )
 
 skips_named : (table : Table) → All (λ (skip : Skip). is_name skip.name ≡ true) table.skips
 skips_named table =
     let keeps = (each_of (fields_of_table table) table.rules).skips in
-    let parts = both_true _ _ keeps in
+    let parts = both_true (nat_le (length table.skips) MAX_SKIPS) _ keeps in
     let each = both_true (list_all (keeps_skip table.columns) table.skips) _ parts.1 in
     All-weaker (λ skip. keeps_skip table.columns skip ≡ true) (λ (skip : Skip). is_name skip.name ≡ true) (λ skip e. (both_true (is_name skip.name) _ e).0) table.skips (all_pass (keeps_skip table.columns) table.skips each.0)
 
 -- ---- all files
 
 all_named : (files : List FileBytes) → AllPlain files → All HasName files
-all_named files plain = All-weaker (λ (f : FileBytes). IsPlain f.name) HasName (λ f here. let is = named f.name f.bytes here in record { utf8 = is.utf8; form = is.form }) files plain
+all_named [] plain = All-nil HasName
+all_named (first ∷ files) plain =
+    let is = named first.name first.bytes plain.0 in
+    All-cons HasName first files (record { utf8 = is.utf8; form = is.form }) (all_named files plain.1)
 
 projection_folder : (projection : Projection) (columns : List Column) → keeps_projection columns projection ≡ true → IsPlain (projection_name projection ++ codes ".proj")
 projection_folder (Normal name chosen sort) columns keeps = with_ending name (codes ".proj") (name_plain name (both_true (is_name name) _ keeps).0) refl
@@ -486,13 +494,19 @@ below_named projection columns keeps below plain =
     let same : (folder ++ codes ".proj") ++ 47 ∷ below.name ≡ projection_prefix projection ++ below.name = append_assoc folder (codes ".proj") (47 ∷ below.name) ∙ sym (append_assoc folder (codes ".proj/") below.name) in
     subst (λ name. HasName (file name below.bytes)) same (named_below (folder ++ codes ".proj") below.name below.bytes (projection_folder projection columns keeps) plain)
 
+all_below : (projection : Projection) (columns : List Column) → keeps_projection columns projection ≡ true → (files : List FileBytes) → AllPlain files → All HasName (map (file_below (projection_prefix projection)) files)
+all_below projection columns keeps [] plain = All-nil HasName
+all_below projection columns keeps (below ∷ files) plain =
+    let prefix = projection_prefix projection in
+    All-cons HasName (file_below prefix below) (map (file_below prefix) files) (below_named projection columns keeps below plain.0) (all_below projection columns keeps files plain.1)
+
 projection_named : (table : Table) (rows : List Row) (projection : Projection) → keeps_projection table.columns projection ≡ true → All HasName (projection_files table rows projection)
 projection_named table rows projection keeps =
     let stored = projection_rows table projection rows in
     let definition = inner_of table projection in
     let below : List FileBytes = definition_files table.settings definition stored in
     let plain : AllPlain below = files_plain definition stored (written_granules table.settings definition.columns stored) (is_small table.settings definition.columns stored) (inner_named table projection keeps) in
-    All-map HasName (file_below (projection_prefix projection)) below (All-weaker (λ (f : FileBytes). IsPlain f.name) (λ f. HasName (file_below (projection_prefix projection) f)) (below_named projection table.columns keeps) below plain)
+    all_below projection table.columns keeps below plain
 
 -- the writer's files have names
 pub written_named : (table : Table) (rows : List Row) → All HasName (written_folder table rows)
@@ -503,8 +517,8 @@ written_named table rows =
     let skips = flat_map (skip_files table rows) table.skips in
     let projections = flat_map (projection_files table rows) table.projections in
     All-sorted_by file_cmp HasName (own ++ partition ++ skips ++ projections)
-    (All-append HasName own (partition ++ skips ++ projections) (all_named own (files_plain base rows (written_granules table.settings base.columns rows) (is_small table.settings base.columns rows) (columns_named table)))
-    (All-append HasName partition (skips ++ projections) (all_named partition (partition_plain table rows))
-    (All-append HasName skips projections
-    (all_flat HasName (λ (skip : Skip). is_name skip.name ≡ true) (skip_files table rows) (λ skip here. all_named (skip_files table rows skip) (skip_plain table rows skip here)) table.skips (skips_named table))
-    (all_flat HasName (λ projection. keeps_projection table.columns projection ≡ true) (projection_files table rows) (projection_named table rows) table.projections (projections_kept table)))))
+    (All-append HasName (own ++ partition ++ skips) projections
+    (All-append HasName (own ++ partition) skips
+    (All-append HasName own partition (all_named own (files_plain base rows (written_granules table.settings base.columns rows) (is_small table.settings base.columns rows) (columns_named table))) (all_named partition (partition_plain table rows)))
+    (all_flat HasName (λ (skip : Skip). is_name skip.name ≡ true) (skip_files table rows) (λ skip here. all_named (skip_files table rows skip) (skip_plain table rows skip here)) table.skips (skips_named table)))
+    (all_flat HasName (λ projection. keeps_projection table.columns projection ≡ true) (projection_files table rows) (projection_named table rows) table.projections (projections_kept table)))

@@ -1,7 +1,6 @@
 -- The rows that the writer stores in a projection fit what the projection stores.
 use Rattle.std.proofs.Common.{◌≡◌, ℕ, ℤ, zero, suc, ◌+◌, ◌<◌, ◌≤◌, ◌%◌, ◌^◌, Bool, true, false, List, [], ◌∷◌, ◌++◌, length, map, get_or, refl, ap, sym, ◌∙◌, subst, arith}
-use Rattle.std.specs.Prelude.{All, IsTrue, cond, not, Option, Some, None}
-use Rattle.std.specs.Int.{int_lt, int_min, int_max}
+use Rattle.std.specs.Prelude.{All, IsTrue, int_lt, cond, not, Option, Some, None}
 use Rattle.std.specs.List.{filter}
 use Rattle.std.proofs.Math.Nat.{mod-lt}
 use Rattle.std.proofs.lemmas.Bool.{lt-ltb}
@@ -13,7 +12,7 @@ use Rattle.mt_types.specs.declared.ty.Ty.TheOpen.{Ty-F}
 use Rattle.mt_types.specs.declared.value.AggState.TheVariants as state
 use Rattle.mt_types.specs.declared.value.Value.{Value, out-Value}
 use Rattle.mt_types.specs.declared.value.Value.TheOpen.{Value-F}
-use Rattle.mt_types.specs.declared.value.Value.TheVariants.{Num, State, outs-Num}
+use Rattle.mt_types.specs.declared.value.Value.TheVariants.{Null, Num, State, outs-Num}
 use Rattle.mt_types.specs.Fits.{bits, fits_of, is_least_of, is_signed, is_unsigned, num_at}
 use Rattle.mt_types.proofs.StepLemmas.{both_true}
 use Rattle.mt_agg.proofs.StateLemmas.{fits_at, fits_count, fits_state}
@@ -33,7 +32,6 @@ use Rattle.mt_defs.specs.Rows.{Row, RowFits, cell, key_of}
 use Rattle.mt_defs.specs.Sorting.{sorted_rows}
 use Rattle.mt_defs.specs.Writer.{folded_row, projection_rows}
 use Rattle.mt_defs.proofs.Sorted.{All-sorted_rows}
-use Rattle.mt_meta.proofs.KeyLemmas.{cell_fits}
 use Rattle.mt_build.proofs.DefinitionLemmas.{HasColumn, has_column, key_columns}
 use Rattle.mt_build.proofs.InnerLemmas.{KeptGrouped, kept_grouped, stored_known}
 
@@ -43,15 +41,26 @@ pointwise_map : {A B X : Type 0} (R : A → B → Type 0) (f : X → A) (g : X �
 pointwise_map R f g [] all = tt
 pointwise_map R f g (x ∷ xs) all = (All-head (λ x. R (f x) (g x)) x xs all, pointwise_map R f g xs (All-tail (λ x. R (f x) (g x)) x xs all))
 
-pointwise_append : {A B : Type 0} (R : A → B → Type 0) (as as' : List A) (bs bs' : List B) → Pointwise R as bs → Pointwise R as' bs' → Pointwise R (as ++ as') (bs ++ bs')
-pointwise_append R [] as' [] bs' p q = q
-pointwise_append R [] as' (b ∷ bs) bs' p q = absurd p
-pointwise_append R (a ∷ as) as' [] bs' p q = absurd p
-pointwise_append R (a ∷ as) as' (b ∷ bs) bs' p q = (p.0, pointwise_append R as as' bs bs' p.1 q)
+pointwise_append : {A B : Type 0} (R : A → B → Type 0) (xs us : List A) (ys vs : List B) → Pointwise R xs ys → Pointwise R us vs → Pointwise R (xs ++ us) (ys ++ vs)
+pointwise_append R [] us [] vs p q = q
+pointwise_append R [] us (y ∷ ys) vs p q = absurd p
+pointwise_append R (x ∷ xs) us [] vs p q = absurd p
+pointwise_append R (x ∷ xs) us (y ∷ ys) vs p q = (p.0, pointwise_append R xs us ys vs p.1 q)
 
 -- the value is one of the column's type
 abbrev HasFit : Column → Value → Type 0
 HasFit column value = IsTrue (fits_of column.ty value)
+
+pointwise_at : {A B : Type 0} (R : A → B → Type 0) (xs : List A) (ys : List B) (i : ℕ) (d : A) (e : B) → Pointwise R xs ys → i < length xs → R (get_or xs i d) (get_or ys i e)
+pointwise_at R [] [] i d e p h = absurd (omega (arith, h))
+pointwise_at R [] (y ∷ ys) i d e p h = absurd p
+pointwise_at R (x ∷ xs) [] i d e p h = absurd p
+pointwise_at R (x ∷ xs) (y ∷ ys) zero d e p h = p.0
+pointwise_at R (x ∷ xs) (y ∷ ys) (suc i) d e p h = pointwise_at R xs ys i d e p.1 (omega (arith, h))
+
+-- a row that fits has a value of each column
+pub cell_fits : (columns : List Column) (row : Row) (i : ℕ) (d : Column) → RowFits columns row → i < length columns → IsTrue (fits_of (get_or columns i d).ty (cell row i))
+cell_fits columns row i d fits h = pointwise_at HasFit columns row i d Null fits h
 
 -- a row's values of some columns fit these
 pub cells_fit : (columns : List Column) (places : List ℕ) (row : Row) → All (λ i. i < length columns) places → RowFits columns row → RowFits (map (column_at columns) places) (key_of places row)

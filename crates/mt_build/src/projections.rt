@@ -49,7 +49,8 @@ fn append_projection(
     let stored = project(alloc, table, projection, rows)?;
     let below = definition_files(alloc, &table.settings, &definition, stored.as_slice())?;
     let prefix = projection_prefix(alloc, &table.projections.as_slice()[projection])?;
-    append_below(alloc, prefix.as_slice(), below, files)
+    append_below(alloc, prefix.as_slice(), below, files)?;
+    Ok(())
 }
 
 /// The folder of a projection, with a `/` at its end.

@@ -134,7 +134,8 @@ fn append_mark(mark: &Mark, bytes: &mut List<u8>) -> Result<(), NoMemory>
 {
     bytes.append(&mark.offset.to_le_bytes())?;
     bytes.append(&mark.inner.to_le_bytes())?;
-    bytes.append(&PASSED_OVER.to_le_bytes())
+    bytes.append(&PASSED_OVER.to_le_bytes())?;
+    Ok(())
 }
 
 /// The name of a file of an index: the index's own name as files have it, and an ending.
