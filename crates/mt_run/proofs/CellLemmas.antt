@@ -1,9 +1,9 @@
 -- The cells of projections: one of some columns has no more than the rows, and one of aggregates holds no array.
-use Rattle.std.proofs.Common.{◌≡◌, ℕ, zero, suc, ◌+◌, ◌*◌, ◌<◌, ◌≤◌, Bool, true, false, List, [], ◌∷◌, ◌++◌, length, map, drop, get_or, refl, ap, sym, ◌∙◌, subst, arith, inl, inr}
+use Rattle.std.proofs.Common.{◌≡◌, ℕ, zero, suc, ◌+◌, ◌*◌, ◌<◌, ◌≤◌, Bool, true, false, List, [], ◌∷◌, ◌++◌, length, map, drop, get_or, refl, ap, sym, ◌∙◌, subst, arith, inl, inr, lit<, ◌^◌}
 use Rattle.std.specs.Prelude.{All, IsTrue, cond, not, nat_le, nat_lt, ◌==◌}
 use Rattle.std.specs.List.{count_by, filter, list_any, range_with_len, sum_by}
 use Rattle.std.proofs.lemmas.Bool.{cases_Bool, leb-true, leb-false, lt-ltb, le-ltb}
-use Rattle.std.proofs.lemmas.List.{drop_more, length-map, length-append}
+use Rattle.std.proofs.lemmas.List.{drop_more, get_or_default, length-map, length-append}
 use Rattle.std.proofs.lemmas.List.Elements.{All-nil, All-cons, All-head, All-tail, All-append, All-map, All-weaker, All-filter}
 use Rattle.std.proofs.lemmas.List.Sums.{sum_by-cons, sum_by-drop_more, length-filter, count_by-le-length}
 use Rattle.std.proofs.lemmas.List.FromFn.{length-range_with_len}
@@ -20,7 +20,9 @@ use Rattle.mt_agg.proofs.StateLemmas.{fits_at}
 use Rattle.mt_item.specs.ItemTypes.{is_scalar, is_scalar_at}
 use Rattle.mt_table.specs.declared.column.Column.{Column}
 use Rattle.mt_table.specs.declared.definition.Table.{Table}
-use Rattle.mt_table.specs.declared.limits.TheConstants.{MAX_CELLS}
+use Rattle.mt_table.specs.declared.limits.TheConstants.{MAX_CELLS, MAX_KEY}
+use Rattle.mt_table.specs.Stored.{no_projection, projection_at}
+use Rattle.mt_table.proofs.KeptLemmas.{key_length}
 use Rattle.mt_table.specs.declared.projection.Aggregate.{Aggregate}
 use Rattle.mt_table.specs.declared.projection.Projection.{Projection}
 use Rattle.mt_table.specs.declared.projection.Projection.TheVariants.{Normal, Grouped}
@@ -35,9 +37,9 @@ use Rattle.mt_defs.specs.Rows.{Row, RowFits, cell, key_of}
 use Rattle.mt_defs.specs.Sorting.{sorted_rows}
 use Rattle.mt_defs.specs.Writer.{folded_row, projection_rows}
 use Rattle.mt_defs.proofs.Sorted.{All-sorted_rows, cell_count-sorted_rows, length-sorted_rows}
-use Rattle.mt_meta.proofs.KeyLemmas.{cell_fits}
 use Rattle.mt_build.proofs.DefinitionLemmas.{HasColumn, key_columns, key_scalar}
-use Rattle.mt_build.proofs.InnerLemmas.{kept_grouped}
+use Rattle.mt_build.proofs.InnerLemmas.{kept_grouped, projections_kept}
+use Rattle.mt_build.proofs.ProjectionRowLemmas.{cell_fits}
 use Rattle.mt_run.specs.Write.{has_many_cells}
 
 -- ---- projections of some columns
@@ -92,8 +94,8 @@ normal_cells table name chosen sort rows fit =
     let kept = length-filter keep (range_with_len 0 (length table.columns)) in
     let most = count_by-le-length keep (range_with_len 0 (length table.columns)) in
     let all = length-range_with_len 0 (length table.columns) in
-    let width = length-map (column_at table.columns) stored in
-    let count = length-map (key_of stored) rows in
+    let width = length-map stored (column_at table.columns) in
+    let count = length-map rows (key_of stored) in
     let product = mul-le (length selected) (length columns) (length rows) (length table.columns) (omega (arith, count)) (omega (arith, width, kept, most, all)) in
     omega (arith, same, elements, product)
 
@@ -189,12 +191,12 @@ grouped_cells table name keys aggs rows keeps fit =
     let stored : List Row = projection_rows table (Grouped name keys aggs) rows in
     let Q : List Value → Type 0 = All HasNone in
     let keys_none : All Q found = All-distinct_by Q is_same_key (map (key_of keys) sorted)
-        (All-map Q (key_of keys) sorted (All-weaker (RowFits table.columns) (λ row. Q (key_of keys row)) (λ row fits. key_none table keys row has fits) sorted (All-sorted_rows (RowFits table.columns) keys rows fit))) in
+    (All-map Q (key_of keys) sorted (All-weaker (RowFits table.columns) (λ row. Q (key_of keys row)) (λ row fits. key_none table keys row has fits) sorted (All-sorted_rows (RowFits table.columns) keys rows fit))) in
     let rows_none : All Q stored = All-map Q (folded_row (Grouped name keys aggs) rows) found
-        (All-weaker Q (λ key. Q (folded_row (Grouped name keys aggs) rows key)) (λ key none. All-append HasNone key (map (λ aggregate. State (fold_of (with_key keys key rows) aggregate)) aggs) none (states_none (with_key keys key rows) aggs)) found keys_none) in
+    (All-weaker Q (λ key. Q (folded_row (Grouped name keys aggs) rows key)) (λ key none. All-append HasNone key (map (λ aggregate. State (fold_of (with_key keys key rows) aggregate)) aggs) none (states_none (with_key keys key rows) aggs)) found keys_none) in
     let none = no_arrays stored rows_none in
-    let firsts = length-map (column_at table.columns) keys in
-    let lasts = length-map (state_column table) aggs in
+    let firsts = length-map keys (column_at table.columns) in
+    let lasts = length-map aggs (state_column table) in
     let both = length-append (map (column_at table.columns) keys) (map (state_column table) aggs) in
     let width : length (inner_of table (Grouped name keys aggs)).columns ≡ length keys + length aggs = omega (arith, firsts, lasts, both) in
     ap (λ n. length stored * length (inner_of table (Grouped name keys aggs)).columns + n) none ∙ ap (λ n. length stored * n + 0) width ∙ plus_none (length stored * (length keys + length aggs))
@@ -206,9 +208,9 @@ grouped_rows : (table : Table) (name keys : List ℕ) (aggs : List Aggregate) (r
 grouped_rows table name keys aggs rows =
     let sorted = sorted_rows keys rows in
     let found : List (List Value) = distinct_by is_same_key (map (key_of keys) sorted) in
-    let one = length-map (folded_row (Grouped name keys aggs) rows) found in
+    let one = length-map found (folded_row (Grouped name keys aggs) rows) in
     let two = length-distinct_by is_same_key (map (key_of keys) sorted) in
-    let three = length-map (key_of keys) sorted in
+    let three = length-map sorted (key_of keys) in
     let four = length-sorted_rows keys rows in
     omega (arith, one, two, three, four)
 
@@ -245,3 +247,27 @@ grouped_many table name keys aggs rows few keeps fit is =
       | inl low ↦ ap not low ∙ sym (le-ltb n m (leb-true m n low))
       | inr high ↦ ap not high ∙ sym (lt-ltb n m (leb-false m n high))
     ]
+
+-- ---- projections where code reads them
+
+pub record IsAt (table : Table) (place : ℕ) (projection : Projection) : Type 0 where
+  pub same : projection_at table place ≡ projection
+  pub kept : keeps_projection table.columns projection ≡ true
+
+pub read_at : (table : Table) (slice : List Projection) (place : ℕ) (read projection : Projection) → slice ≡ table.projections → place < length table.projections → read ≡ get_or slice place read → read ≡ projection → IsAt table place projection
+read_at table slice place read projection whole there at is =
+    let found : read ≡ projection_at table place = at ∙ ap (λ (l : List Projection). get_or l place read) whole ∙ get_or_default table.projections place read no_projection there in
+    let same : projection_at table place ≡ projection = sym found ∙ is in
+    record { same = same; kept = ap (keeps_projection table.columns) (sym same) ∙ projections_kept table place no_projection there }
+
+-- the columns of an aggregate projection are few
+pub grouped_width : (table : Table) (place : ℕ) (name keys : List ℕ) (aggs : List Aggregate) → IsAt table place (Grouped name keys aggs) → length keys + length aggs < 2 ^ 64
+grouped_width table place name keys aggs at =
+    let kept = kept_grouped table.columns keys aggs (both_true _ (keeps_grouped table.columns keys aggs) at.kept).1 in
+    let many = (key_length table.columns keys kept.key).1 in
+    let few = kept.few in
+    let limit = key_limit in
+    omega (arith, many, few, limit)
+  where
+    key_limit : MAX_KEY + MAX_KEY < 2 ^ 64
+    key_limit = lit< tt

@@ -45,13 +45,12 @@ other_end table first line rest found e before = sym (ap (other_line table first
 none_other : (table : Table) (first : Row) (line : ℕ) (rows : List Row) → other_line table first line rows ≡ None → All (λ row. partition_bytes table first ≡ partition_bytes table row) rows
 unfolding other_line
 none_other table first line [] e = All-nil (λ row. partition_bytes table first ≡ partition_bytes table row)
-none_other table first line (row ∷ rows) e =
-    let P : Row → Type 0 = λ row. partition_bytes table first ≡ partition_bytes table row in
-    by_test (are_together table first row) refl e
+none_other table first line (row ∷ rows) e = by_test (are_together table first row) refl e (λ later. none_other table first (line + 1) rows later)
   where
-    by_test : (same : Bool) → are_together table first row ≡ same → cond same (other_line table first (line + 1) rows) (Some line) ≡ None → All (λ row. partition_bytes table first ≡ partition_bytes table row) (row ∷ rows)
-    by_test true is e = All-cons (λ row. partition_bytes table first ≡ partition_bytes table row) row rows ((bytes_eq-Decides (partition_bytes table first) (partition_bytes table row)).0 is) (none_other table first (line + 1) rows e)
-    by_test false is e = cc
+    by_test : (same : Bool) → are_together table first row ≡ same → cond same (other_line table first (line + 1) rows) (Some line) ≡ None → (other_line table first (line + 1) rows ≡ None → All (λ other. partition_bytes table first ≡ partition_bytes table other) rows)
+        → All (λ other. partition_bytes table first ≡ partition_bytes table other) (row ∷ rows)
+    by_test true is e later = All-cons (λ other. partition_bytes table first ≡ partition_bytes table other) row rows ((bytes_eq-Decides (partition_bytes table first) (partition_bytes table row)).0 is) (later e)
+    by_test false is e later = cc
 
 one_for_all : (table : Table) (first : Row) (rows : List Row) → All (λ row. partition_bytes table first ≡ partition_bytes table row) rows → HaveOnePartition table rows
 one_for_all table first rows all a b in_rows also =
@@ -64,10 +63,10 @@ no_other_line (Some line) e = cc
 
 -- the step that refuses another partition lets rows of one pass
 pub have_one : (table : Table) (rows : List Row) → one_partition table rows ≡ Ok tt → HaveOnePartition table rows
-have_one table [] e a b in_rows also = absurd (nowhere a in_rows)
+have_one table [] e = λ a b in_rows also. absurd (nowhere a in_rows)
   where
     nowhere : (a : Row) → Contains [] a → ⊥
-    nowhere a in_none = omega (arith, in_none.1)
+    nowhere a in_none = let inside = in_none.1 in omega (arith, inside)
 have_one table (first ∷ rows) e = one_for_all table first (first ∷ rows) (none_other table first 1 (first ∷ rows) (no_other_line (other_line table first 1 (first ∷ rows)) e))
 
 -- so do they in key order

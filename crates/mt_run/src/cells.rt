@@ -1,6 +1,6 @@
 //! Whether the projections of rows are within the limit on cells.
 
-ghost use Rattle.std.specs.Prelude.{◌≡◌, ◌<◌, ◌≤◌, All, IfOk, length};
+ghost use Rattle.std.specs.Prelude.{◌≡◌, ◌<◌, ◌≤◌, ◌*◌, All, IfOk, length, nat_le};
 ghost use Rattle.mt_table.specs.declared.limits.TheConstants.{MAX_CELLS};
 ghost use Rattle.mt_table.specs.Stored.{projection_at};
 ghost use Rattle.mt_defs.specs.Rows.{RowFits, cell_count};
@@ -65,6 +65,7 @@ fn has_many_cells(
 
 /// Whether rows of so many columns without arrays are within the limit on cells.
 fn are_few(rows: usize, columns: usize) -> bool
+    ensures { result ≡ nat_le (rows * columns) MAX_CELLS }
 {
     rows.saturating_mul(columns) <= MAX_CELLS
 }
