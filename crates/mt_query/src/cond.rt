@@ -1,23 +1,7 @@
 //! The condition of a query. A `u32` names a column by its place in the table, from 0.
 
+use mt_query_syntax::Op;
 use mt_types::{Boxed, List, Value};
-
-/// A comparison.
-#[derive(Clone, Copy, Debug, PartialEq, Eq)]
-pub enum Op {
-    /// `=`
-    Eq,
-    /// `!=` or `<>`
-    Ne,
-    /// `<`
-    Lt,
-    /// `<=`
-    Le,
-    /// `>`
-    Gt,
-    /// `>=`
-    Ge,
-}
 
 /// A condition on a row: true, false or NULL (docs/LANGUAGE.md, "Queries"; ClickHouse: an expression of `WHERE`).
 #[derive(Debug, Drop)]

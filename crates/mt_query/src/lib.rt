@@ -8,7 +8,8 @@ mod limits;
 mod query;
 mod why;
 
-pub use cond::{Cond, Op};
-pub use limits::{MAX_COND_DEPTH, MAX_QUERY_TEXT};
+pub use cond::Cond;
+pub use limits::MAX_QUERY_TEXT;
+pub use mt_query_syntax::Op;
 pub use query::{Item, Query};
 pub use why::{QueryError, QueryWhy};
