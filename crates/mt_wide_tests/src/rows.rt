@@ -1,77 +1,21 @@
 //! Parts that are read.
 
+use crate::examples::{COMPACT, NESTED, NULLABLE, RECUT, WRITTEN};
 use crate::files::Content::{Frames, Numbers};
-use crate::parts::{Part, compact_text, wide_text};
+use crate::parts::{compact_text, wide_text};
 use std::test::Fail;
 
-/// Three rows in two granules, as the writer has them but for the checksums.
-const WRITTEN: Part = Part {
-    columns: "k UInt32, s String",
-    count: 3,
-    files: &[
-        ("k.bin", Frames(&[b"\x01\0\0\0\x02\0\0\0", b"\x03\0\0\0"])),
-        ("k.mrk2", Numbers(&[0, 0, 2, 33, 0, 1, 62, 0, 0])),
-        ("s.bin", Frames(&[b"\x01a\x01b", b"\x01c"])),
-        ("s.mrk2", Numbers(&[0, 0, 2, 29, 0, 1, 56, 0, 0])),
-    ],
-};
-
-/// The same with all of the key in one frame, and the texts in frames of one, two and three bytes.
-const RECUT: Part = Part {
-    columns: "k UInt32, s String",
-    count: 3,
-    files: &[
-        ("s.mrk2", Numbers(&[0, 0, 2, 26, 2, 1, 81, 0, 0])),
-        ("s.bin", Frames(&[b"\x01", b"a\x01", b"b\x01c"])),
-        ("k.bin", Frames(&[b"\x01\0\0\0\x02\0\0\0\x03\0\0\0"])),
-        ("k.mrk2", Numbers(&[0, 0, 2, 0, 8, 1, 0, 12, 0])),
-    ],
-};
-
-/// The worked example of arrays, NULL and texts: a granule a row.
-const NESTED: Part = Part {
-    columns: "k UInt8, a Array(Nullable(String))",
-    count: 2,
-    files: &[
-        ("k.bin", Frames(&[b"\x01", b"\x02"])),
-        ("k.mrk2", Numbers(&[0, 0, 1, 26, 0, 1, 52, 0, 0])),
-        ("a.size0.bin", Frames(&[b"\0\0\0\0\0\0\0\0", b"\x02\0\0\0\0\0\0\0"])),
-        ("a.size0.mrk2", Numbers(&[0, 0, 1, 33, 0, 1, 66, 0, 0])),
-        ("a.null.bin", Frames(&[b"\0\x01"])),
-        ("a.null.mrk2", Numbers(&[0, 0, 1, 0, 0, 1, 27, 0, 0])),
-        ("a.bin", Frames(&[b"\x03a'b\0"])),
-        ("a.mrk2", Numbers(&[0, 0, 1, 0, 0, 1, 30, 0, 0])),
-    ],
-};
-
-/// The three rows in the two files of a Compact part.
-const COMPACT: Part = Part {
-    columns: "k UInt32, s String",
-    count: 3,
-    files: &[
-        (
-            "data.bin",
-            Frames(&[
-                b"\x01\0\0\0\x02\0\0\0",
-                b"\x01a\x01b",
-                b"\x03\0\0\0",
-                b"\x01c",
-            ]),
-        ),
-        (
-            "data.mrk3",
-            Numbers(&[0, 0, 33, 0, 2, 62, 0, 91, 0, 1, 118, 0, 118, 0, 0]),
-        ),
-    ],
-};
+/// What the three rows are read as.
+const THREE: &str = "1\ta\n2\tb\n3\tc\n2 1 ";
 
 #[test]
 fn wide_parts_are_read(rt: HostRuntime) -> Result<(), Fail> {
     let alloc = rt.alloc();
     for (part, text) in [
-        (WRITTEN, "1\ta\n2\tb\n3\tc\n2 1 "),
-        (RECUT, "1\ta\n2\tb\n3\tc\n2 1 "),
+        (WRITTEN, THREE),
+        (RECUT, THREE),
         (NESTED, "1\t[]\n2\t['a\\'b',NULL]\n1 1 "),
+        (NULLABLE, "1\t1\n2\t\\N\n3\t2\n3 "),
     ] {
         let read = wide_text(alloc, &part, &[])?;
         assert_eq!(rt; read.as_slice(), text.as_bytes());
@@ -79,9 +23,38 @@ fn wide_parts_are_read(rt: HostRuntime) -> Result<(), Fail> {
     Ok(())
 }
 
+/// In one frame, and with a frame for each of the first bytes.
 #[test]
 fn compact_parts_are_read(rt: HostRuntime) -> Result<(), Fail> {
-    let read = compact_text(rt.alloc(), &COMPACT, &[])?;
-    assert_eq!(rt; read.as_slice(), b"1\ta\n2\tb\n3\tc\n2 1 ".as_slice());
+    let alloc = rt.alloc();
+    let one = &[
+        (
+            "data.bin",
+            Frames(&[b"\x01\0\0\0\x02\0\0\0\x01a\x01b\x03\0\0\0\x01c"]),
+        ),
+        (
+            "data.mrk3",
+            Numbers(&[0, 0, 0, 8, 2, 0, 12, 0, 16, 1, 43, 0, 43, 0, 0]),
+        ),
+    ];
+    let many = &[
+        (
+            "data.bin",
+            Frames(&[
+                b"\x01",
+                b"\0",
+                b"\0\0\x02\0\0\0\x01a\x01b\x03",
+                b"\0\0\0\x01c",
+            ]),
+        ),
+        (
+            "data.mrk3",
+            Numbers(&[0, 0, 52, 6, 2, 52, 10, 88, 3, 1, 118, 0, 118, 0, 0]),
+        ),
+    ];
+    for changed in [[].as_slice(), one, many] {
+        let read = compact_text(alloc, &COMPACT, changed)?;
+        assert_eq!(rt; read.as_slice(), THREE.as_bytes());
+    }
     Ok(())
 }
