@@ -121,7 +121,7 @@ never_over t profile rows bytes (Err (At s i why)) gives stream item is =
 pub one_slice : (slices : List (Bor (List ℕ))) (i : ℕ) (d : Bor (List ℕ)) → i < length slices → d ≡ get_or slices i d → AreBytes d.now → ((k j : ℕ) → k < i → get_or (get_or (bytes_of slices) k []) j 0 < 256)
     → (k j : ℕ) → k < i + 1 → get_or (get_or (bytes_of slices) k []) j 0 < 256
 one_slice slices i d inside is small are =
-    one_list (bytes_of slices) i d.now d.now (omega (arith, length-map (λ (s : Bor (List ℕ)). s.now) slices)) (ap (λ (s : Bor (List ℕ)). s.now) is ∙ sym (get_or-map (λ (s : Bor (List ℕ)). s.now) slices i d d.now inside)) refl small are
+    one_list (bytes_of slices) i d.now d.now (omega (arith, length-map slices (λ (s : Bor (List ℕ)). s.now))) (ap (λ (s : Bor (List ℕ)). s.now) is ∙ sym (get_or-map (λ (s : Bor (List ℕ)). s.now) slices i d d.now inside)) refl small are
 
 pub all_slices : (slices : List (Bor (List ℕ))) (i : ℕ) → length slices ≤ i → ((k j : ℕ) → k < i → get_or (get_or (bytes_of slices) k []) j 0 < 256) → All AreBytes (bytes_of slices)
-all_slices slices i done are = all_bytes (bytes_of slices) i (omega (arith, length-map (λ (s : Bor (List ℕ)). s.now) slices)) are
+all_slices slices i done are = all_bytes (bytes_of slices) i (omega (arith, length-map slices (λ (s : Bor (List ℕ)). s.now))) are

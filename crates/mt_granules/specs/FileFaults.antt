@@ -59,7 +59,7 @@ blame fault (Err e) = Err (fault e)
 abbrev pub file_reading : Folder → List ℕ → Judged (List ℕ)
 file_reading folder name = ok_or (file_fault name why.Missing) (folder name)
 
--- what each step gives, or the fault of the first that fails
-abbrev pub in_order : {A B : Type 0} → (A → Judged B) → List A → Judged (List B)
+-- what each step gives, or what is wrong with the first that fails
+abbrev pub in_order : {A B E : Type 0} → (A → Result B E) → List A → Result (List B) E
 in_order step [] = Ok []
 in_order step (x ∷ xs) = step x >>= λ y. onto y (in_order step xs)
