@@ -2,7 +2,8 @@
 use Rattle.std.proofs.Common.{◌≡◌, ℕ, zero, suc, ◌+◌, ◌<◌, ◌≤◌, List, [], ◌∷◌, ◌++◌, length, map, take, drop, get_or, refl, ap, sym, subst, ◌∙◌, arith}
 use Rattle.std.specs.Prelude.{slice_index_or}
 use Rattle.std.specs.List.{range_with_len, concat}
-use Rattle.std.proofs.lemmas.List.{map-append, length-map}
+use Rattle.std.proofs.lemmas.List.{map-append, length-map, drop_more, take_all}
+use Rattle.std.proofs.lemmas.List.FromFn.{length-range_with_len}
 use Rattle.mt_types.specs.declared.value.Value.{Value}
 use Rattle.mt_types.specs.declared.value.Value.TheVariants.{Null}
 use Rattle.mt_defs.specs.Rows.{Row}
@@ -31,10 +32,26 @@ one_added (r ∷ rows) v d row h = ap (λ (l : List Row). (r ++ v ∷ []) ∷ l)
 
 -- ---- the rows of some columns
 
-rows_from : ℕ → ℕ → List (List Value) → List Row
+abbrev rows_from : ℕ → ℕ → List (List Value) → List Row
 rows_from first count columns = map (row_at columns) (range_with_len first count)
 
+row_more : (columns : List (List Value)) (values : List Value) (row : ℕ) → row_at (columns ++ values ∷ []) row ≡ row_at columns row ++ slice_index_or values row Null ∷ []
+row_more columns values row = map-append (λ (vs : List Value). slice_index_or vs row Null) columns (values ∷ [])
+
 -- a column more is a value more in each row
-pub column_from : (columns : List (List Value)) (values : List Value) (first count : ℕ) → first + count ≤ length values
+added_from : (columns : List (List Value)) (values : List Value) (first count : ℕ) → first + count ≤ length values
     → rows_from first count (columns ++ values ∷ []) ≡ with_column (rows_from first count columns) (take count (drop first values))
-column_from columns values first count h = ?
+added_from columns values first zero h = refl
+added_from columns values first (suc count) h =
+    let rest : drop first values ≡ get_or values first Null ∷ drop (first + 1) values = drop_more values first Null (omega arith) in
+    let here : List Row → List Row = λ more. (row_at columns first ++ get_or values first Null ∷ []) ∷ more in
+    ap (λ (row : Row). row ∷ rows_from (first + 1) count (columns ++ values ∷ [])) (row_more columns values first)
+    ∙ ap here (added_from columns values (first + 1) count (omega arith))
+    ∙ ap (λ (vs : List Value). with_column (rows_from first (suc count) columns) (take (suc count) vs)) (sym rest)
+
+pub column_added : (count : ℕ) (columns : List (List Value)) (values : List Value) → length values ≡ count → rows_of count (columns ++ values ∷ []) ≡ with_column (rows_of count columns) values
+column_added count columns values many =
+    added_from columns values 0 count (omega arith) ∙ ap (with_column (rows_of count columns)) (take_all count values (omega arith))
+
+pub length-rows_of : (count : ℕ) (columns : List (List Value)) → length (rows_of count columns) ≡ count
+length-rows_of count columns = length-map (range_with_len 0 count) (row_at columns) ∙ length-range_with_len 0 count
