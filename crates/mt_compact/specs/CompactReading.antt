@@ -1,7 +1,7 @@
 -- The rows of the two files of a Compact part, or their first fault: docs/FORMAT.md, "Compact parts" and "The first
 -- fault" (ClickHouse: MergeTreeReaderCompact).
 use Rattle.std.specs.Prelude.{ℕ, ◌+◌, ◌*◌, List, [], length, map, slice_index_or, Result, Ok, Err}
-use Rattle.std.specs.List.{concat, enumerate_from}
+use Rattle.std.specs.List.{enumerate_from}
 use Rattle.mt_types.specs.declared.value.Value.{Value}
 use Rattle.mt_types.specs.Steps.{◌>>=◌, require, onto}
 use Rattle.mt_table.specs.declared.column.Column.{Column}
@@ -14,7 +14,7 @@ use Rattle.mt_defs.specs.Compact.{compact_data_name, compact_marks_name}
 use Rattle.mt_codec.specs.ColumnReading.{front_reading, is_empty}
 use Rattle.mt_granules.specs.FileFaults.{Judged, blame, codec_why, granule_fault, in_order}
 use Rattle.mt_granules.specs.PayloadReading.{GranulePayloads, granules_reading}
-use Rattle.mt_granules.specs.ColumnRows.{rows_of}
+use Rattle.mt_granules.specs.ColumnRows.{all_values, rows_of}
 
 -- the fault of a column's values in a granule names the data file
 abbrev pub value_fault : (granule : ℕ) → ℕ × (ℕ × CodecWhy) → Fault
@@ -42,4 +42,4 @@ abbrev pub compact_reading : Folder → (count : ℕ) → List Column → Judged
 compact_reading folder count columns = do
   read ← granules_reading folder count compact_data_name compact_marks_name (length columns)
   values ← in_order (column_reading (length columns) read) (enumerate_from 0 columns)
-  Ok (rows_of count (map concat values), read.granules)
+  Ok (rows_of count (map all_values values), read.granules)

@@ -2,3 +2,9 @@ pub mod CellLemmas
 pub mod DataFileLemmas
 pub mod NumberedLemmas
 pub mod GranuleLemmas
+pub mod OrderLemmas
+pub mod RowLemmas
+pub mod RuleLemmas
+pub mod FileLemmas
+pub mod WalkLemmas
+pub mod PieceLemmas

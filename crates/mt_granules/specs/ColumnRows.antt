@@ -1,9 +1,13 @@
 -- Rows made of the values of their columns.
 use Rattle.std.specs.Prelude.{ℕ, List, [], ◌∷◌, ◌++◌, map, slice_index_or}
-use Rattle.std.specs.List.{range_with_len}
+use Rattle.std.specs.List.{flat_map, range_with_len}
 use Rattle.mt_types.specs.declared.value.Value.{Value}
 use Rattle.mt_types.specs.declared.value.Value.TheVariants.{Null}
 use Rattle.mt_defs.specs.Rows.{Row}
+
+-- a column's values, granule after granule
+abbrev pub all_values : List (List Value) → List Value
+all_values granules = flat_map (λ here. here) granules
 
 -- the row of an index: each column's value there
 abbrev pub row_at : List (List Value) → ℕ → Row

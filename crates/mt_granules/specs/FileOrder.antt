@@ -1,5 +1,5 @@
 -- Files in the byte order of their names.
-use Rattle.std.specs.Prelude.{ℕ, zero, suc, List, [], ◌∷◌, map, if◌then◌else◌, slice_index_or}
+use Rattle.std.specs.Prelude.{◌≡◌, ℕ, ◌≤◌, ◌<◌, true, false, List, length, map, slice_index_or}
 use Rattle.std.specs.Borrow.{Bor}
 use Rattle.std.specs.Ordering.{nat_cmp, is_lt}
 use Rattle.std.specs.Cmp.Lexicographic.{slice_cmp}
@@ -14,7 +14,8 @@ files_in files = map (λ file. file.now) files
 abbrev pub name_cmp : FileBytes → FileBytes → Ordering
 name_cmp a b = slice_cmp nat_cmp a.name b.name
 
--- how many of the first files have a lesser name
-unfoldable pub count_below : List ℕ → List FileBytes → ℕ
-count_below name [] = 0
-count_below name (file ∷ files) = if is_lt (slice_cmp nat_cmp file.name name) then suc (count_below name files) else 0
+-- the files before an index have lesser names, and no others
+pub record IsLowerBound (name : List ℕ) (files : List FileBytes) (index : ℕ) : Type 0 where
+  pub within : index ≤ length files
+  pub below : (k : ℕ) (d : FileBytes) → k < index → is_lt (slice_cmp nat_cmp (slice_index_or files k d).name name) ≡ true
+  pub above : (k : ℕ) (d : FileBytes) → index ≤ k → k < length files → is_lt (slice_cmp nat_cmp (slice_index_or files k d).name name) ≡ false

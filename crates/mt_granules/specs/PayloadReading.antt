@@ -1,6 +1,6 @@
 -- The payloads of granules, which the marks of a data file cut: docs/FORMAT.md, "Frames" and "Marks"
 -- (ClickHouse: MergeTreeReaderStream).
-use Rattle.std.specs.Prelude.{◌≡◌, ℕ, ◌+◌, ◌-◌, ◌*◌, ◌==◌, Bool, true, false, List, [], ◌∷◌, length, map, take, drop, sum, Option, Some, None, Result, Ok, Err, unwrap_or}
+use Rattle.std.specs.Prelude.{◌≡◌, ℕ, ◌+◌, ◌-◌, ◌*◌, ◌==◌, Bool, true, false, List, [], ◌∷◌, length, map, take, drop, sum, Option, Some, None, Result, Ok, Err, unwrap_or, refl}
 use Rattle.mt_types.specs.Steps.{◌>>=◌, require, ok_or}
 use Rattle.mt_shelf.specs.declared.fault.Why.TheVariants as why
 use Rattle.mt_defs.specs.declared.frame.Frame.{Frame}

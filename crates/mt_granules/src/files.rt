@@ -1,13 +1,13 @@
 //! Files by their names.
 
-ghost use Rattle.std.specs.Prelude.{◌≡◌, ◌<◌, IfOk, get_or, option_copied, vec_len};
+ghost use Rattle.std.specs.Prelude.{◌≡◌, ◌<◌, IfOk, option_copied, slice_index_or, vec_len};
 ghost use Rattle.std.specs.Ordering.{nat_cmp};
 ghost use Rattle.std.specs.Cmp.Lexicographic.{slice_cmp};
-ghost use Rattle.std.specs.Prelude.{slice_index_or};
+ghost use Rattle.mt_shelf.specs.declared.file.FileBytes.{FileBytes as Entry};
 ghost use Rattle.mt_defs.specs.Folder.{folder_of};
 ghost use Rattle.mt_granules.specs.FileFaults.{file_reading};
 ghost use Rattle.mt_granules.specs.FileFolder.{folder_in};
-ghost use Rattle.mt_granules.specs.FileOrder.{count_below, files_in};
+ghost use Rattle.mt_granules.specs.FileOrder.{IsLowerBound, files_in};
 ghost use Rattle.mt_granules.specs.Results.{Shows};
 
 use crate::fault::{FileError, file_fault};
@@ -54,7 +54,7 @@ impl<'a> FileIndex<'a> {
 
     /// How many files have a lesser name: a search by halves.
     fn count_below(&self, name: &[u8]) -> usize
-        ensures { result ≡ count_below name.now (files_in self.now.sorted.items) }
+        ensures { IsLowerBound name.now (files_in self.now.sorted.items) result }
     {
         let mut low = 0;
         let mut high = self.sorted.len();
@@ -72,6 +72,8 @@ impl<'a> FileIndex<'a> {
     /// How the name of the file of an index compares to a name.
     fn compare_at(&self, index: usize, name: &[u8]) -> Ordering
         requires { index < vec_len self.now.sorted }
+        ensures { (d : Entry) → result ≡ slice_cmp nat_cmp
+            (slice_index_or (files_in self.now.sorted.items) index d).name name.now }
     {
         self.sorted[index].name.as_slice().cmp(name)
     }

@@ -1,14 +1,14 @@
 //! The payload of one granule in a data file.
 
-ghost use Rattle.std.specs.Prelude.{◌≡◌, ◌+◌, ◌<◌, ◌≤◌, ◌++◌, List as Seq, ℕ, length, take, drop, sum, IfOk, OnOk, slice_index_or};
-ghost use Rattle.mt_defs.specs.Frames.{Block, IsFileOf, block_bytes, payload_of};
+ghost use Rattle.std.specs.Prelude.{◌≡◌, [], ◌+◌, ◌<◌, ◌≤◌, ◌++◌, List as Seq, ℕ, length, take, drop, sum, IfOk, OnOk, slice_index_or};
+ghost use Rattle.mt_defs.specs.Frames.{Block, IsBlock, IsFileOf, block_bytes, payload_of};
 ghost use Rattle.mt_granules.specs.PayloadReading.{granules_of, mark_count, positions_of};
 ghost use Rattle.mt_granules.specs.PayloadView.{bytes_of, payloads_in};
 ghost use Rattle.mt_granules.specs.Walking.{HasPayload, StartsWithFrame};
 
 use crate::payloads::{Payload, Payloads};
 use mt_defs::HEADER_BYTES;
-use mt_marks::resolve;
+use mt_marks::{Marks, resolve};
 use mt_types::{List, NoMemory};
 use std::alloc::Global;
 
@@ -28,9 +28,11 @@ impl<'a> Payloads<'a> {
 
     /// The rows of each granule, without a copy.
     pub fn into_granules(self) -> List<u64>
-        ensures { result ≡ granules_of self.marks }
+        ensures { result ≡ granules_of self.entry.marks }
     {
-        let mut rows = self.marks.rows.into_vec();
+        let Payloads { marks, .. } = self;
+        let Marks { rows, .. } = marks;
+        let mut rows = rows.into_vec();
         rows.pop();
         List::of(rows)
     }

@@ -1,8 +1,7 @@
 //! Rows made of columns.
 
 ghost use Rattle.std.specs.Prelude.{◌≡◌, ◌+◌, ◌≤◌, ◌++◌, [], length, take, drop, sum, IfOk, OnOk, vec_len};
-ghost use Rattle.std.specs.List.{concat};
-ghost use Rattle.mt_granules.specs.ColumnRows.{rows_of, with_column};
+ghost use Rattle.mt_granules.specs.ColumnRows.{all_values, rows_of, with_column};
 
 use mt_types::{List, NoMemory, Row, Value};
 use std::alloc::Global;
@@ -20,8 +19,8 @@ pub fn empty_rows(alloc: Global, count: u64, width: usize) -> Result<Vec<Row>, N
 
 /// Appends a column's values to the rows, granule by granule. No value is copied.
 pub fn append_column(values: List<List<Value>>, rows: &mut Vec<Row>) -> Result<(), NoMemory>
-    requires { length (concat values) ≤ vec_len rows.old }
-    ensures { OnOk result (rows.new.items ≡ with_column rows.old.items (concat values)) }
+    requires { length (all_values values) ≤ vec_len rows.old }
+    ensures { OnOk result (rows.new.items ≡ with_column rows.old.items (all_values values)) }
 {
     let mut first = 0;
     for granule in values.into_vec() {

@@ -1,7 +1,7 @@
 -- The rows of the files of a Wide part, or their first fault: docs/FORMAT.md, "Wide parts" and "The first fault"
 -- (ClickHouse: MergeTreeReaderWide).
 use Rattle.std.specs.Prelude.{ℕ, ◌+◌, ◌==◌, List, [], ◌∷◌, length, map, slice_index_or, Result, Ok, Err}
-use Rattle.std.specs.List.{concat, enumerate_from}
+use Rattle.std.specs.List.{enumerate_from}
 use Rattle.mt_types.specs.declared.value.Value.{Value}
 use Rattle.mt_types.specs.Steps.{◌>>=◌, require, onto}
 use Rattle.mt_table.specs.declared.column.Column.{Column}
@@ -14,7 +14,7 @@ use Rattle.mt_defs.specs.FileNames.{stream_names, data_name, marks_name}
 use Rattle.mt_codec.specs.ColumnReading.{decode_reading}
 use Rattle.mt_granules.specs.FileFaults.{Judged, blame, codec_why, file_fault, granule_fault, in_order}
 use Rattle.mt_granules.specs.PayloadReading.{granules_reading, payloads_reading}
-use Rattle.mt_granules.specs.ColumnRows.{rows_of}
+use Rattle.mt_granules.specs.ColumnRows.{all_values, rows_of}
 
 -- ---- the granules
 
@@ -73,4 +73,4 @@ abbrev pub wide_reading : Folder → (count : ℕ) → List Column → Judged (L
 wide_reading folder count columns = do
   granules ← wide_granules folder count columns
   values ← in_order (column_reading folder granules) columns
-  Ok (rows_of count (map concat values), granules)
+  Ok (rows_of count (map all_values values), granules)
