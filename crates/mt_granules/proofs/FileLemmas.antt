@@ -10,7 +10,7 @@ use Rattle.std.specs.declared.cmp.Ordering.TheVariants.{Less, Equal, Greater}
 use Rattle.std.specs.BTreeMap.Comparable.{le_lt_trans}
 use Rattle.std.proofs.Math.Path.{fun_ext}
 use Rattle.std.proofs.lemmas.Cmp.{on_total, nat_list_cmp_total}
-use Rattle.std.proofs.lemmas.List.{drop_all, drop_more, get_or-drop, get_or_default, length-drop}
+use Rattle.std.proofs.lemmas.List.{drop_all, drop_more, get_or-drop, get_or-map, get_or_default, length-drop, length-map}
 use Rattle.std.proofs.lemmas.List.Sorted.{sorted_far, ranks_by}
 use Rattle.mt_shelf.specs.declared.file.FileBytes.{FileBytes}
 use Rattle.mt_defs.specs.Folder.{folder_of, is_name}
@@ -154,15 +154,6 @@ abbrev first_of : List FileBytes → Option (List ℕ)
 first_of [] = None
 first_of (file ∷ files) = Some file.bytes
 
-first_named : (name : List ℕ) (test : FileBytes → Bool) → ((f : FileBytes) → test f ≡ is_name f.name name) → (files : List FileBytes) → folder_of files name ≡ first_of (filter test files)
-first_named name test same [] = refl
-first_named name test same (file ∷ files) =
-    by (test file) refl (first_named name test same files)
-  where
-    by : (b : Bool) → test file ≡ b → folder_of files name ≡ first_of (filter test files) → folder_of (file ∷ files) name ≡ first_of (filter test (file ∷ files))
-    by true e more = ap (λ (b : Bool). if b then Some file.bytes else folder_of files name) (sym (same file) ∙ e) ∙ sym (ap (λ (b : Bool). first_of (if b then file ∷ filter test files else filter test files)) e)
-    by false e more = ap (λ (b : Bool). if b then Some file.bytes else folder_of files name) (sym (same file) ∙ e) ∙ more ∙ sym (ap (λ (b : Bool). first_of (if b then file ∷ filter test files else filter test files)) e)
-
 ties_name : (name : List ℕ) (f : FileBytes) → ties comes_before (record { name = name; bytes = [] }) f ≡ is_name f.name name
 ties_name name f = by (cmp f.name name) (cmp name f.name) (nat_list_cmp_total.antisymm name f.name)
   where
@@ -171,7 +162,41 @@ ties_name name f = by (cmp f.name name) (cmp name f.name) (nat_list_cmp_total.an
     by Equal r e = ap (λ (q : Ordering). not (is_lt q) && true) e
     by Greater r e = ap (λ (q : Ordering). not (is_lt q) && true) e
 
-pub same_folder : (files sorted : List FileBytes) → IsStable name_cmp files sorted → folder_of sorted ≡ folder_of files
-same_folder files sorted stable = fun_ext (λ name.
-    let tie : FileBytes → Bool = ties comes_before (record { name = name; bytes = [] }) in
-    first_named name tie (ties_name name) sorted ∙ ap first_of (stable (record { name = name; bytes = [] })) ∙ sym (first_named name tie (ties_name name) files))
+-- ---- the same of references
+
+at_index : (files : List (Bor FileBytes)) (k : ℕ) (d : FileBytes) (e : Bor FileBytes) → k < length files → get_or (files_in files) k d ≡ (get_or files k e).now
+at_index files k d e h = get_or-map (λ (f : Bor FileBytes). f.now) files k e d h
+
+pub reference_at : (files : List (Bor FileBytes)) (k : ℕ) (file : Bor FileBytes) → k < length files → file ≡ get_or files k file → file.now ≡ get_or (files_in files) k file.now
+reference_at files k file h at = ap (λ (f : Bor FileBytes). f.now) at ∙ sym (at_index files k file.now file h)
+
+pub files_many : (files : List (Bor FileBytes)) → length (files_in files) ≡ length files
+files_many files = length-map files (λ (f : Bor FileBytes). f.now)
+
+pub files_rise : (files : List (Bor FileBytes)) → IsSorted (λ a b. name_cmp a.now b.now) files → IsSorted name_cmp (files_in files)
+files_rise files up = λ k d from to.
+    let long = length-map files (λ (f : Bor FileBytes). f.now) in
+    let e : Bor FileBytes = a_reference files (omega (arith, to, long)) in
+    let here = at_index files k d e (omega (arith, to, long)) in
+    let next = at_index files (k + 1) d e (omega (arith, to, long)) in
+    ap (λ (a : FileBytes). is_lt (name_cmp a (get_or (files_in files) k d))) next ∙ ap (λ (b : FileBytes). is_lt (name_cmp (get_or files (k + 1) e).now b)) here
+    ∙ up k e from (omega (arith, to, long))
+  where
+    a_reference : (files : List (Bor FileBytes)) → 0 < length files → Bor FileBytes
+    a_reference [] h = absurd (omega arith)
+    a_reference (f ∷ files) h = f
+
+named_in : (name : List ℕ) (test : Bor FileBytes → Bool) → ((f : Bor FileBytes) → test f ≡ is_name f.now.name name) → (files : List (Bor FileBytes)) → folder_of (files_in files) name ≡ first_of (files_in (filter test files))
+named_in name test same [] = refl
+named_in name test same (file ∷ files) =
+    by (test file) refl (named_in name test same files)
+  where
+    by : (b : Bool) → test file ≡ b → folder_of (files_in files) name ≡ first_of (files_in (filter test files)) → folder_of (files_in (file ∷ files)) name ≡ first_of (files_in (filter test (file ∷ files)))
+    by true e more = ap (λ (b : Bool). if b then Some file.now.bytes else folder_of (files_in files) name) (sym (same file) ∙ e) ∙ sym (ap (λ (b : Bool). first_of (files_in (if b then file ∷ filter test files else filter test files))) e)
+    by false e more = ap (λ (b : Bool). if b then Some file.now.bytes else folder_of (files_in files) name) (sym (same file) ∙ e) ∙ more ∙ sym (ap (λ (b : Bool). first_of (files_in (if b then file ∷ filter test files else filter test files))) e)
+
+pub files_stay : (files sorted : List (Bor FileBytes)) → IsStable (λ a b. name_cmp a.now b.now) files sorted → folder_of (files_in sorted) ≡ folder_of (files_in files)
+files_stay files sorted stable = fun_ext (λ name.
+    let one : Bor FileBytes = record { ref_ptr = (0, 0); now = record { name = name; bytes = [] } } in
+    let tie : Bor FileBytes → Bool = λ f. ties comes_before (record { name = name; bytes = [] }) f.now in
+    named_in name tie (λ f. ties_name name f.now) sorted ∙ ap (λ fs. first_of (files_in fs)) (stable one) ∙ sym (named_in name tie (λ f. ties_name name f.now) files))

@@ -91,3 +91,65 @@ walk_goes_on frames rest after payload size left count old now new some count_is
 pub walk_ends : (frames rest : List ℕ) (size left : ℕ) (old now : List ℕ) → left ≤ 0 → Walks frames rest size left old now → (whole : List Block) → IsFileOf whole frames → now ≡ old ++ take size (payload_of whole)
 walk_ends frames rest size left old now none had whole is =
     sym (had.so_far whole is ∙ ap (λ (k : ℕ). now ++ take k (payload_of had.blocks)) (let z : left ≡ 0 = omega arith in z) ∙ append-nil now)
+
+-- each step takes a byte
+pub walk_takes : (frames rest after payload : List ℕ) (size left : ℕ) (old now : List ℕ) → 0 < left → ((c : Block) (more : List ℕ) → rest ≡ block_bytes c ++ more → IsBlock c → (payload ≡ c.payload) × (after ≡ more))
+    → Walks frames rest size left old now → 1 ≤ length payload
+walk_takes frames rest after payload size left old now some split had = by had.blocks had.is_file had.there
+  where
+    by : (blocks : List Block) → IsFileOf blocks rest → left ≤ length (payload_of blocks) → 1 ≤ length payload
+    by [] is there = absurd (omega arith)
+    by (c ∷ cs) is there = let first = All-head IsBlock c cs is.each in omega (arith, first.not_empty, ap (λ (p : List ℕ). length p) (split c (file_of cs) is.bytes first).0)
+
+-- ---- the first frame and the others
+
+pub record FirstParts (frames payload after : List ℕ) (inner size : ℕ) : Type 0 where
+  pub others : List Block
+  pub is_file : IsFileOf others after
+  pub in_first : inner ≤ length payload
+  pub long : inner + size ≤ length payload + length (payload_of others)
+  pub whole : (blocks : List Block) → IsFileOf blocks frames → payload_of blocks ≡ payload ++ payload_of others
+
+pub has_first : (frames : List ℕ) (inner size : ℕ) → 1 ≤ size → HasPayload frames inner size → StartsWithFrame frames
+has_first frames inner size some has = first_there has.blocks frames has.is_file (omega (arith, some, has.there))
+
+pub first_parts : (frames payload after : List ℕ) (inner size : ℕ) → 1 ≤ size → ((c : Block) (more : List ℕ) → frames ≡ block_bytes c ++ more → IsBlock c → (payload ≡ c.payload) × (after ≡ more))
+    → HasPayload frames inner size → FirstParts frames payload after inner size
+first_parts frames payload after inner size some split has = by has.blocks has.is_file has.there has.in_first
+  where
+    by : (blocks : List Block) → IsFileOf blocks frames → inner + size ≤ length (payload_of blocks) → ((first : Block) (others : List Block) → blocks ≡ first ∷ others → inner ≤ length first.payload) → FirstParts frames payload after inner size
+    by [] is there in_first = absurd (omega arith)
+    by (c ∷ cs) is there in_first =
+        let parts = split c (file_of cs) is.bytes (All-head IsBlock c cs is.each) in
+        let size_is : length payload ≡ length c.payload = ap (λ (p : List ℕ). length p) parts.0 in
+        record {
+          others = cs;
+          is_file = record { each = All-tail IsBlock c cs is.each; bytes = parts.1 };
+          in_first = omega (arith, in_first c cs refl, size_is);
+          long = omega (arith, there, size_is, length-append c.payload (payload_of cs));
+          whole = λ blocks are. ap payload_of (one_file frames blocks (c ∷ cs) are is) ∙ ap (λ (p : List ℕ). p ++ payload_of cs) (sym parts.0);
+        }
+
+-- a payload that lies in the first frame
+pub within_first : (frames payload after first : List ℕ) (inner size : ℕ) → first ≡ drop inner payload → size ≤ length first → FirstParts frames payload after inner size → (blocks : List Block) → IsFileOf blocks frames
+    → take size first ≡ take size (drop inner (payload_of blocks))
+within_first frames payload after first inner size is few parts blocks are =
+    sym (ap (λ (p : List ℕ). take size (drop inner p)) (parts.whole blocks are) ∙ ap (take size) (drop_within inner payload (payload_of parts.others) parts.in_first ∙ ap (λ (l : List ℕ). l ++ payload_of parts.others) (sym is))
+        ∙ take_within size first (payload_of parts.others) few)
+
+-- one that goes on in the others
+pub past_first : (frames payload after first out all : List ℕ) (inner size : ℕ) → first ≡ drop inner payload → length first ≤ size → out ≡ first
+    → ((others : List Block) → IsFileOf others after → all ≡ out ++ take (size - length first) (payload_of others)) → FirstParts frames payload after inner size → (blocks : List Block) → IsFileOf blocks frames
+    → all ≡ take size (drop inner (payload_of blocks))
+past_first frames payload after first out all inner size is many out_is all_is parts blocks are =
+    all_is parts.others parts.is_file ∙ ap (λ (l : List ℕ). l ++ take (size - length first) (payload_of parts.others)) out_is
+    ∙ sym (ap (λ (p : List ℕ). take size (drop inner p)) (parts.whole blocks are) ∙ ap (take size) (drop_within inner payload (payload_of parts.others) parts.in_first ∙ ap (λ (l : List ℕ). l ++ payload_of parts.others) (sym is))
+        ∙ take_past size first (payload_of parts.others) many)
+
+pub others_have : (frames payload after first : List ℕ) (inner size : ℕ) → first ≡ drop inner payload → FirstParts frames payload after inner size → HasPayload after 0 (size - length first)
+others_have frames payload after first inner size is parts = record {
+  blocks = parts.others;
+  is_file = parts.is_file;
+  there = omega (arith, parts.long, parts.in_first, ap (λ (l : List ℕ). length l) is, length-drop inner payload);
+  in_first = λ first others e. omega arith;
+}

@@ -1,6 +1,7 @@
 //! The payload of one granule in a data file.
 
-ghost use Rattle.std.specs.Prelude.{◌≡◌, [], ◌+◌, ◌<◌, ◌≤◌, ◌++◌, List as Seq, ℕ, length, take, drop, sum, IfOk, OnOk, slice_index_or};
+ghost use Rattle.std.specs.Prelude.{◌≡◌, [], ◌+◌, ◌<◌, ◌≤◌, ◌++◌, ◌^◌, List as Seq, ℕ, length, take, drop, sum, IfOk, OnOk, slice_index_or};
+ghost use Rattle.std.specs.Int.{w32, to_le_bytes};
 ghost use Rattle.mt_defs.specs.Frames.{Block, IsBlock, IsFileOf, block_bytes, payload_of};
 ghost use Rattle.mt_granules.specs.PayloadReading.{granules_of, mark_count, positions_of};
 ghost use Rattle.mt_granules.specs.PayloadView.{bytes_of, payloads_in};
@@ -47,7 +48,8 @@ impl<'a> Payloads<'a> {
         let mark = self.marks.places.as_slice()[index];
         let size = self.position(index + 1) - self.position(index);
         let frames = tail(self.file, mark.offset as usize);
-        payload_from(alloc, frames, mark.inner as usize, size as usize)
+        let payload = payload_from(alloc, frames, mark.inner as usize, size as usize)?;
+        Ok(payload)
     }
 
     /// The position of a mark, by the mark's index.
@@ -135,6 +137,8 @@ fn split_frame(frames: &[u8]) -> (&[u8], &[u8])
 /// The length of the payload, by a frame's header.
 fn payload_size(header: &[u8]) -> usize
     requires { length header.now ≡ HEADER_BYTES }
+    ensures bytes { to_le_bytes w32 result ≡ take 4 (drop 21 header.now) }
+    ensures small { result < 2 ^ 32 }
 {
     u32::from_le_bytes([
         header[PAYLOAD_SIZE_OFFSET],

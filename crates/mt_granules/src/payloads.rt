@@ -1,6 +1,7 @@
 //! A data file and the marks that cut it.
 
 ghost use Rattle.std.specs.Prelude.{◌≡◌, Ok, None};
+ghost use Rattle.mt_defs.specs.Lists.{AreBytes};
 ghost use Rattle.mt_marks.specs.Entries.{AreMarks, entries_of};
 ghost use Rattle.mt_marks.specs.MarkReading.{rules_reading};
 ghost use Rattle.mt_granules.specs.PayloadReading.{frames_in};
@@ -19,6 +20,7 @@ pub struct Payloads<'a> {
     pub(crate) frames: Frames,
     /// The marks of all granules, and of the end.
     pub(crate) marks: Marks,
+    ghost bytes: { AreBytes file.now },
     ghost framed: { frames_in file.now ≡ Ok frames },
     ghost ruled: { rules_reading frames 0 0 None (entries_of marks) ≡ Ok tt },
     ghost complete: { AreMarks marks },

@@ -1,7 +1,9 @@
 //! Reading a data file and its marks file.
 
 ghost use Rattle.std.specs.Prelude.{◌≡◌, ◌<◌, ◌≤◌, length, IfOk, get_or, slice_index_or};
+ghost use Rattle.mt_defs.specs.Lists.{AreBytes};
 ghost use Rattle.mt_marks.specs.declared.marks.TheConstants.{MAX_PER_GRANULE};
+ghost use Rattle.mt_marks.specs.Entries.{AreMarks};
 ghost use Rattle.mt_marks.specs.MarkReading.{marks_reading};
 ghost use Rattle.mt_granules.specs.FileFaults.{blame, frame_fault, frame_why, marks_fault};
 ghost use Rattle.mt_granules.specs.FileFolder.{folder_in};
@@ -68,7 +70,8 @@ pub fn read_granules<'a>(
 
 /// Where the frames of a data file lie.
 fn read_frames(alloc: Global, name: &[u8], file: &[u8]) -> Result<Frames, FileError>
-    ensures { Gives result (blame (frame_fault name.now) (frames_in file.now)) }
+    ensures reads { Gives result (blame (frame_fault name.now) (frames_in file.now)) }
+    ensures bytes { IfOk result (λ frames. AreBytes file.now) }
 {
     match frames_of(alloc, file) {
         Ok(frames) => Ok(frames),
@@ -105,7 +108,8 @@ fn read_marks(
 ) -> Result<Marks, FileError>
     requires some { 1 ≤ per_granule }
     requires few { per_granule ≤ MAX_PER_GRANULE }
-    ensures { Gives result (blame (marks_fault name.now) (marks_reading per_granule frames.now bytes.now)) }
+    ensures reads { Gives result (blame (marks_fault name.now) (marks_reading per_granule frames.now bytes.now)) }
+    ensures complete { IfOk result AreMarks }
 {
     match read_mrk3(alloc, bytes, per_granule, frames) {
         Ok(marks) => Ok(marks),
