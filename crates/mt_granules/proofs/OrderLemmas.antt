@@ -1,6 +1,8 @@
 -- Steps that are taken in order.
-use Rattle.std.proofs.Common.{◌≡◌, ℕ, ◌+◌, ◌<◌, ◌≤◌, List, [], ◌∷◌, ◌++◌, length, take, drop, get_or, refl, ap, sym, subst, ◌∙◌, arith}
+use Rattle.std.proofs.Common.{◌≡◌, ℕ, ◌+◌, ◌<◌, ◌≤◌, List, [], ◌∷◌, ◌++◌, length, take, drop, get_or, refl, ap, sym, subst, ◌∙◌, arith, zero-add}
 use Rattle.std.specs.Prelude.{Result, Ok, Err}
+use Rattle.std.specs.List.{enumerate_from}
+use Rattle.std.proofs.lemmas.List.FromFn.{length-enumerate_from, get_or-enumerate_from}
 use Rattle.std.proofs.lemmas.List.{take_all, take_more, drop_more, take-append-drop}
 use Rattle.mt_table.specs.Rows.{Pointwise}
 use Rattle.mt_types.specs.Steps.{◌>>=◌, onto}
@@ -54,3 +56,21 @@ module _ {A B E : Type 0} (step : A → Result B E) where
 
   pub order_ends : (xs : List A) (i : ℕ) (ys : List B) → length xs ≤ i → in_order step (take i xs) ≡ Ok ys → in_order step xs ≡ Ok ys
   order_ends xs i ys h e = ap (in_order step) (sym (take_all i xs h)) ∙ e
+
+  -- ---- a loop over numbered things
+
+numbered_at : {A : Type 0} (xs : List A) (i : ℕ) (x : A) → i < length xs → x ≡ get_or xs i x → (i, x) ≡ get_or (enumerate_from 0 xs) i (i, x)
+numbered_at xs i x h at = sym (get_or-enumerate_from 0 xs i (i, x) h ∙ ap (λ n. (n, get_or xs i x)) (zero-add i) ∙ ap (λ y. (i, y)) (sym at))
+
+module _ {A B E : Type 0} (step : ℕ × A → Result B E) (xs : List A) (i : ℕ) (x : A) (ys : List B) (e : in_order step (take i (enumerate_from 0 xs)) ≡ Ok ys) where
+  few : length (enumerate_from 0 xs) ≡ length xs
+  few = length-enumerate_from 0 xs
+
+  pub numbered_continues : (y : B) → i < length xs → x ≡ get_or xs i x → step (i, x) ≡ Ok y → in_order step (take (i + 1) (enumerate_from 0 xs)) ≡ Ok (ys ++ y ∷ [])
+  numbered_continues y h at is = order_continues step (enumerate_from 0 xs) i (i, x) ys y (omega (arith, h, few)) (numbered_at xs i x h at) e is
+
+  pub numbered_stops : (w : E) → i < length xs → x ≡ get_or xs i x → step (i, x) ≡ Err w → in_order step (enumerate_from 0 xs) ≡ Err w
+  numbered_stops w h at is = order_stops step (enumerate_from 0 xs) i (i, x) ys w (omega (arith, h, few)) (numbered_at xs i x h at) e is
+
+  pub numbered_ends : length xs ≤ i → in_order step (enumerate_from 0 xs) ≡ Ok ys
+  numbered_ends h = order_ends step (enumerate_from 0 xs) i ys (omega (arith, h, few)) e

@@ -68,9 +68,13 @@ column_reading folder granules column = do
 
 -- ---- the rows
 
+-- the rows of these columns, so many, whose granules are known
+abbrev pub rows_reading : Folder → (granules : List ℕ) → (count : ℕ) → List Column → Judged (List Row)
+rows_reading folder granules count columns = in_order (column_reading folder granules) columns >>= λ values. Ok (rows_of count (map all_values values))
+
 -- the rows of these columns, so many, and their granules
 abbrev pub wide_reading : Folder → (count : ℕ) → List Column → Judged (List Row × List ℕ)
 wide_reading folder count columns = do
   granules ← wide_granules folder count columns
-  values ← in_order (column_reading folder granules) columns
-  Ok (rows_of count (map all_values values), granules)
+  rows ← rows_reading folder granules count columns
+  Ok (rows, granules)

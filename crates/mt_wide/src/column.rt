@@ -3,7 +3,7 @@
 ghost use Rattle.std.specs.Prelude.{◌≡◌, ◌<◌, ◌≤◌, [], length, map, sum, All, IfOk, IsTrue, OnOk, slice_index_or};
 ghost use Rattle.mt_types.specs.Profile.{is_profile};
 ghost use Rattle.mt_table.specs.declared.limits.TheConstants.{MAX_ROWS};
-ghost use Rattle.mt_defs.specs.FileNames as names;
+ghost use Rattle.mt_defs.specs.FileNames as defined;
 ghost use Rattle.mt_codec.specs.Results.{bytes_of as slice_bytes};
 ghost use Rattle.mt_granules.specs.FileFaults.{in_order};
 ghost use Rattle.mt_granules.specs.FileFolder.{folder_in};
@@ -11,7 +11,7 @@ ghost use Rattle.mt_granules.specs.PayloadReading.{granules_of, mark_count};
 ghost use Rattle.mt_granules.specs.PayloadView.{bytes_of, payloads_in};
 ghost use Rattle.mt_granules.specs.Results.{Gives, Names, Shows};
 ghost use Rattle.mt_wide.specs.WideReading.{column_reading, granule_reading, granules_check, payloads_at, stream_reading};
-ghost use Rattle.mt_wide.specs.StreamView.{streams_in};
+ghost use Rattle.mt_wide.specs.StreamView.{HasGranules, TellsOf, streams_in};
 
 use crate::names::{stream_names, with_ending};
 use mt_codec::{CodecError, decode};
@@ -59,7 +59,8 @@ fn read_streams<'a>(
     granules: &[u64],
     names: &[List<u8>],
 ) -> Result<List<Payloads<'a>>, FileError>
-    ensures { Shows streams_in result (in_order (stream_reading (folder_in folder.now) granules.now) names.now) }
+    ensures reads { Shows streams_in result (in_order (stream_reading (folder_in folder.now) granules.now) names.now) }
+    ensures each { IfOk result (All (HasGranules granules.now)) }
 {
     let mut streams = List::with_capacity(alloc, names.len())?;
     for name in names {
@@ -75,7 +76,8 @@ fn read_stream<'a>(
     granules: &[u64],
     name: &[u8],
 ) -> Result<Payloads<'a>, FileError>
-    ensures { Shows (λ read. (payloads_in read).payloads) result (stream_reading (folder_in folder.now) granules.now name.now) }
+    ensures reads { Shows (λ read. (payloads_in read).payloads) result (stream_reading (folder_in folder.now) granules.now name.now) }
+    ensures each { IfOk result (HasGranules granules.now) }
 {
     let data_name = with_ending(alloc, name, b".bin")?;
     let marks_name = with_ending(alloc, name, b".mrk2")?;
@@ -116,7 +118,7 @@ fn read_granule(
 ) -> Result<List<Value>, FileError>
     requires profile { IsTrue (is_profile column.now.ty) }
     requires few { rows ≤ MAX_ROWS }
-    requires named { names.now ≡ names.stream_names column.now }
+    requires named { names.now ≡ defined.stream_names column.now }
     requires complete { length streams.now ≡ length names.now }
     requires within { All (λ read. granule < mark_count read.marks) streams.now }
     ensures reads { Gives result (granule_reading column.now (streams_in streams.now) (granule, rows)) }
@@ -159,6 +161,7 @@ fn slices_of<'a>(alloc: Global, payloads: &'a [Payload<'_>]) -> Result<Vec<&'a [
 
 /// The fault of a granule's values: it names the data file of their substream.
 fn value_fault(alloc: Global, names: &[List<u8>], granule: usize, error: CodecError) -> FileError
+    ensures { TellsOf names.now granule error result }
 {
     match error {
         CodecError::At { stream, why, .. } => {
