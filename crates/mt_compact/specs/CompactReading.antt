@@ -37,9 +37,13 @@ granule_reading column column_index width payloads (granule, count) =
 abbrev pub column_reading : (width : ℕ) → GranulePayloads → ℕ × Column → Judged (List (List Value))
 column_reading width read (column_index, column) = in_order (granule_reading column column_index width read.payloads) (enumerate_from 0 read.granules)
 
+-- the rows of these columns, so many, whose payloads these are
+abbrev pub rows_reading : GranulePayloads → (count : ℕ) → List Column → Judged (List Row)
+rows_reading read count columns = in_order (column_reading (length columns) read) (enumerate_from 0 columns) >>= λ values. Ok (rows_of count (map all_values values))
+
 -- the rows of these columns, so many, and their granules
 abbrev pub compact_reading : Folder → (count : ℕ) → List Column → Judged (List Row × List ℕ)
 compact_reading folder count columns = do
   read ← granules_reading folder count compact_data_name compact_marks_name (length columns)
-  values ← in_order (column_reading (length columns) read) (enumerate_from 0 columns)
-  Ok (rows_of count (map all_values values), read.granules)
+  rows ← rows_reading read count columns
+  Ok (rows, read.granules)

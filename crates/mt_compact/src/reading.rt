@@ -1,12 +1,13 @@
 //! Reading the two files of a Compact part.
 
-ghost use Rattle.std.specs.Prelude.{◌≡◌, ◌*◌, ◌+◌, ◌<◌, ◌≤◌, length, map, sum, All, IfOk, IsTrue};
+ghost use Rattle.std.specs.Prelude.{◌≡◌, [], ◌*◌, ◌+◌, ◌<◌, ◌≤◌, length, map, sum, All, IfOk, IsTrue, slice_index_or};
 ghost use Rattle.mt_types.specs.Profile.{is_profile};
 ghost use Rattle.mt_table.specs.declared.limits.TheConstants.{MAX_CELLS, MAX_COLUMNS, MAX_ROWS};
 ghost use Rattle.mt_defs.specs.Folder.{folder_of};
+ghost use Rattle.mt_granules.specs.PayloadReading.{mark_count};
 ghost use Rattle.mt_granules.specs.PayloadView.{payloads_in};
-ghost use Rattle.mt_granules.specs.Results.{Gives, GivesRead};
-ghost use Rattle.mt_compact.specs.CompactReading.{column_reading, compact_reading, payload_reading};
+ghost use Rattle.mt_granules.specs.Results.{Gives, GivesRead, Shows};
+ghost use Rattle.mt_compact.specs.CompactReading.{column_reading, compact_reading, payload_reading, rows_reading};
 
 use mt_codec::{CodecError, decode_front};
 use mt_granules::{
@@ -58,14 +59,32 @@ fn read_rows(
     ensures { Gives result (compact_reading (folder_of files.now) count columns.now) }
 {
     let folder = FileIndex::of(alloc, files)?;
+    let width = columns.len() as u64;
+    let payloads = read_granules(alloc, &folder, count, DATA_NAME, MARKS_NAME, width)?;
+    let rows = read_columns(alloc, &payloads, count, columns)?;
+    Ok((List::of(rows), payloads.into_granules()))
+}
+
+/// The rows of the columns, so many, whose payloads these are.
+fn read_columns(
+    alloc: Global,
+    payloads: &Payloads<'_>,
+    count: u64,
+    columns: &[Column],
+) -> Result<Vec<Row>, FileError>
+    requires profile { All (λ column. IsTrue (is_profile column.ty)) columns.now }
+    requires rows { count ≤ MAX_ROWS }
+    requires each { payloads.now.marks.per_granule ≡ length columns.now }
+    requires all { sum (payloads_in payloads.now).granules ≡ count }
+    ensures { Shows (λ rows. rows.items) result (rows_reading (payloads_in payloads.now) count columns.now) }
+{
     let width = columns.len();
-    let payloads = read_granules(alloc, &folder, count, DATA_NAME, MARKS_NAME, width as u64)?;
     let mut rows = empty_rows(alloc, count, width)?;
     for (column_index, column) in columns.iter().enumerate() {
-        let values = read_column(alloc, &payloads, width, column_index, column)?;
+        let values = read_column(alloc, payloads, width, column_index, column)?;
         append_column(values, &mut rows)?;
     }
-    Ok((List::of(rows), payloads.into_granules()))
+    Ok(rows)
 }
 
 /// The values of the column of an index in each granule, of so many columns, or the first fault.
@@ -86,16 +105,37 @@ pub fn read_column(
     let granules = payloads.granules();
     let mut values = List::with_capacity(alloc, granules.len())?;
     for (granule, rows) in granules.iter().enumerate() {
-        let payload = payloads.payload(alloc, granule * width + column_index)?;
-        values.push(read_payload(
+        let index = granule * width + column_index;
+        values.push(read_granule(
             alloc,
+            payloads,
+            index,
             column,
-            payload.as_slice(),
             granule as u64,
             *rows,
         )?)?;
     }
     Ok(values)
+}
+
+/// A column's values in a granule of so many rows, of the payload of an index.
+fn read_granule(
+    alloc: Global,
+    payloads: &Payloads<'_>,
+    index: usize,
+    column: &Column,
+    granule: u64,
+    rows: u64,
+) -> Result<List<Value>, FileError>
+    requires profile { IsTrue (is_profile column.now.ty) }
+    requires few { rows ≤ MAX_ROWS }
+    requires index { index < mark_count payloads.now.marks }
+    ensures reads { Gives result (payload_reading column.now granule rows
+        (slice_index_or (payloads_in payloads.now).payloads index [])) }
+    ensures many { IfOk result (λ values. length values ≡ rows) }
+{
+    let payload = payloads.payload(alloc, index)?;
+    read_payload(alloc, column, payload.as_slice(), granule, rows)
 }
 
 /// A column's values in a granule of so many rows, which take all of its payload.

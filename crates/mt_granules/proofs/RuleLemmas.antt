@@ -1,8 +1,9 @@
 -- What the rules of marks fix: each mark's position; positions and offsets that never fall, from the start to the end.
-use Rattle.std.proofs.Common.{◌≡◌, ℕ, ◌+◌, ◌*◌, ◌<◌, ◌≤◌, List, [], ◌∷◌, ◌++◌, length, map, take, drop, refl, ap, sym, ◌∙◌, subst, Option, Some, None, Bool, true, false, arith, append_assoc}
-use Rattle.std.specs.Prelude.{Result, Ok, Err, nat_le, ◌==◌, ◌&&◌, ◌||◌, not, All}
+use Rattle.std.proofs.Common.{◌≡◌, ℕ, suc, ◌+◌, ◌-◌, ◌*◌, ◌^◌, ◌<◌, ◌≤◌, List, [], ◌∷◌, ◌++◌, length, map, take, drop, refl, ap, sym, ◌∙◌, subst, Option, Some, None, Bool, true, false, arith, append_assoc}
+use Rattle.std.specs.Prelude.{Result, Ok, Err, nat_le, nat_lt, ◌==◌, ◌&&◌, ◌||◌, not, All}
 use Rattle.std.proofs.lemmas.Bool.{leb-true, eqb-true, le-leb, and_parts}
 use Rattle.std.proofs.lemmas.List.{take-append-drop, length-drop}
+use Rattle.std.proofs.lemmas.List.Elements.{All-nil, All-cons}
 use Rattle.mt_shelf.specs.declared.fault.Why.{Why}
 use Rattle.mt_shelf.specs.declared.fault.Why.TheVariants as why
 use Rattle.mt_table.specs.Rows.{Pointwise}
@@ -13,7 +14,7 @@ use Rattle.mt_types.proofs.StepLemmas.{ok_then, at_ok_then, ok_one, required, pa
 use Rattle.mt_marks.specs.Entries.{Entry}
 use Rattle.mt_marks.specs.MarkReading.{offset_before, position_before, is_placed, payload_len, mark_reading, last_reading, rules_reading, are_rows, is_last, ok_or}
 use Rattle.mt_marks.specs.Positions.{position_of}
-use Rattle.mt_marks.proofs.RawLemmas.{all_marks}
+use Rattle.mt_marks.proofs.RawLemmas.{all_marks, all_rows}
 
 -- what a reading of four arguments gives
 abbrev pub ReadBy : {A B C D R E : Type 0} → (A → B → C → D → Result R E) → Type 0
@@ -181,3 +182,15 @@ climb_all frames total former [] (ns ∷ ps) are = absurd are
 climb_all frames total former (x ∷ es) [] are = absurd are
 climb_all frames total former (x ∷ es) (ns ∷ ps) are =
     climb_entry frames (is_last es) former x.marks ns are.1.0 (all_marks es) (joined ps) are.1.1 (climb_all frames (total + x.rows) are.1.0 es ps are.1.2)
+
+-- ---- what it says of the rows
+
+-- each entry but the last has a row
+pub entries_rows : (frames : Frames) (total : ℕ) (former : Option Former) (es : List Entry) (ps : List (List ℕ)) → AreEntries frames total former es ps → All (λ n. 1 ≤ n) (take (length es - 1) (all_rows es))
+entries_rows frames total former [] ps are = All-nil (λ n. 1 ≤ n)
+entries_rows frames total former (x ∷ es) [] are = absurd are
+entries_rows frames total former (x ∷ []) (ns ∷ ps) are = All-nil (λ n. 1 ≤ n)
+entries_rows frames total former (x ∷ y ∷ es) (ns ∷ ps) are =
+    let some : 1 ≤ x.rows = leb-true 1 x.rows (and_parts (nat_le 1 x.rows) (nat_lt (total + x.rows) (2 ^ 64)) are.0).0 in
+    subst (λ (k : ℕ). All (λ n. 1 ≤ n) (take k (all_rows (x ∷ y ∷ es)))) (let z : suc (length (y ∷ es) - 1) ≡ length (x ∷ y ∷ es) - 1 = omega arith in z)
+    (All-cons (λ n. 1 ≤ n) x.rows (take (length (y ∷ es) - 1) (all_rows (y ∷ es))) some (entries_rows frames (total + x.rows) are.1.0 (y ∷ es) ps are.1.2))
