@@ -10,6 +10,5 @@ pub mod MarkLemmas
 pub mod NoRowsLemmas
 pub mod OrderLemmas
 pub mod SizeLemmas
-pub mod StableLemmas
 pub mod StandsLemmas
 pub mod WideLemmas
