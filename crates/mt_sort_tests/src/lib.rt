@@ -4,6 +4,8 @@
 #![tactic(auto)]
 
 #[cfg(test)]
+mod merges;
+#[cfg(test)]
 mod sorts;
 #[cfg(test)]
 mod tables;
