@@ -1,7 +1,6 @@
 //! Inputs one after another, sorted.
 
 ghost use Rattle.std.specs.Prelude.{◌≡◌, flat_map, IfOk};
-ghost use Rattle.std.specs.List.Sorted.{IsPermutation};
 ghost use Rattle.mt_defs.specs.Sorting.{merged_rows};
 
 use mt_sort::sort_rows;
@@ -18,8 +17,7 @@ pub fn merge_rows(
     table: &Table,
     inputs: List<List<Row>>,
 ) -> Result<List<Row>, NoMemory>
-    ensures order { IfOk result (λ merged. merged ≡ merged_rows table.now.sort inputs) }
-    ensures kept { IfOk result (IsPermutation (flat_map (λ rows. rows) inputs)) }
+    ensures { IfOk result (λ merged. merged ≡ merged_rows table.now.sort inputs) }
 {
     let rows = all_rows(alloc, inputs)?;
     sort_rows(alloc, table, rows)
