@@ -2,4 +2,7 @@ pub mod StableLemmas
 pub mod SortedLemmas
 pub mod OrderLemmas
 pub mod RankLemmas
-pub mod RankedLemmas
+pub mod ColumnLemmas
+pub mod OneRankLemmas
+pub mod TwoRanksLemmas
+pub mod LawLemmas

@@ -6,7 +6,7 @@ use Rattle.std.specs.declared.cmp.Ordering.TheVariants.{Less, Equal}
 use Rattle.std.specs.Ordering.{ordering_then, nat_cmp, int_cmp}
 use Rattle.std.specs.Cmp.{int_cmp_is, nat_cmp_is}
 use Rattle.std.specs.Cmp.Lexicographic.{slice_cmp}
-use Rattle.std.proofs.lemmas.Bool.{cases_Bool, cases_order, ltb-true, ltb-false}
+use Rattle.std.proofs.lemmas.Bool.{and_parts, cases_Bool, cases_order, ltb-true, ltb-false}
 use Rattle.std.proofs.lemmas.Int.{ints}
 use Rattle.std.proofs.lemmas.Nat.{rows}
 use Rattle.std.proofs.Math.Nat.{pow-suc, mul-le-mul_right}
@@ -17,7 +17,7 @@ use Rattle.mt_types.specs.Fits.{Level}
 use Rattle.mt_types.specs.Order.{value_cmp, cmp_step, rank, same_kind_cmp}
 use Rattle.mt_sort.specs.declared.rank.Scale.{Scale}
 use Rattle.mt_sort.specs.declared.rank.Scale.TheVariants.{Numbers, Texts}
-use Rattle.mt_sort.specs.Ranks.{top_rank, number_rank, prefix_rank, level_rank, value_rank}
+use Rattle.mt_sort.specs.Ranks.{top_rank, number_rank, prefix_rank, level_rank, value_rank, is_decided}
 
 -- ---- numbers
 
@@ -142,3 +142,26 @@ levels_rise Texts Value-F.Null m h = none_above Texts Value-F.Null m refl h
 -- a value of lower rank is below
 pub values_rise : (scale : Scale) (v w : Value) → value_rank scale v < value_rank scale w → value_cmp v w ≡ Less
 values_rise scale v w h = ap (λ (f : Value → Ordering). f w) (fold_out-Value (Value → Ordering) cmp_step v) ∙ levels_rise scale (out-Value v) (out-Value w) h
+
+-- ---- ranks that one value has
+
+-- such a rank is inside its scale
+inside : (origin rank : ℕ) → is_decided (Numbers origin) rank ≡ true → (0 < rank) × (rank < top_rank)
+inside origin rank e = let parts = and_parts (nat_lt 0 rank) (nat_lt rank top_rank) e in (ltb-true 0 rank parts.0, ltb-true rank top_rank parts.1)
+
+same_numbers : (origin : ℕ) (a b : ℤ) → 0 < number_rank origin a → number_rank origin a < top_rank → number_rank origin a ≡ number_rank origin b → a ≡ b
+same_numbers origin (pos a) (pos b) low high e = ap pos (omega (arith, high, e))
+same_numbers origin (pos a) (negsuc b) low high e = absurd (omega (arith, low, high, e))
+same_numbers origin (negsuc a) (pos b) low high e = absurd (omega (arith, low, high, e))
+same_numbers origin (negsuc a) (negsuc b) low high e = ap negsuc (omega (arith, low, high, e))
+
+levels_tie : (origin : ℕ) (l m : Level) → (0 < level_rank (Numbers origin) l) × (level_rank (Numbers origin) l < top_rank) → level_rank (Numbers origin) l ≡ level_rank (Numbers origin) m → level_cmp l m ≡ Equal
+levels_tie origin (Value-F.Num a) (Value-F.Num b) h e = sym (int_cmp_is a b Equal (same_numbers origin a b h.0 h.1 e))
+levels_tie origin (Value-F.Num a) m h e = let low = h.1 in absurd (omega (arith, low, e))
+levels_tie origin l m h e = let low = h.1 in absurd (omega (arith, low))
+
+-- values of such a rank are one
+pub values_tie : (scale : Scale) (v w : Value) → is_decided scale (value_rank scale v) ≡ true → value_rank scale v ≡ value_rank scale w → value_cmp v w ≡ Equal
+values_tie (Numbers origin) v w d e =
+    ap (λ (f : Value → Ordering). f w) (fold_out-Value (Value → Ordering) cmp_step v) ∙ levels_tie origin (out-Value v) (out-Value w) (inside origin (value_rank (Numbers origin) v) d) e
+values_tie Texts v w d e = cc

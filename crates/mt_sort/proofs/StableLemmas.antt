@@ -160,7 +160,7 @@ module _ {X : Type 0} (R : X → X → Ordering) (o : IsTotalOrder R) where
   tied Equal s e = ap (λ v. not (is_lt v)) e
   tied Greater s e = ap (λ v. not (is_lt v)) e
 
-  ties_alike : (x : X) → ties (λ a b. is_lt (R a b)) x ≡ Alike x
+  pub ties_alike : (x : X) → ties (λ a b. is_lt (R a b)) x ≡ Alike x
   ties_alike x i y = tied (R x y) (R y x) (o.antisymm y x) i
 
   below_is_above : (r s : Ordering) → s ≡ ordering_reverse r → is_lt s ≡ is_gt r

@@ -1,3 +1,4 @@
 pub mod Ranks
-pub mod Ranked
+pub mod RankedOnce
+pub mod RankedTwice
 pub mod InOrder

@@ -1,5 +1,5 @@
 -- The rank of a value: a number that never falls along the order on values.
-use Rattle.std.specs.Prelude.{ℕ, zero, suc, ◌+◌, ◌-◌, ◌*◌, ◌^◌, min, nat_lt, ℤ, pos, negsuc, List, [], ◌∷◌, if◌then◌else◌}
+use Rattle.std.specs.Prelude.{ℕ, zero, suc, ◌+◌, ◌-◌, ◌*◌, ◌^◌, min, nat_lt, Bool, false, ◌&&◌, ℤ, pos, negsuc, List, [], ◌∷◌, if◌then◌else◌}
 use Rattle.mt_types.specs.declared.value.Value.{Value, out-Value}
 use Rattle.mt_types.specs.declared.value.Value.TheOpen.{Value-F}
 use Rattle.mt_types.specs.Fits.{Level}
@@ -35,3 +35,8 @@ level_rank _ _ = top_rank
 -- the rank of a value on a scale
 abbrev pub value_rank : Scale → Value → ℕ
 value_rank scale value = level_rank scale (out-Value value)
+
+-- whether only one value has this rank: a number that neither end has cut off
+abbrev pub is_decided : Scale → ℕ → Bool
+is_decided (Numbers origin) rank = nat_lt 0 rank && nat_lt rank top_rank
+is_decided Texts rank = false

@@ -4,8 +4,11 @@
 #![tactic(auto)]
 
 mod compare;
+mod law;
+mod one_rank;
 mod rank;
-mod ranked;
 mod sorting;
+mod two_ranks;
 
+pub use law::there_is_one_stable_order;
 pub use sorting::sort_rows;

@@ -1,9 +1,10 @@
 //! The rank of a value: a number that never falls along the order on values.
 
 ghost use Rattle.std.specs.Prelude.{◌≡◌, slice_index_or};
-ghost use Rattle.mt_sort.specs.Ranks.{number_rank, text_rank, value_rank};
+ghost use Rattle.mt_defs.specs.Rows.{cell};
+ghost use Rattle.mt_sort.specs.Ranks.{is_decided, number_rank, text_rank, value_rank};
 
-use mt_types::{Ty, Value};
+use mt_types::{Row, Ty, Value};
 
 /// How the values of a column are ranked, so that few values of the column have one rank.
 #[derive(Clone, Copy, Debug)]
@@ -14,17 +15,37 @@ pub enum Scale {
     Texts,
 }
 
-/// The scale of a type's values: the numbers of a type differ in rank, but for the greatest and NULL.
+/// The scale of a type's values. The numbers of a type differ in rank, but for its ends.
 pub fn scale_of(ty: &Ty) -> Scale {
     match ty {
         Ty::Int(_) => Scale::Numbers(1 << 63),
-        Ty::UInt(_) | Ty::Date => Scale::Numbers(0),
+        Ty::UInt(_) | Ty::Date => Scale::Numbers(1),
         _ => Scale::Texts,
     }
 }
 
+/// Whether only one value has this rank: a number that neither end has cut off.
+pub fn is_decided(scale: Scale, rank: u64) -> bool
+    ensures { result ≡ is_decided scale rank }
+{
+    match scale {
+        Scale::Numbers(_) => 0 < rank && rank < u64::MAX,
+        Scale::Texts => false,
+    }
+}
+
+/// The rank of a row's value in a column. A column that the row lacks counts as NULL.
+pub fn column_rank(scale: Scale, column: u32, row: &Row) -> u64
+    ensures { result ≡ value_rank scale (cell row.now column) }
+{
+    value_rank(
+        scale,
+        row.as_slice().get(column as usize).unwrap_or(&Value::Null),
+    )
+}
+
 /// The rank of a value.
-pub fn value_rank(scale: Scale, value: &Value) -> u64
+fn value_rank(scale: Scale, value: &Value) -> u64
     ensures { result ≡ value_rank scale value.now }
 {
     match (scale, value) {

@@ -1,14 +1,14 @@
 //! The stable sort.
 
 ghost use Rattle.std.specs.Prelude.{◌≡◌, IfOk};
-ghost use Rattle.std.specs.List.Sorted.{IsPermutation};
 ghost use Rattle.mt_defs.specs.Rows.{key_cmp};
 ghost use Rattle.mt_defs.specs.Sorting.{sorted_rows};
 ghost use Rattle.mt_sort.specs.InOrder.{is_in_order};
 
 use crate::compare::compare_rows;
+use crate::one_rank::sort_by_one_rank;
 use crate::rank::{Scale, scale_of};
-use crate::ranked::{compare_ranked, with_ranks, without_ranks};
+use crate::two_ranks::{Scales, sort_by_two_ranks};
 use mt_table::Table;
 use mt_types::{List, NoMemory, Row};
 use std::alloc::Global;
@@ -17,20 +17,22 @@ use std::cmp::Ordering;
 /// The rows in the order of the table's sort key, rows of equal key in the order that they had. No row
 /// is copied. On `NoMemory` the rows are dropped.
 pub fn sort_rows(alloc: Global, table: &Table, rows: List<Row>) -> Result<List<Row>, NoMemory>
-    ensures order { IfOk result (λ sorted. sorted ≡ sorted_rows table.now.sort rows) }
-    ensures kept { IfOk result (IsPermutation rows) }
+    ensures { IfOk result (λ sorted. sorted ≡ sorted_rows table.now.sort rows) }
 {
     let key = table.sort.as_slice();
     if is_in_order(key, rows.as_slice()) {
         return Ok(rows);
     }
-    let Some((first, _)) = key.split_first() else {
+    let Some((column, others)) = key.split_first() else {
         return Ok(rows);
     };
-    let scale = scale_at(table, *first);
-    let mut ranked = with_ranks(alloc, scale, *first, rows)?;
-    ranked.sort_by(|a, b| compare_ranked(key, a, b))?;
-    without_ranks(alloc, ranked)
+    let first = scale_at(table, *column);
+    let Some(other) = others.first() else {
+        return sort_by_one_rank(alloc, first, *column, rows);
+    };
+    let second = scale_at(table, *other);
+    let scales = Scales { first, second };
+    sort_by_two_ranks(alloc, scales, *column, others, key, rows)
 }
 
 /// The scale of a column's values.
