@@ -50,13 +50,25 @@ const TWO_COLUMNS: Case = Case {
     order: &[3, 2, 0, 4, 1],
 };
 
+const TWO_NUMBERS: Case = Case {
+    table: "CREATE TABLE t (a UInt8, b Int16, n UInt8) ENGINE = MergeTree ORDER BY (a, b)",
+    lines: "1\t5\t0\n0\t7\t1\n1\t-5\t2\n0\t7\t3\n1\t5\t4\n",
+    order: &[1, 3, 2, 0, 4],
+};
+
+const THREE_COLUMNS: Case = Case {
+    table: "CREATE TABLE t (a Date, b UInt64, c String, n UInt8) ENGINE = MergeTree ORDER BY (a, b, c)",
+    lines: "2024-01-02\t1\tb\t0\n2024-01-01\t18446744073709551615\ta\t1\n2024-01-02\t1\ta\t2\n2024-01-01\t18446744073709551614\tz\t3\n2024-01-01\t18446744073709551615\t\t4\n",
+    order: &[3, 4, 1, 2, 0],
+};
+
 const IN_ORDER: Case = Case {
     table: "CREATE TABLE t (k UInt8, n UInt8) ENGINE = MergeTree ORDER BY k",
     lines: "1\t0\n1\t1\n2\t2\n",
     order: &[0, 1, 2],
 };
 
-const CASES: [Case; 7] = [UNSIGNED, SIGNED, DATES, TEXTS, FIXED, TWO_COLUMNS, IN_ORDER];
+const CASES: [Case; 9] = [UNSIGNED, SIGNED, DATES, TEXTS, FIXED, TWO_COLUMNS, IN_ORDER];
 
 #[test]
 fn every_key_type_has_its_order(rt: HostRuntime) -> Result<(), Fail> {
