@@ -3,15 +3,13 @@
 //! `build` gives exactly the files of the writer's folder, and `mt_sort::sort_rows` the rows in key order.
 #![tactic(auto)]
 
+mod definition;
 mod folder;
-mod granules;
-mod index;
-mod items;
 mod law;
-mod names;
 mod no_rows;
+mod projections;
+mod skips;
 mod sorting;
-mod wide;
 
 pub use folder::build;
 pub use law::{
