@@ -1,6 +1,6 @@
 //! The writer: rows in key order, and the one folder that stands for them.
 //!
-//! `sort_rows` gives the one stable order of rows, and `build` exactly the files of the writer's folder.
+//! `build` gives exactly the files of the writer's folder, and `mt_sort::sort_rows` the rows in key order.
 #![tactic(auto)]
 
 mod definition;
@@ -21,4 +21,4 @@ pub use no_rows::{
     short_index_stands_for_no_rows, sizes_that_disagree_stand_for_no_rows,
     stray_file_stands_for_no_rows,
 };
-pub use sorting::sort_rows;
+pub use mt_sort::sort_rows;

@@ -20,21 +20,21 @@ rest_of [] = []
 rest_of (x ∷ xs) = xs
 
 -- where a filter keeps or drops the head
-keeps : {X : Type 0} (p : X → Bool) (x : X) (xs : List X) → p x ≡ true → filter p (x ∷ xs) ≡ x ∷ filter p xs
+pub keeps : {X : Type 0} (p : X → Bool) (x : X) (xs : List X) → p x ≡ true → filter p (x ∷ xs) ≡ x ∷ filter p xs
 keeps p x xs e = ap (λ b. cond b (x ∷ filter p xs) (filter p xs)) e
 
-drops : {X : Type 0} (p : X → Bool) (x : X) (xs : List X) → p x ≡ false → filter p (x ∷ xs) ≡ filter p xs
+pub drops : {X : Type 0} (p : X → Bool) (x : X) (xs : List X) → p x ≡ false → filter p (x ∷ xs) ≡ filter p xs
 drops p x xs e = ap (λ b. cond b (x ∷ filter p xs) (filter p xs)) e
 
 -- an order that is not above, either way round, ties
-tie : (r s : Ordering) → r ≡ ordering_reverse s → is_gt r ≡ false → is_gt s ≡ false → is_eq r ≡ true
+pub tie : (r s : Ordering) → r ≡ ordering_reverse s → is_gt r ≡ false → is_gt s ≡ false → is_eq r ≡ true
 tie Less Less e p q = cc
 tie Less Equal e p q = cc
 tie Less Greater e p q = cc
 tie Equal s e p q = refl
 tie Greater s e p q = cc
 
-not_both : {P : Type 0} (b : Bool) → b ≡ true → b ≡ false → P
+pub not_both : {P : Type 0} (b : Bool) → b ≡ true → b ≡ false → P
 not_both b p q = let bad : true ≡ false = sym p ∙ q in cc
 
 gt_no_tie : (r : Ordering) → is_gt r ≡ true → is_eq r ≡ false
@@ -160,7 +160,7 @@ module _ {X : Type 0} (R : X → X → Ordering) (o : IsTotalOrder R) where
   tied Equal s e = ap (λ v. not (is_lt v)) e
   tied Greater s e = ap (λ v. not (is_lt v)) e
 
-  ties_alike : (x : X) → ties (λ a b. is_lt (R a b)) x ≡ Alike x
+  pub ties_alike : (x : X) → ties (λ a b. is_lt (R a b)) x ≡ Alike x
   ties_alike x i y = tied (R x y) (R y x) (o.antisymm y x) i
 
   below_is_above : (r s : Ordering) → s ≡ ordering_reverse r → is_lt s ≡ is_gt r
@@ -185,9 +185,11 @@ module _ {X : Type 0} (R : X → X → Ordering) (o : IsTotalOrder R) where
     rises_from xs (λ i j d le h. far (suc i) (suc j) d (omega (arith, le)) (omega (arith, h))),
   )
 
+  pub rises : (xs : List X) → IsSorted R xs → Rises xs
+  rises xs up = rises_from xs (sorted_far (λ a b. is_lt (R a b)) (ranks_by o (λ x. x)) xs up)
+
   -- what a stable sort by R gives is `sorted_by` of what it was given
   pub the_one : (xs ys : List X) → IsSorted R ys → IsStable R xs ys → ys ≡ sorted_by R xs
   the_one xs ys up stable =
-      let far : IsFar ys = sorted_far (λ a b. is_lt (R a b)) (ranks_by o (λ x. x)) ys up in
-      one_list ys (sorted_by R xs) (rises_from ys far) (sorted_rises xs) (λ x.
+      one_list ys (sorted_by R xs) (rises ys up) (sorted_rises xs) (λ x.
       subst (λ p. filter p ys ≡ filter p xs) (ties_alike x) (stable x) ∙ sym (sorted_keeps x xs))
