@@ -1,6 +1,6 @@
 //! Answers that have gathered some rows.
 
-ghost use Rattle.std.specs.Prelude.{◌≡◌, ◌<◌, [], ◌∷◌, ◌++◌, length, IsTrue, IfOk, List};
+ghost use Rattle.std.specs.Prelude.{◌≡◌, ◌<◌, [], ◌∷◌, ◌++◌, length, All, IsTrue, IfOk, List};
 ghost use Rattle.mt_defs.specs.Rows as defined;
 ghost use Rattle.mt_look.specs.Seen.{row_at};
 ghost use Rattle.mt_fold.specs.Answer.{answer_rows, answer_text};
@@ -8,7 +8,7 @@ ghost use Rattle.mt_fold.specs.Columns.{query_passes};
 ghost use Rattle.mt_fold.specs.Gathered.{Gathers, Suits};
 
 use crate::aggregate::{is_grouped, is_one_group};
-use crate::answer::{limit_to, put_in_order, rows_of_groups, text_of};
+use crate::answer::{first_rows, rows_of_groups, text_of};
 use crate::condition::keeps;
 use crate::group::add_to_group;
 use crate::item::item_columns;
@@ -80,15 +80,16 @@ impl Partial {
     /// The rows of the answer.
     fn answer(self, alloc: Global, table: &Table, query: &Query) -> Result<Vec<Row>, NoMemory>
         requires suits { Suits self query.now }
-        ensures { (rows : List defined.Row) → Gathers self query.now rows
+        ensures whole { IfOk result (λ made.
+            All (λ (row : defined.Row). length row ≡ length query.now.items) made.items) }
+        ensures rows { (rows : List defined.Row) → Gathers self query.now rows
             → IfOk result (λ made. made.items ≡ answer_rows table.now query.now rows) }
     {
         let Partial { rows, groups } = self;
         if is_grouped(query) {
-            let made = rows_of_groups(alloc, table, query, groups)?;
-            Ok(limit_to(put_in_order(made)?, query.limit))
+            first_rows(rows_of_groups(alloc, table, query, groups)?, query.limit)
         } else {
-            Ok(limit_to(put_in_order(rows.into_vec())?, query.limit))
+            first_rows(rows.into_vec(), query.limit)
         }
     }
 
