@@ -3,15 +3,13 @@
 //! `sort_rows` gives the one stable order of rows, and `build` exactly the files of the writer's folder.
 #![tactic(auto)]
 
+mod definition;
 mod folder;
-mod granules;
-mod index;
-mod items;
 mod law;
-mod names;
 mod no_rows;
+mod projections;
+mod skips;
 mod sorting;
-mod wide;
 
 pub use folder::build;
 pub use law::{
