@@ -39,7 +39,7 @@ cond_passes_any : (c : Cond) → Passes c
 cond_passes_any = ind-Cond Passes (λ x y is.
     ap (λ f. f) (fold-roll-Cond Bool (columns_step any) x) ∙ ap (λ l. columns_step any (map-Cond Cond Bool (cond_passes any) l)) (sym is) ∙ level_passes y)
 
-given_passes_any : (c : Option Cond) → given_cond_passes any c ≡ true
+pub given_passes_any : (c : Option Cond) → given_cond_passes any c ≡ true
 given_passes_any None = refl
 given_passes_any (Some c) = cond_passes_any c
 

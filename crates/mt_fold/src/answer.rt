@@ -72,11 +72,7 @@ pub fn rows_of_groups(
 }
 
 /// The lines of rows.
-pub fn text_of(
-    alloc: Global,
-    columns: &[Column],
-    rows: &[Row],
-) -> Result<List<u8>, NoMemory>
+pub fn text_of(alloc: Global, columns: &[Column], rows: &[Row]) -> Result<List<u8>, NoMemory>
     requires { All (λ (row : defined.Row). length row ≡ length columns.now) rows.now }
     ensures { IfOk result (λ text. text ≡ rows_text columns.now rows.now) }
 {

@@ -32,9 +32,9 @@ pub fn add_to_group<L: Look>(
     ensures unique { IfOk result (IsUnique is_same_key) }
     ensures added { IfOk result (λ made. (k : List Value) → get is_same_key made k
         ≡ cond (is_same_key key k)
-            (Some (each_with (aggregates items.now) (row_at (L.rows_of from.now) row)
-                (unwrap_or (get is_same_key groups key) (folds_of (aggregates items.now) []))))
-            (get is_same_key groups k)) }
+        (Some (each_with (aggregates items.now) (row_at (L.rows_of from.now) row)
+        (unwrap_or (get is_same_key groups key) (folds_of (aggregates items.now) []))))
+        (get is_same_key groups k)) }
 {
     if let Some(states) = groups.get_mut(&key) {
         add_row(alloc, items, from, row, states);

@@ -72,11 +72,7 @@ fn item_type(alloc: Global, table: &Table, item: Item) -> Result<Ty, NoMemory>
 }
 
 /// The columns of a query's answer. They have no names, since those aren't printed.
-pub fn item_columns(
-    alloc: Global,
-    table: &Table,
-    items: &[Item],
-) -> Result<Vec<Column>, NoMemory>
+pub fn item_columns(alloc: Global, table: &Table, items: &[Item]) -> Result<Vec<Column>, NoMemory>
     ensures { IfOk result (λ made. made.items ≡ answer.item_columns table.now items.now) }
 {
     let mut columns = Vec::with_capacity(alloc, items.len())?;

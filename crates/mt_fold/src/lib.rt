@@ -13,5 +13,7 @@ mod row;
 mod state;
 mod value;
 
-pub use condition::truth;
+pub use aggregate::is_grouped;
+pub use condition::{keeps, truth};
+pub use item::item_columns;
 pub use partial::Partial;

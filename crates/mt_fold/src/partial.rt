@@ -61,7 +61,7 @@ impl Partial {
         ensures suits { IfOk result (λ made. Suits made query.now) }
         ensures gathers { (rows : List defined.Row) → Gathers self query.now rows
             → IfOk result (λ made. Gathers made query.now
-                (rows ++ row_at (L.rows_of from.now) row ∷ [])) }
+            (rows ++ row_at (L.rows_of from.now) row ∷ [])) }
     {
         if !keeps(&query.cond, from, row) {
             return Ok(self);

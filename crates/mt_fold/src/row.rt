@@ -18,12 +18,7 @@ use mt_types::{AggState, List, NoMemory, Row, Value};
 use std::alloc::Global;
 
 /// A row's values of some columns.
-pub fn key_of<L: Look>(
-    alloc: Global,
-    columns: &[u32],
-    from: &L,
-    row: u64,
-) -> Result<Row, NoMemory>
+pub fn key_of<L: Look>(alloc: Global, columns: &[u32], from: &L, row: u64) -> Result<Row, NoMemory>
     requires shown { IsTrue (list_all (L.shows from.now) columns.now) }
     requires there { row < length (L.rows_of from.now) }
     ensures { IfOk result (λ key. key ≡ rows.key_of columns.now (row_at (L.rows_of from.now) row)) }

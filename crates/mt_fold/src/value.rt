@@ -78,9 +78,10 @@ pub fn compared(seen: Seen, op: Op, literal: &Value) -> Option<bool>
         (holds op (value_cmp (value_seen seen.entry) literal.now)) }
 {
     if is_null(seen) {
-        return None;
+        None
+    } else {
+        Some(holds(op, compare_seen(seen, literal)))
     }
-    Some(holds(op, compare_seen(seen, literal)))
 }
 
 /// Whether the value is one of some literals; None on NULL.

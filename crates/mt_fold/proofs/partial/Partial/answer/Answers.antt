@@ -13,8 +13,8 @@ pub returns-in_ok-rows_of_groups-clause-rows : goal.returns-in_ok-rows_of_groups
 returns-in_ok-rows_of_groups-clause-rows c = λ R had.
     let q = c.args.query.now in
     IfOk-weaker c.first_rows.result _ _ (λ made is.
-        is ∙ ap (λ rows. limited q.limit (ordered rows)) c.in_ok-rows_of_groups.ensures.made
-        ∙ answers_grouped c.args.table.now q R c.args.self.rows c.args.self.groups.entries (sym c.is_grouped.ensures ∙ c.if-is_grouped.true) had) c.first_rows.ensures.first
+    is ∙ ap (λ rows. limited q.limit (ordered rows)) c.in_ok-rows_of_groups.ensures.made
+    ∙ answers_grouped c.args.table.now q R c.args.self.rows c.args.self.groups.entries (sym c.is_grouped.ensures ∙ c.if-is_grouped.true) had) c.first_rows.ensures.first
 
 pub returns-else-is_grouped-clause-whole : goal.returns-else-is_grouped-clause-whole
 returns-else-is_grouped-clause-whole c =
@@ -25,5 +25,5 @@ pub returns-else-is_grouped-clause-rows : goal.returns-else-is_grouped-clause-ro
 returns-else-is_grouped-clause-rows c = λ R had.
     let q = c.args.query.now in
     IfOk-weaker c.first_rows-else-is_grouped.result _ _ (λ made is.
-        is ∙ ap (λ rows. limited q.limit (ordered rows)) c.into_vec.ensures
-        ∙ answers_plain c.args.table.now q R c.args.self.rows c.args.self.groups.entries (sym c.is_grouped.ensures ∙ c.if-is_grouped.false) had) c.first_rows-else-is_grouped.ensures.first
+    is ∙ ap (λ rows. limited q.limit (ordered rows)) c.into_vec.ensures
+    ∙ answers_plain c.args.table.now q R c.args.self.rows c.args.self.groups.entries (sym c.is_grouped.ensures ∙ c.if-is_grouped.false) had) c.first_rows-else-is_grouped.ensures.first

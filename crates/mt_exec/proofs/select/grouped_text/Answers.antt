@@ -2,7 +2,7 @@ use Rattle.std.proofs.Common.{◌<◌, [], length, take, sym, subst, rules}
 use Rattle.std.proofs.lemmas.List.{take_more}
 use Rattle.mt_fold.specs.Gathered.{Gathers}
 use Rattle.mt_exec.proofs.ColumnLemmas.{query_passes_any}
-use Rattle.mt_exec.proofs.select.select_rows.Goals as goal
+use Rattle.mt_exec.proofs.select.grouped_text.Goals as goal
 
 pub add-requires-clause-shown : goal.add-requires-clause-shown
 add-requires-clause-shown c = query_passes_any c.args.query.now

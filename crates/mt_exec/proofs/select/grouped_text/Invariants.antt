@@ -1,6 +1,6 @@
 use Rattle.std.proofs.Common.{take}
 use Rattle.mt_fold.specs.Gathered.{Gathers, Suits}
-use Rattle.mt_exec.proofs.select.select_rows.Given as goal
+use Rattle.mt_exec.proofs.select.grouped_text.Given as goal
 
 -- the rows so far are gathered
 abbrev pub invariant-loop-row : goal.invariant-loop-row
