@@ -56,7 +56,6 @@ module _ {A B E : Type 0} (step : A → Result B E) where
 
   pub order_ends : (xs : List A) (i : ℕ) (ys : List B) → length xs ≤ i → in_order step (take i xs) ≡ Ok ys → in_order step xs ≡ Ok ys
   order_ends xs i ys h e = ap (in_order step) (sym (take_all i xs h)) ∙ e
-
   -- ---- a loop over numbered things
 
 numbered_at : {A : Type 0} (xs : List A) (i : ℕ) (x : A) → i < length xs → x ≡ get_or xs i x → (i, x) ≡ get_or (enumerate_from 0 xs) i (i, x)

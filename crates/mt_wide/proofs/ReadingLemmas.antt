@@ -106,5 +106,5 @@ pub part_read : (folder given : Folder) (count : ℕ) (columns : List Column) (g
 part_read folder given count columns granules rows shown same first read is =
     subst (λ (f : Folder). wide_reading f count columns ≡ Ok (shown, granules)) same
     (then_of (wide_granules folder count columns) granules (λ granules. rows_reading folder granules count columns >>= λ rows. Ok (rows, granules)) first
-        ∙ then_of (rows_reading folder granules count columns) rows (λ rows. Ok (rows, granules)) read
-        ∙ ap (λ (l : List Row). let r : Judged (List Row × List ℕ) = Ok (l, granules) in r) (sym is))
+    ∙ then_of (rows_reading folder granules count columns) rows (λ rows. Ok (rows, granules)) read
+    ∙ ap (λ (l : List Row). let r : Judged (List Row × List ℕ) = Ok (l, granules) in r) (sym is))

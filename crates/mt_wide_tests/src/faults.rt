@@ -25,7 +25,10 @@ const WIDE: [Case; 27] = [
     (&[("k.bin", Bytes(METHOD))], "k.bin at 0: Method"),
     (&[("k.bin", Bytes(SIZES))], "k.bin at 0: Sizes"),
     (&[("k.bin", Bytes(TOO_LONG))], "k.bin at 0: TooLong"),
-    (&[("k.bin", Bytes(CUT)), ("k.mrk2", Absent)], "k.bin at 0: Cut"),
+    (
+        &[("k.bin", Bytes(CUT)), ("k.mrk2", Absent)],
+        "k.bin at 0: Cut",
+    ),
     (&[("k.mrk2", Absent), ("s.bin", Absent)], "k.mrk2: Missing"),
     (&[("k.mrk2", Numbers(&[62, 0, 0]))], "k.mrk2: Length"),
     (&[("k.mrk2", Numbers(&[0, 0, 2, 33]))], "k.mrk2: Length"),
@@ -81,7 +84,10 @@ const WIDE: [Case; 27] = [
         "s.bin at 0: Cut",
     ),
     (&[("s.mrk2", Absent)], "s.mrk2: Missing"),
-    (&[("s.mrk2", Numbers(&[0, 0, 3, 56, 0, 0]))], "s.mrk2: Length"),
+    (
+        &[("s.mrk2", Numbers(&[0, 0, 3, 56, 0, 0]))],
+        "s.mrk2: Length",
+    ),
     (
         &[("s.mrk2", Numbers(&[0, 0, 1, 29, 0, 1, 56, 0, 0]))],
         "s.mrk2 granule 0: Rows",
@@ -189,9 +195,16 @@ fn first_faults_of_compact_parts_are_named(rt: HostRuntime) -> Result<(), Fail> 
 #[test]
 fn faults_of_substreams_are_named_in_order(rt: HostRuntime) -> Result<(), Fail> {
     let alloc = rt.alloc();
-    let sizes = ("a.size0.bin", Frames(&[b"\0\0\0\0\0\0\0\0", b"\x02\0\0\0\0\0\x10\0"]));
+    let sizes = (
+        "a.size0.bin",
+        Frames(&[b"\0\0\0\0\0\0\0\0", b"\x02\0\0\0\0\0\x10\0"]),
+    );
     let cases: [(Part, &[File], &str); 4] = [
-        (NESTED, &[sizes, ("a.null.bin", Absent)], "a.null.bin: Missing"),
+        (
+            NESTED,
+            &[sizes, ("a.null.bin", Absent)],
+            "a.null.bin: Missing",
+        ),
         (
             NESTED,
             &[sizes, ("a.null.bin", Frames(&[b"\0\x02"]))],
@@ -207,7 +220,10 @@ fn faults_of_substreams_are_named_in_order(rt: HostRuntime) -> Result<(), Fail> 
         ),
         (
             NULLABLE,
-            &[("n.bin", Frames(&[b"\x01\x07"])), ("n.mrk2", Numbers(&[0, 0, 3, 27, 0, 0]))],
+            &[
+                ("n.bin", Frames(&[b"\x01\x07"])),
+                ("n.mrk2", Numbers(&[0, 0, 3, 27, 0, 0])),
+            ],
             "n.bin granule 0: Short",
         ),
     ];

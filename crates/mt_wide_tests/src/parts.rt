@@ -26,8 +26,7 @@ const MOST_ROWS: u64 = 100;
 
 /// A table of these columns, whose key is `k`.
 pub fn table_of(alloc: Global, columns: &str) -> Result<Table, Fail> {
-    let text =
-        format!(in alloc; "CREATE TABLE t ({columns}) ENGINE = MergeTree ORDER BY k")?;
+    let text = format!(in alloc; "CREATE TABLE t ({columns}) ENGINE = MergeTree ORDER BY k")?;
     Ok(Table::read(alloc, text.as_bytes())?)
 }
 
@@ -39,7 +38,11 @@ pub fn wide_text(alloc: Global, part: &Part, changed: &[File]) -> Result<List<u8
     if part.count == 0 || part.count > MOST_ROWS {
         return Err(Fail::new("a part with too many rows"));
     }
-    text_of(alloc, columns, read_wide(alloc, columns, part.count, files.as_slice()))
+    text_of(
+        alloc,
+        columns,
+        read_wide(alloc, columns, part.count, files.as_slice()),
+    )
 }
 
 /// What a Compact part is read as, some of its files changed.
@@ -50,7 +53,11 @@ pub fn compact_text(alloc: Global, part: &Part, changed: &[File]) -> Result<List
     if part.count == 0 || part.count > MOST_ROWS {
         return Err(Fail::new("a part with too many rows"));
     }
-    text_of(alloc, columns, read_compact(alloc, columns, part.count, files.as_slice()))
+    text_of(
+        alloc,
+        columns,
+        read_compact(alloc, columns, part.count, files.as_slice()),
+    )
 }
 
 /// The lines of the rows, and then the rows of each granule; or the fault.

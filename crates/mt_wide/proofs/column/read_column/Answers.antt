@@ -30,9 +30,9 @@ returns-in_err-read_granule-clause-reads c =
     let i = c.loop-granule.granule in
     let step = granule_reading c.args.column.now streams in
     rw (p.1, p.2) (fails_after e (in_order (stream_reading (folder_in c.args.folder.now) granules) (stream_names c.args.column.now)) streams (λ streams. in_order (granule_reading c.args.column.now streams) (enumerate_from 0 granules))
-        (rw (c.as_slice.ensures, c.in_ok-names.ensures) at c.in_ok-streams.ensures.reads)
-        (fails_numbered e step granules i (get_or granules i 0) c.loop-granule.values c.loop-granule-test.true (get_or_default granules i 0 (get_or granules i 0) c.loop-granule-test.true) c.loop-granule.invariant.so_far
-            (rw c.as_slice-in-loop-granule-2.ensures at c.in_err-read_granule.ensures.reads)))
+    (rw (c.as_slice.ensures, c.in_ok-names.ensures) at c.in_ok-streams.ensures.reads)
+    (fails_numbered e step granules i (get_or granules i 0) c.loop-granule.values c.loop-granule-test.true (get_or_default granules i 0 (get_or granules i 0) c.loop-granule-test.true) c.loop-granule.invariant.so_far
+    (rw c.as_slice-in-loop-granule-2.ensures at c.in_err-read_granule.ensures.reads)))
 
 pub loop-granule-preserved : goal.loop-granule-preserved
 loop-granule-preserved c =

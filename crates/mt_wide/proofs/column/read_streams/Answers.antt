@@ -14,7 +14,7 @@ pub returns-in_err-read_stream-clause-reads : goal.returns-in_err-read_stream-cl
 returns-in_err-read_stream-clause-reads c =
     let p = err_from_is_err_and c.from_residual-in_err-read_stream.result c.from_residual-in_err-read_stream.ensures.1 in
     rw (p.1, p.2) (fails_in_order c.in_err-read_stream.field-0.0 (stream_reading (folder_in c.args.folder.now) c.args.granules.now) c.args.names.now c.loop-name.name-index c.name-item.result _
-        c.loop-name-test.true c.name-item.is c.loop-name.invariant.so_far (rw c.as_slice.ensures at c.in_err-read_stream.ensures.reads))
+    c.loop-name-test.true c.name-item.is c.loop-name.invariant.so_far (rw c.as_slice.ensures at c.in_err-read_stream.ensures.reads))
 
 pub loop-name-preserved : goal.loop-name-preserved
 loop-name-preserved c = record {
