@@ -4,4 +4,3 @@ pub mod InnerLemmas
 mod OrderLemmas
 pub mod ProjectionRowLemmas
 pub mod SkipLemmas
-mod StableLemmas

@@ -1,6 +1,6 @@
 //! The writer: rows in key order, and the one folder that stands for them.
 //!
-//! `sort_rows` gives the one stable order of rows, and `build` exactly the files of the writer's folder.
+//! `build` gives exactly the files of the writer's folder, and `mt_sort::sort_rows` the rows in key order.
 #![tactic(auto)]
 
 mod definition;
@@ -10,4 +10,4 @@ mod skips;
 mod sorting;
 
 pub use folder::build;
-pub use sorting::sort_rows;
+pub use mt_sort::sort_rows;
