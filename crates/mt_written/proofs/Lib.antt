@@ -5,7 +5,6 @@ pub mod CompactLemmas
 pub mod DefinitionLemmas
 pub mod NameLemmas
 pub mod ApartLemmas
-pub mod PlainLemmas
 pub mod SuffixLemmas
 pub mod DataNames
 pub mod RuleLemmas
@@ -21,5 +20,3 @@ pub mod KnownLemmas
 pub mod OrderLemmas
 pub mod StandLemmas
 pub mod TextLemmas
-pub mod PlainPaths
-pub mod PathLemmas
