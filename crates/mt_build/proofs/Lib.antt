@@ -15,6 +15,5 @@ pub mod OrderLemmas
 pub mod ProjectionRowLemmas
 pub mod SizeLemmas
 pub mod SkipLemmas
-pub mod StableLemmas
 pub mod StandsLemmas
 pub mod WideLemmas
