@@ -1,3 +1,6 @@
+pub mod LookupLemmas
+pub mod FrameLemmas
+pub mod MarkLemmas
 pub mod ListLemmas
 pub mod ByteLemmas
 pub mod WideLemmas

@@ -23,7 +23,7 @@ use Rattle.mt_defs.specs.Part.{marks_ending}
 use Rattle.mt_defs.specs.SkipIndexes.{data_ending, skip_data_name, skip_marks_name}
 use Rattle.mt_defs.specs.WrittenGranules.{is_small}
 use Rattle.mt_defs.specs.WrittenSkips.{skip_files}
-use Rattle.mt_build.proofs.LookupLemmas.{AreApart, other_name}
+use Rattle.mt_written.proofs.LookupLemmas.{AreApart, other_name}
 use Rattle.mt_written.proofs.ListLemmas.{All-two, All-of_map}
 use Rattle.mt_written.proofs.WideLemmas.{no_file}
 use Rattle.mt_written.proofs.NameLemmas.{not_true, is_stem, stem_of, has_slash, stem_before_dot, stem_without_slash, no_slash_appended, stems_appended, file_name_stem, file_name_injective}
