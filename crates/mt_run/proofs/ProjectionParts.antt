@@ -126,7 +126,7 @@ grouped_ordered table name keys aggs rows =
     let Long : List Value → Type 0 = λ key. length key ≡ length keys in
     let long : All Long ks = All-map Long (key_of keys) sorted (λ k d h. length-map keys (cell (get_or sorted k d))) in
     let same : All (λ key. key_of (range_with_len 0 (length keys)) (folded_row (Grouped name keys aggs) rows key) ≡ key) (distinct_by is_same_key ks) =
-        All-weaker Long (λ key. key_of (range_with_len 0 (length keys)) (folded_row (Grouped name keys aggs) rows key) ≡ key) (folded_key name keys aggs rows) (distinct_by is_same_key ks) (All-distinct_by Long is_same_key ks long) in
+    All-weaker Long (λ key. key_of (range_with_len 0 (length keys)) (folded_row (Grouped name keys aggs) rows key) ≡ key) (folded_key name keys aggs rows) (distinct_by is_same_key ks) (All-distinct_by Long is_same_key ks long) in
     climbing (folded_row (Grouped name keys aggs) rows) (range_with_len 0 (length keys)) (distinct_by is_same_key ks) same (up_distinct ks (keys_up keys rows))
 
 some_distinct : (keys : List (List Value)) → keys ≢ [] → distinct_by is_same_key keys ≢ []
