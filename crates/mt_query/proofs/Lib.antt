@@ -1,2 +1,3 @@
 pub mod ListLemmas
 pub mod ReadLemmas
+pub mod NamedLemmas
