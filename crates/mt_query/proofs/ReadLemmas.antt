@@ -1,5 +1,5 @@
 -- What reading a query text gives.
-use Rattle.std.proofs.Common.{◌≡◌, ◌⊎◌, ◌<◌, ◌≤◌, inl, inr, ℕ, List, length, ap, sym, ◌∙◌, subst, arith}
+use Rattle.std.proofs.Common.{◌≡◌, ◌⊎◌, ◌≤◌, inl, inr, ℕ, List, length, ap, sym, ◌∙◌, subst, arith}
 use Rattle.std.specs.Prelude.{Result, Err}
 use Rattle.mt_table.specs.declared.definition.Table.{Table}
 use Rattle.mt_query_syntax.specs.declared.tree.QueryText.{QueryText}
