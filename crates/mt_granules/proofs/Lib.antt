@@ -18,3 +18,4 @@ pub mod EntriesLemmas
 pub mod PayloadsHeldLemmas
 pub mod KeptRulesLemmas
 pub mod PayloadsReadLemmas
+pub mod IndexLemmas
