@@ -4,3 +4,4 @@ pub mod ReadingLemmas
 pub mod StreamLawLemmas
 pub mod EncodedCountLemmas
 pub mod ColumnLawLemmas
+pub mod WideLawLemmas
