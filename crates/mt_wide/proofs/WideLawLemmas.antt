@@ -1,6 +1,6 @@
 -- A Wide part is read exactly where its files are of the layout.
 use Rattle.std.proofs.Common.{◌≡◌, ℕ, suc, ◌+◌, ◌^◌, ◌<◌, ◌≤◌, Bool, true, List, [], ◌∷◌, ◌++◌, length, map, get_or, refl, ap, sym, ◌∙◌, subst, arith}
-use Rattle.std.specs.Prelude.{All, Result, Ok, Err, IsTrue, slice_index_or, ◌==◌}
+use Rattle.std.specs.Prelude.{All, Result, Ok, Err, ◌↔◌, IsTrue, slice_index_or, ◌==◌}
 use Rattle.std.specs.List.{enumerate_from, list_all, range_with_len, sum}
 use Rattle.std.proofs.lemmas.Bool.{eqb-true, eq-eqb}
 use Rattle.std.proofs.lemmas.List.{get_or-map, get_or_default, length-map}
@@ -31,6 +31,7 @@ use Rattle.mt_granules.proofs.IndexLemmas.{column_of_rows, cut_joined, list_all_
 use Rattle.mt_granules.proofs.OrderLemmas.{order_all, order_each}
 use Rattle.mt_granules.proofs.PayloadsHeldLemmas.{payloads_held}
 use Rattle.mt_granules.proofs.RowLemmas.{length-all_values, length-rows_of}
+use Rattle.mt_wide.specs.HeldRows.{HoldsRows}
 use Rattle.mt_wide.specs.WideReading.{column_reading, first_stream, rows_reading, wide_granules, wide_reading}
 use Rattle.mt_wide.proofs.CountLemmas.{names_count}
 use Rattle.mt_wide.proofs.EncodedCountLemmas.{streams_some}
@@ -62,12 +63,6 @@ row_fits [] [] r p = tt
 row_fits [] (v ∷ values) r p = absurd p
 row_fits (c ∷ columns) [] r p = absurd p
 row_fits (c ∷ columns) (v ∷ values) r p = (list_all_at (fits_of c.ty) v r Null p.0.0 p.0.1, row_fits columns values r p.1)
-
--- rows that the files hold, so many, and their granules
-pub record HoldsRows (columns : List Column) (rows : List Row) (granules : List ℕ) (count : ℕ) (folder : Folder) : Type 0 where
-  pub many : length rows ≡ count
-  pub fit : All (RowFits columns) rows
-  pub layout : IsWide columns rows granules folder
 
 pub wide_held : (folder : Folder) (count : ℕ) (columns : List Column) (rows : List Row) (granules : List ℕ) → HasByteFiles folder → AreProfile columns → wide_reading folder count columns ≡ Ok (rows, granules) → HoldsRows columns rows granules count folder
 wide_held folder count columns rows granules files profile e =
@@ -162,3 +157,15 @@ wide_read folder count columns rows granules files profile some any few holds =
     each_joined ((i, c) ∷ numbered) e =
         ap (λ (v : List Value). v ∷ map all_values (map (λ (i, column). map (column_values i) (granule_rows granules rows)) numbered)) (cut_joined i granules rows e)
         ∙ ap (λ (l : List (List Value)). column_values i rows ∷ l) (each_joined numbered e)
+
+-- ---- both
+
+pub wide_exactly : (folder : Folder) (count : ℕ) (columns : List Column) (rows : List Row) (granules : List ℕ) → HasByteFiles folder → AreProfile columns → 1 ≤ length columns → 1 ≤ count → count ≤ MAX_ROWS
+    → (wide_reading folder count columns ≡ Ok (rows, granules)) ↔ HoldsRows columns rows granules count folder
+wide_exactly folder count columns rows granules files profile some any few = (wide_held folder count columns rows granules files profile, wide_read folder count columns rows granules files profile some any few)
+
+pub one_list : (folder : Folder) (count : ℕ) (columns : List Column) (rows others : List Row) (granules marked : List ℕ) → HasByteFiles folder → AreProfile columns → 1 ≤ length columns → 1 ≤ count → count ≤ MAX_ROWS
+    → HoldsRows columns rows granules count folder → HoldsRows columns others marked count folder → (rows ≡ others) × (granules ≡ marked)
+one_list folder count columns rows others granules marked files profile some any few one other =
+    let pair = ok_pair rows others granules marked (sym (wide_read folder count columns rows granules files profile some any few one) ∙ wide_read folder count columns others marked files profile some any few other) in
+    (sym pair.0, sym pair.1)
