@@ -54,7 +54,7 @@ in_granule_ok : (r : Result (Unit {0}) (ℕ × Why)) (u : Unit {0}) → in_granu
 in_granule_ok (Ok t) u e = refl
 in_granule_ok (Err (g, w)) u e = cc
 
-entries_are : (per : ℕ) (bytes : List ℕ) (es : List Entry) → entries_reading per bytes ≡ Some es → (es ≡ entries_from per (length bytes / entry_len per) bytes) × (length bytes % entry_len per ≡ 0)
+pub entries_are : (per : ℕ) (bytes : List ℕ) (es : List Entry) → entries_reading per bytes ≡ Some es → (es ≡ entries_from per (length bytes / entry_len per) bytes) × (length bytes % entry_len per ≡ 0)
 entries_are per bytes es e = by (length bytes % entry_len per == 0) refl e
   where
     by : (b : Bool) → (length bytes % entry_len per == 0) ≡ b → (if b then Some (entries_from per (length bytes / entry_len per) bytes) else None) ≡ Some es
