@@ -99,15 +99,14 @@ build_entries frames per total former (x ∷ es) [] top foot some have denote up
 build_entries frames per total former (x ∷ []) (ns ∷ []) top foot some have denote up on begins ends rows =
     let long = denote_long frames x.marks ns denote.0 in
     let built = build frames true former x.marks ns [] [] top foot denote.0 up (subst (λ (l : List ℕ). Rises (offset_before former) l foot) (offsets_append x.marks []) on)
-        (begins_front former ns [] begins (omega (arith, long, have.0, some))) (λ e. ends) in
+    (begins_front former ns [] begins (omega (arith, long, have.0, some))) (λ e. ends) in
     (eq-eqb x.rows 0 rows, (built.after, built.are, tt))
 build_entries frames per total former (x ∷ []) (ns ∷ os ∷ ps) top foot some have denote up on begins ends rows = absurd denote.1
 build_entries frames per total former (x ∷ y ∷ es) (ns ∷ []) top foot some have denote up on begins ends rows = absurd denote.1
 build_entries frames per total former (x ∷ y ∷ es) (ns ∷ os ∷ ps) top foot some have denote up on begins ends rows =
     let long = denote_long frames x.marks ns denote.0 in
     let built = build frames false former x.marks ns (joined (os ∷ ps)) (map (λ (m : Mark). m.offset) (all_marks (y ∷ es))) top foot denote.0 up (subst (λ (l : List ℕ). Rises (offset_before former) l foot) (offsets_append x.marks (all_marks (y ∷ es))) on)
-        (begins_front former ns (joined (os ∷ ps)) begins (omega (arith, long, have.0, some))) (λ e. absurd cc) in
-    (
+    (begins_front former ns (joined (os ∷ ps)) begins (omega (arith, long, have.0, some))) (λ e. absurd cc) in (
       and_from (nat_le 1 x.rows) (nat_lt (total + x.rows) (2 ^ 64)) (le-leb 1 x.rows rows.0) (lt-ltb (total + x.rows) (2 ^ 64) rows.1),
       (built.after, built.are, build_entries frames per (total + x.rows) built.after (y ∷ es) (os ∷ ps) top foot some have.1 denote.1 built.positions built.offsets_rise (built.begun (omega (arith, have.0, some)) (joined (os ∷ ps))) ends rows.2),
     )

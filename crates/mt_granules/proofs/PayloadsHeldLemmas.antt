@@ -231,4 +231,4 @@ payloads_held folder data_name marks_name per read files some e =
     let marks_is = found (folder marks_name) (file_fault marks_name why.Missing) bytes has_marks in
     subst (AreHeld folder data_name marks_name per) (sym (ok_one _ _ e))
     (held folder data_name marks_name per file bytes frames marks (files data_name file data_is) (files marks_name bytes marks_is) some data_is marks_is (blame_ok (frame_fault data_name) (frames_in file) frames framed)
-        (blame_ok (marks_fault marks_name) (marks_reading per frames bytes) marks marked))))))
+    (blame_ok (marks_fault marks_name) (marks_reading per frames bytes) marks marked))))))

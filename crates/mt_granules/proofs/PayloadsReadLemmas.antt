@@ -28,7 +28,7 @@ use Rattle.mt_frame.proofs.BlockLemmas.{frame_len}
 use Rattle.mt_frame.proofs.LawLemmas.{read_exactly}
 use Rattle.mt_marks.specs.declared.marks.Marks.{Marks}
 use Rattle.mt_marks.specs.Entries.{AreMarks, Entry, HaveWords, entry_marks, mark_runs}
-use Rattle.mt_marks.specs.MarkReading.{entries_reading, in_granule, marks_of, marks_reading, payload_len, rules_reading} 
+use Rattle.mt_marks.specs.MarkReading.{entries_reading, in_granule, marks_of, marks_reading, payload_len, rules_reading}
 use Rattle.mt_marks.specs.MarkReading.{ok_or as marks_ok_or}
 use Rattle.mt_marks.specs.Positions.{position_of}
 use Rattle.mt_marks.proofs.DenotedLemmas.{position_denotes}
@@ -59,7 +59,7 @@ lies offset end (c ∷ cs) are e =
     let more = lies next end cs (All-tail IsBlock c cs are) (omega (arith, e, size, length-append (block_bytes c) (file_of cs))) in
     ap (λ (fs : List Frame). lie_end_to_end offset fs end) (layout_next offset c cs)
     ∙ and_from (offset == offset) _ (eq-eqb offset offset refl) (and_from (nat_le 1 (length c.payload) && nat_le (length c.payload) MAX_PAYLOAD) _
-        (and_from (nat_le 1 (length c.payload)) (nat_le (length c.payload) MAX_PAYLOAD) (le-leb 1 (length c.payload) is.not_empty) (le-leb (length c.payload) MAX_PAYLOAD is.small)) more)
+    (and_from (nat_le 1 (length c.payload)) (nat_le (length c.payload) MAX_PAYLOAD) (le-leb 1 (length c.payload) is.not_empty) (le-leb (length c.payload) MAX_PAYLOAD is.small)) more)
 
 pub frames_for : (file : List ℕ) (blocks : List Block) → IsFileOf blocks file → (frames : Frames) × (frames.list ≡ layout blocks) × (frames.end ≡ length file)
 frames_for file blocks is =
@@ -272,10 +272,10 @@ module _ (file bytes : List ℕ) (per : ℕ) (grouped : List (List (List ℕ))) 
       let up : Rises 0 (joined ps) total = subst (λ (l : List ℕ). Rises 0 l total) (sym (placed)) (starts_rise 0 total (sizes_of cut) (replicate per total) (omega (arith, sum_sizes cut, total_is)) (copies_rise per total)) in
       let are_frames : AreFramesOf frames file = (blocks, is, list_is, end_is) in
       entries_read frames 0 0 None es ps (build_entries frames per 0 None es ps total on.0 some have
-          (subst (λ (l : List (List Mark)). Pointwise (Pointwise (λ m n. position_of frames m ≡ Some n)) l ps) (sym lists) (all_found frames file are_frames mk.marks ps (positions)))
-          up (subst (λ (l : List Mark). Rises 0 (map (λ (m : Mark). m.offset) l) on.0) (sym all_are) on.1) (first (joined ps) refl)
-          (at_end (payload_len frames) front (replicate per total) (subst (λ (k : ℕ). All (λ n. n ≡ k) (replicate per total)) (sym (end)) (all_copies total per)))
-          (subst (RowsFit 0) (sym rows_are) (rows_fit 0 granules all_some (omega (arith, small)))))
+      (subst (λ (l : List (List Mark)). Pointwise (Pointwise (λ m n. position_of frames m ≡ Some n)) l ps) (sym lists) (all_found frames file are_frames mk.marks ps (positions)))
+      up (subst (λ (l : List Mark). Rises 0 (map (λ (m : Mark). m.offset) l) on.0) (sym all_are) on.1) (first (joined ps) refl)
+      (at_end (payload_len frames) front (replicate per total) (subst (λ (k : ℕ). All (λ n. n ≡ k) (replicate per total)) (sym (end)) (all_copies total per)))
+      (subst (RowsFit 0) (sym rows_are) (rows_fit 0 granules all_some (omega (arith, small)))))
 
   pub marks_are_read : marks_reading per frames bytes ≡ Ok marks
   marks_are_read =
