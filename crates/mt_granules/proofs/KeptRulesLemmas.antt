@@ -1,7 +1,7 @@
 -- Marks at the right positions keep the rules.
-use Rattle.std.proofs.Common.{◌≡◌, ℕ, zero, suc, ◌+◌, ◌-◌, ◌*◌, ◌^◌, ◌<◌, ◌≤◌, Bool, true, false, ◌&&◌, List, [], ◌∷◌, ◌++◌, length, map, take, drop, get_or, refl, ap, sym, ◌∙◌, subst, arith, append_assoc, append-nil, length-append, Option, Some, None}
-use Rattle.std.specs.Prelude.{All, nat_le, nat_lt, ◌==◌, ◌||◌, not, replicate}
-use Rattle.std.specs.List.{flat_map, sum}
+use Rattle.std.proofs.Common.{◌≡◌, ℕ, zero, suc, ◌+◌, ◌^◌, ◌<◌, ◌≤◌, Bool, true, false, List, [], ◌∷◌, ◌++◌, length, map, get_or, refl, ap, sym, subst, arith, Option, Some, None}
+use Rattle.std.specs.Prelude.{All, nat_le, nat_lt, ◌==◌, replicate}
+use Rattle.std.specs.List.{sum}
 use Rattle.std.specs.List.Sorted.{IsNonDecreasingBy}
 use Rattle.std.proofs.lemmas.Bool.{le-leb, lt-ltb, eq-eqb, and_from}
 use Rattle.std.proofs.lemmas.List.Elements.{All-nil, All-cons, All-head, All-tail}
@@ -9,13 +9,13 @@ use Rattle.mt_table.specs.Rows.{Pointwise}
 use Rattle.mt_defs.specs.declared.mark.Mark.{Mark}
 use Rattle.mt_frame.specs.declared.frames.Frames.{Frames}
 use Rattle.mt_marks.specs.Entries.{Entry}
-use Rattle.mt_marks.specs.MarkReading.{offset_before, position_before, is_placed, payload_len, are_rows, is_last}
+use Rattle.mt_marks.specs.MarkReading.{offset_before, position_before, is_placed, payload_len}
 use Rattle.mt_marks.specs.Positions.{position_of}
 use Rattle.mt_marks.proofs.RawLemmas.{all_marks, all_rows}
 use Rattle.mt_granules.proofs.RowLemmas.{sum-cons}
 use Rattle.mt_granules.proofs.MarksBytesLemmas.{entry_lists}
 use Rattle.mt_granules.proofs.MarksFileLemmas.{HaveMarks}
-use Rattle.mt_granules.proofs.RuleLemmas.{Former, IsRuled, as_former, AreRuled, AreEntries, Rises, joined}
+use Rattle.mt_granules.proofs.RuleLemmas.{Former, as_former, AreRuled, AreEntries, Rises, joined}
 
 abbrev Denote : Frames → List Mark → List ℕ → Type 0
 Denote frames = Pointwise (λ m n. position_of frames m ≡ Some n)
@@ -99,15 +99,14 @@ build_entries frames per total former (x ∷ es) [] top foot some have denote up
 build_entries frames per total former (x ∷ []) (ns ∷ []) top foot some have denote up on begins ends rows =
     let long = denote_long frames x.marks ns denote.0 in
     let built = build frames true former x.marks ns [] [] top foot denote.0 up (subst (λ (l : List ℕ). Rises (offset_before former) l foot) (offsets_append x.marks []) on)
-        (begins_front former ns [] begins (omega (arith, long, have.0, some))) (λ e. ends) in
+    (begins_front former ns [] begins (omega (arith, long, have.0, some))) (λ e. ends) in
     (eq-eqb x.rows 0 rows, (built.after, built.are, tt))
 build_entries frames per total former (x ∷ []) (ns ∷ os ∷ ps) top foot some have denote up on begins ends rows = absurd denote.1
 build_entries frames per total former (x ∷ y ∷ es) (ns ∷ []) top foot some have denote up on begins ends rows = absurd denote.1
 build_entries frames per total former (x ∷ y ∷ es) (ns ∷ os ∷ ps) top foot some have denote up on begins ends rows =
     let long = denote_long frames x.marks ns denote.0 in
     let built = build frames false former x.marks ns (joined (os ∷ ps)) (map (λ (m : Mark). m.offset) (all_marks (y ∷ es))) top foot denote.0 up (subst (λ (l : List ℕ). Rises (offset_before former) l foot) (offsets_append x.marks (all_marks (y ∷ es))) on)
-        (begins_front former ns (joined (os ∷ ps)) begins (omega (arith, long, have.0, some))) (λ e. absurd cc) in
-    (
+    (begins_front former ns (joined (os ∷ ps)) begins (omega (arith, long, have.0, some))) (λ e. absurd cc) in (
       and_from (nat_le 1 x.rows) (nat_lt (total + x.rows) (2 ^ 64)) (le-leb 1 x.rows rows.0) (lt-ltb (total + x.rows) (2 ^ 64) rows.1),
       (built.after, built.are, build_entries frames per (total + x.rows) built.after (y ∷ es) (os ∷ ps) top foot some have.1 denote.1 built.positions built.offsets_rise (built.begun (omega (arith, have.0, some)) (joined (os ∷ ps))) ends rows.2),
     )

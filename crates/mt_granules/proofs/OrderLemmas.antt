@@ -5,7 +5,7 @@ use Rattle.std.specs.List.{enumerate_from}
 use Rattle.std.proofs.lemmas.List.FromFn.{length-enumerate_from, get_or-enumerate_from}
 use Rattle.std.proofs.lemmas.List.{take_all, take_more, drop_more, take-append-drop}
 use Rattle.mt_table.specs.Rows.{Pointwise}
-use Rattle.mt_types.specs.Steps.{◌>>=◌, onto}
+use Rattle.mt_types.specs.Steps.{onto}
 use Rattle.mt_types.proofs.StepLemmas.{ok_then, onto_ok, ok_one, then_of, then_bad}
 use Rattle.mt_granules.specs.FileFaults.{in_order}
 
@@ -56,7 +56,6 @@ module _ {A B E : Type 0} (step : A → Result B E) where
 
   pub order_ends : (xs : List A) (i : ℕ) (ys : List B) → length xs ≤ i → in_order step (take i xs) ≡ Ok ys → in_order step xs ≡ Ok ys
   order_ends xs i ys h e = ap (in_order step) (sym (take_all i xs h)) ∙ e
-
   -- ---- a loop over numbered things
 
 numbered_at : {A : Type 0} (xs : List A) (i : ℕ) (x : A) → i < length xs → x ≡ get_or xs i x → (i, x) ≡ get_or (enumerate_from 0 xs) i (i, x)

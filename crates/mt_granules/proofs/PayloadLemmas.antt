@@ -46,8 +46,8 @@ module _ (payloads : Payloads) (places : List Mark) (index : ℕ) (d : Mark) (st
     has_payload =
         subst (λ (f : List ℕ). HasPayload f (get_or places index d).inner (end - start)) (sym frames_are)
         (subst (λ (m : Mark). HasPayload (drop m.offset payloads.file.now) m.inner (end - start)) (here)
-            (subst (λ (n : ℕ). HasPayload (drop (mark).offset payloads.file.now) (mark).inner (end - n)) (sym start_is)
-                (subst (λ (n : ℕ). HasPayload (drop (mark).offset payloads.file.now) (mark).inner (n - get_or (positions_of payloads.frames payloads.marks) index 0)) (sym end_is) (stands).has)))
+        (subst (λ (n : ℕ). HasPayload (drop (mark).offset payloads.file.now) (mark).inner (end - n)) (sym start_is)
+        (subst (λ (n : ℕ). HasPayload (drop (mark).offset payloads.file.now) (mark).inner (n - get_or (positions_of payloads.frames payloads.marks) index 0)) (sym end_is) (stands).has)))
 
     pub payload_is : (bytes : List ℕ) → ((blocks : List Block) → IsFileOf blocks frames → bytes ≡ take (end - start) (drop (get_or places index d).inner (payload_of blocks)))
         → bytes ≡ get_or (payloads_in payloads).payloads index []

@@ -1,15 +1,14 @@
 -- What a data file and its marks file hold is read.
-use Rattle.std.proofs.Common.{◌≡◌, ℕ, zero, suc, ◌+◌, ◌-◌, ◌*◌, ◌^◌, ◌<◌, ◌≤◌, ◌&&◌, Bool, true, false, List, [], ◌∷◌, ◌++◌, length, map, take, drop, refl, ap, sym, ◌∙◌, subst, arith, append_assoc, append-nil, length-append, Option, Some, None, ◌⊎◌, inl, inr}
-use Rattle.std.specs.Prelude.{All, Result, Ok, Err, option_map, nat_le, ◌==◌, replicate}
-use Rattle.std.specs.List.{concat, flat_map, sum}
-use Rattle.std.specs.List.Sorted.{IsNonDecreasingBy}
+use Rattle.std.proofs.Common.{◌≡◌, ℕ, zero, suc, ◌+◌, ◌-◌, ◌*◌, ◌^◌, ◌<◌, ◌≤◌, ◌&&◌, true, List, [], ◌∷◌, ◌++◌, length, map, take, drop, refl, ap, sym, ◌∙◌, subst, arith, length-append, Option, Some, None, inl, inr}
+use Rattle.std.specs.Prelude.{All, Result, Ok, option_map, nat_le, ◌==◌, replicate}
+use Rattle.std.specs.List.{concat, sum}
 use Rattle.std.proofs.lemmas.Bool.{le-leb, eq-eqb, and_from}
 use Rattle.std.proofs.lemmas.List.{length-map, take_at}
 use Rattle.std.proofs.lemmas.Nat.{mul-le}
 use Rattle.std.proofs.lemmas.List.Concat.{flat_map-append}
 use Rattle.std.proofs.lemmas.List.Elements.{All-nil, All-cons, All-head, All-tail, All-append}
 use Rattle.mt_types.specs.Steps.{◌>>=◌, require, ok_or}
-use Rattle.mt_types.proofs.StepLemmas.{ok_one, passed, then_of}
+use Rattle.mt_types.proofs.StepLemmas.{passed, then_of}
 use Rattle.mt_shelf.specs.declared.fault.Why.{Why}
 use Rattle.mt_shelf.specs.declared.fault.Why.TheVariants as why
 use Rattle.mt_table.specs.Rows.{Pointwise}
@@ -19,7 +18,7 @@ use Rattle.mt_defs.specs.declared.mark.Mark.{Mark}
 use Rattle.mt_defs.specs.Folder.{Folder}
 use Rattle.mt_defs.specs.Frames.{Block, IsBlock, IsFileOf, block_bytes, file_of, payload_of}
 use Rattle.mt_defs.specs.Lists.{offsets_from}
-use Rattle.mt_defs.specs.Marks.{IsMarksFile, MarksPosition, MarksFrame, MarksEnd, granule_starts, marks_bytes}
+use Rattle.mt_defs.specs.Marks.{IsMarksFile, MarksPosition, granule_starts, marks_bytes}
 use Rattle.mt_frame.specs.declared.frames.Frames.{Frames}
 use Rattle.mt_frame.specs.EndToEnd.{lie_end_to_end}
 use Rattle.mt_frame.specs.FrameReading.{frames_reading, layout, layout_from}
@@ -28,7 +27,7 @@ use Rattle.mt_frame.proofs.BlockLemmas.{frame_len}
 use Rattle.mt_frame.proofs.LawLemmas.{read_exactly}
 use Rattle.mt_marks.specs.declared.marks.Marks.{Marks}
 use Rattle.mt_marks.specs.Entries.{AreMarks, Entry, HaveWords, entry_marks, mark_runs}
-use Rattle.mt_marks.specs.MarkReading.{entries_reading, in_granule, marks_of, marks_reading, payload_len, rules_reading} 
+use Rattle.mt_marks.specs.MarkReading.{entries_reading, in_granule, marks_of, marks_reading, payload_len, rules_reading}
 use Rattle.mt_marks.specs.MarkReading.{ok_or as marks_ok_or}
 use Rattle.mt_marks.specs.Positions.{position_of}
 use Rattle.mt_marks.proofs.DenotedLemmas.{position_denotes}
@@ -45,7 +44,7 @@ use Rattle.mt_granules.proofs.MarksFileLemmas.{HaveMarks, entries_are, read_have
 use Rattle.mt_granules.proofs.MarksBytesLemmas.{entry_lists}
 use Rattle.mt_granules.proofs.CutLemmas.{AreRuns, concat_flat, flat, length-flat, length-runs, pieces_back, runs, runs_are, runs_back, runs_joined, sizes_of, sizes_runs, starts_runs, sum_grouped, sum_sizes}
 use Rattle.mt_granules.proofs.EntriesLemmas.{joined_last}
-use Rattle.mt_granules.proofs.KeptRulesLemmas.{Begins, AtEnd, RowsFit, all_copies, at_end, build_entries, offsets_rise, rows_fit}
+use Rattle.mt_granules.proofs.KeptRulesLemmas.{Begins, RowsFit, all_copies, at_end, build_entries, offsets_rise, rows_fit}
 use Rattle.mt_granules.proofs.PayloadsHeldLemmas.{HoldsPayloads, copies, len_is, layout_next, layout_none, lists_flat, take_one_more}
 
 -- ---- the frames of a file lie end to end
@@ -59,7 +58,7 @@ lies offset end (c ∷ cs) are e =
     let more = lies next end cs (All-tail IsBlock c cs are) (omega (arith, e, size, length-append (block_bytes c) (file_of cs))) in
     ap (λ (fs : List Frame). lie_end_to_end offset fs end) (layout_next offset c cs)
     ∙ and_from (offset == offset) _ (eq-eqb offset offset refl) (and_from (nat_le 1 (length c.payload) && nat_le (length c.payload) MAX_PAYLOAD) _
-        (and_from (nat_le 1 (length c.payload)) (nat_le (length c.payload) MAX_PAYLOAD) (le-leb 1 (length c.payload) is.not_empty) (le-leb (length c.payload) MAX_PAYLOAD is.small)) more)
+    (and_from (nat_le 1 (length c.payload)) (nat_le (length c.payload) MAX_PAYLOAD) (le-leb 1 (length c.payload) is.not_empty) (le-leb (length c.payload) MAX_PAYLOAD is.small)) more)
 
 pub frames_for : (file : List ℕ) (blocks : List Block) → IsFileOf blocks file → (frames : Frames) × (frames.list ≡ layout blocks) × (frames.end ≡ length file)
 frames_for file blocks is =
@@ -272,10 +271,10 @@ module _ (file bytes : List ℕ) (per : ℕ) (grouped : List (List (List ℕ))) 
       let up : Rises 0 (joined ps) total = subst (λ (l : List ℕ). Rises 0 l total) (sym (placed)) (starts_rise 0 total (sizes_of cut) (replicate per total) (omega (arith, sum_sizes cut, total_is)) (copies_rise per total)) in
       let are_frames : AreFramesOf frames file = (blocks, is, list_is, end_is) in
       entries_read frames 0 0 None es ps (build_entries frames per 0 None es ps total on.0 some have
-          (subst (λ (l : List (List Mark)). Pointwise (Pointwise (λ m n. position_of frames m ≡ Some n)) l ps) (sym lists) (all_found frames file are_frames mk.marks ps (positions)))
-          up (subst (λ (l : List Mark). Rises 0 (map (λ (m : Mark). m.offset) l) on.0) (sym all_are) on.1) (first (joined ps) refl)
-          (at_end (payload_len frames) front (replicate per total) (subst (λ (k : ℕ). All (λ n. n ≡ k) (replicate per total)) (sym (end)) (all_copies total per)))
-          (subst (RowsFit 0) (sym rows_are) (rows_fit 0 granules all_some (omega (arith, small)))))
+      (subst (λ (l : List (List Mark)). Pointwise (Pointwise (λ m n. position_of frames m ≡ Some n)) l ps) (sym lists) (all_found frames file are_frames mk.marks ps (positions)))
+      up (subst (λ (l : List Mark). Rises 0 (map (λ (m : Mark). m.offset) l) on.0) (sym all_are) on.1) (first (joined ps) refl)
+      (at_end (payload_len frames) front (replicate per total) (subst (λ (k : ℕ). All (λ n. n ≡ k) (replicate per total)) (sym (end)) (all_copies total per)))
+      (subst (RowsFit 0) (sym rows_are) (rows_fit 0 granules all_some (omega (arith, small)))))
 
   pub marks_are_read : marks_reading per frames bytes ≡ Ok marks
   marks_are_read =

@@ -2,10 +2,10 @@
 use Rattle.std.proofs.Common.{◌≡◌, ℕ, zero, suc, ◌+◌, ◌-◌, ◌<◌, ◌≤◌, List, [], ◌∷◌, ◌++◌, length, take, drop, refl, ap, sym, ◌∙◌, subst, append_assoc, append-nil, arith, length-append}
 use Rattle.std.specs.Prelude.{min, nat_le, Bool, true, false}
 use Rattle.std.proofs.lemmas.Bool.{leb-true, leb-false}
-use Rattle.std.proofs.lemmas.List.{take_at, drop_at, length-take, length-drop, take_all}
+use Rattle.std.proofs.lemmas.List.{length-drop, take_all}
 use Rattle.std.proofs.lemmas.List.Elements.{All-head, All-tail}
 use Rattle.mt_defs.specs.Frames.{Block, IsBlock, IsFileOf, block_bytes, file_of, payload_of}
-use Rattle.mt_frame.proofs.BlockLemmas.{IsHeaderOf, header_facts, frame_complete, frame_len}
+use Rattle.mt_frame.proofs.BlockLemmas.{IsHeaderOf, header_facts, frame_complete}
 use Rattle.mt_frame.proofs.LawLemmas.{one_file}
 use Rattle.mt_granules.specs.Walking.{HasPayload, StartsWithFrame}
 
@@ -135,7 +135,7 @@ pub within_first : (frames payload after first : List ℕ) (inner size : ℕ) �
     → take size first ≡ take size (drop inner (payload_of blocks))
 within_first frames payload after first inner size is few parts blocks are =
     sym (ap (λ (p : List ℕ). take size (drop inner p)) (parts.whole blocks are) ∙ ap (take size) (drop_within inner payload (payload_of parts.others) parts.in_first ∙ ap (λ (l : List ℕ). l ++ payload_of parts.others) (sym is))
-        ∙ take_within size first (payload_of parts.others) few)
+    ∙ take_within size first (payload_of parts.others) few)
 
 -- one that goes on in the others
 pub past_first : (frames payload after first out all : List ℕ) (inner size : ℕ) → first ≡ drop inner payload → length first ≤ size → out ≡ first
@@ -144,7 +144,7 @@ pub past_first : (frames payload after first out all : List ℕ) (inner size : �
 past_first frames payload after first out all inner size is many out_is all_is parts blocks are =
     all_is parts.others parts.is_file ∙ ap (λ (l : List ℕ). l ++ take (size - length first) (payload_of parts.others)) out_is
     ∙ sym (ap (λ (p : List ℕ). take size (drop inner p)) (parts.whole blocks are) ∙ ap (take size) (drop_within inner payload (payload_of parts.others) parts.in_first ∙ ap (λ (l : List ℕ). l ++ payload_of parts.others) (sym is))
-        ∙ take_past size first (payload_of parts.others) many)
+    ∙ take_past size first (payload_of parts.others) many)
 
 pub others_have : (frames payload after first : List ℕ) (inner size : ℕ) → first ≡ drop inner payload → FirstParts frames payload after inner size → HasPayload after 0 (size - length first)
 others_have frames payload after first inner size is parts = record {

@@ -1,15 +1,13 @@
 -- A column is read exactly where its files hold it.
-use Rattle.std.proofs.Common.{◌≡◌, ℕ, suc, ◌+◌, ◌<◌, ◌≤◌, true, List, [], ◌∷◌, ◌++◌, length, map, take, drop, get_or, refl, ap, sym, ◌∙◌, subst, arith}
-use Rattle.std.specs.Prelude.{All, Result, Ok, Err, IsTrue, slice_index_or}
+use Rattle.std.proofs.Common.{◌≡◌, ℕ, suc, ◌+◌, ◌<◌, ◌≤◌, true, List, [], ◌∷◌, length, map, take, drop, get_or, refl, ap, sym, ◌∙◌, subst, arith}
+use Rattle.std.specs.Prelude.{All, Ok, slice_index_or}
 use Rattle.std.specs.List.{enumerate_from, list_all, range_with_len, sum}
 use Rattle.std.proofs.Math.Path.{fun_ext}
 use Rattle.std.proofs.lemmas.List.{get_or-map, length-map, length-take-le, length-drop}
 use Rattle.std.proofs.lemmas.List.FromFn.{get_or-map-range_with_len, length-map-range_with_len}
-use Rattle.std.proofs.lemmas.List.Elements.{All-head, All-tail}
 use Rattle.mt_types.specs.declared.value.Value.{Value}
 use Rattle.mt_types.specs.Fits.{fits_of}
 use Rattle.mt_types.specs.Profile.{is_profile}
-use Rattle.mt_types.specs.Steps.{◌>>=◌}
 use Rattle.mt_types.proofs.StepLemmas.{ok_then, then_of}
 use Rattle.mt_table.specs.Rows.{Pointwise}
 use Rattle.mt_table.specs.declared.column.Column.{Column}
@@ -36,7 +34,7 @@ use Rattle.mt_granules.proofs.StepLemmas.{blame_ok}
 use Rattle.mt_wide.specs.WideReading.{column_reading, granule_reading, payloads_at, stream_reading, value_fault}
 use Rattle.mt_wide.proofs.CountLemmas.{names_count}
 use Rattle.mt_wide.proofs.EncodedCountLemmas.{encoded_count}
-use Rattle.mt_wide.proofs.StreamLawLemmas.{AreHeldGranules, IsHeld, stream_held, stream_read}
+use Rattle.mt_wide.proofs.StreamLawLemmas.{AreHeldGranules, stream_held, stream_read}
 
 -- ---- the substreams of a column, one after another
 
@@ -69,8 +67,7 @@ module _ (column : Column) (profile : is_profile column.ty ≡ true) (streams : 
   lengths_from n g (count ∷ granules) [] within good many p = absurd p
   lengths_from n g (count ∷ granules) (v ∷ values) within good many p =
       let here = granule_encodes n g count v (omega (arith, within)) good many p.0 in
-      let more = lengths_from n (g + 1) granules values (omega (arith, within)) good many p.1 in
-      (
+      let more = lengths_from n (g + 1) granules values (omega (arith, within)) good many p.1 in (
         ap (λ (k : ℕ). k ∷ map (λ (h : List Value). length h) values) here.0 ∙ ap (λ (l : List ℕ). count ∷ l) more.0,
         list_all_more (fits_of column.ty) v (all_values values) here.1.fit more.1,
       )
@@ -98,8 +95,7 @@ module _ (column : Column) (profile : is_profile column.ty ≡ true) (streams : 
       let values = column_values i (take count rows) in
       let long : length values ≡ count = length-map (take count rows) _ ∙ length-take-le count rows (omega (arith, all, both)) in
       let here : payloads_at g streams ≡ ss = ap (λ (k : ℕ). payloads_at k streams) (let z : g ≡ g + 0 = omega arith in z) ∙ turned 0 (omega arith) in
-      let decoded : decode_reading column.ty count (payloads_at g streams) ≡ Ok values = ap (decode_reading column.ty count) here ∙ encoded_decodes column.ty profile count ss values long p.0 in
-      (
+      let decoded : decode_reading column.ty count (payloads_at g streams) ≡ Ok values = ap (decode_reading column.ty count) here ∙ encoded_decodes column.ty profile count ss values long p.0 in (
         ap (blame (value_fault (stream_names column) g)) decoded,
         read_from (g + 1) i granules (drop count rows) encoded p.1 (λ k h. ap (λ (m : ℕ). payloads_at m streams) (let z : g + 1 + k ≡ g + suc k = omega arith in z) ∙ turned (suc k) (omega (arith, h))) (omega (arith, all, both, length-drop count rows)),
       )
@@ -167,13 +163,13 @@ column_is_read folder granules column i rows files are profile all has =
     let count : length encoded ≡ length granules = sym (pointwise_long _ (granule_rows granules rows) encoded has.encoded) ∙ length-granule_rows granules rows in
     let streams_are : in_order (stream_reading folder granules) names ≡ Ok streams =
     order_all (stream_reading folder granules) names streams (pointwise_of _ names streams (sym wide) (λ k a b h.
-        let here = numbered_each (λ (p : ℕ × List ℕ). HasStream p.1 (stream_payloads p.0 encoded) granules folder) names a k has.streams h in
-        stream_read folder granules (get_or names k a) (stream_payloads k encoded) files are (length-map encoded _ ∙ count) here
-        ∙ ap (λ (ps : List (List ℕ)). let r : Judged (List (List ℕ)) = Ok ps in r) (sym (get_or-map-range_with_len (λ k. stream_payloads k encoded) 0 width k k b h (omega arith))))) in
+    let here = numbered_each (λ (p : ℕ × List ℕ). HasStream p.1 (stream_payloads p.0 encoded) granules folder) names a k has.streams h in
+    stream_read folder granules (get_or names k a) (stream_payloads k encoded) files are (length-map encoded _ ∙ count) here
+    ∙ ap (λ (ps : List (List ℕ)). let r : Judged (List (List ℕ)) = Ok ps in r) (sym (get_or-map-range_with_len (λ k. stream_payloads k encoded) 0 width k k b h (omega arith))))) in
     let rows_many : length (granule_rows granules rows) ≡ length granules = length-granule_rows granules rows in
     let granules_are = read_from column profile streams 0 i granules rows encoded has.encoded (λ k h.
-        let encodes = pointwise_at _ (granule_rows granules rows) encoded k [] [] has.encoded (omega (arith, h, rows_many)) in
-        ap (λ (m : ℕ). payloads_at m streams) (let z : 0 + k ≡ k = omega arith in z)
-        ∙ granule_back width k encoded (omega (arith, h, count)) (encoded_count column.ty _ (get_or encoded k []) encodes.encoded ∙ sym (names_count column))) all in
+    let encodes = pointwise_at _ (granule_rows granules rows) encoded k [] [] has.encoded (omega (arith, h, rows_many)) in
+    ap (λ (m : ℕ). payloads_at m streams) (let z : 0 + k ≡ k = omega arith in z)
+    ∙ granule_back width k encoded (omega (arith, h, count)) (encoded_count column.ty _ (get_or encoded k []) encodes.encoded ∙ sym (names_count column))) all in
     then_of (in_order (stream_reading folder granules) names) streams (λ streams. in_order (granule_reading column streams) (enumerate_from 0 granules)) streams_are
     ∙ order_all (granule_reading column streams) (enumerate_from 0 granules) (map (column_values i) (granule_rows granules rows)) granules_are

@@ -1,15 +1,14 @@
 -- A Wide part is read exactly where its files are of the layout.
-use Rattle.std.proofs.Common.{◌≡◌, ℕ, suc, ◌+◌, ◌^◌, ◌<◌, ◌≤◌, Bool, true, List, [], ◌∷◌, ◌++◌, length, map, get_or, refl, ap, sym, ◌∙◌, subst, arith}
-use Rattle.std.specs.Prelude.{All, Result, Ok, Err, ◌↔◌, IsTrue, slice_index_or, ◌==◌}
-use Rattle.std.specs.List.{enumerate_from, list_all, range_with_len, sum}
+use Rattle.std.proofs.Common.{◌≡◌, ℕ, ◌+◌, ◌<◌, ◌≤◌, Bool, true, List, [], ◌∷◌, length, map, get_or, refl, ap, sym, ◌∙◌, subst, arith}
+use Rattle.std.specs.Prelude.{All, Ok, ◌↔◌, IsTrue, ◌==◌}
+use Rattle.std.specs.List.{enumerate_from, list_all, sum}
 use Rattle.std.proofs.lemmas.Bool.{eqb-true, eq-eqb}
 use Rattle.std.proofs.lemmas.List.{get_or-map, get_or_default, length-map}
-use Rattle.std.proofs.lemmas.List.FromFn.{get_or-enumerate_from, get_or-map-range_with_len, length-enumerate_from, length-map-range_with_len}
+use Rattle.std.proofs.lemmas.List.FromFn.{get_or-enumerate_from, get_or-map-range_with_len, length-enumerate_from}
 use Rattle.mt_types.specs.declared.value.Value.{Value}
 use Rattle.mt_types.specs.declared.value.Value.TheVariants.{Null}
 use Rattle.mt_types.specs.Fits.{fits_of}
 use Rattle.mt_types.specs.Profile.{is_profile}
-use Rattle.mt_types.specs.Steps.{◌>>=◌, require}
 use Rattle.mt_types.proofs.StepLemmas.{ok_pair, ok_one, ok_then, passed, required, then_of}
 use Rattle.mt_shelf.specs.declared.fault.Why.TheVariants as why
 use Rattle.mt_table.specs.Rows.{Pointwise, RowFits}
@@ -17,11 +16,10 @@ use Rattle.mt_table.specs.declared.column.Column.{Column}
 use Rattle.mt_table.specs.declared.limits.TheConstants.{MAX_ROWS}
 use Rattle.mt_defs.specs.FileNames.{stream_names, data_name, marks_name}
 use Rattle.mt_defs.specs.Folder.{Folder}
-use Rattle.mt_defs.specs.Granules.{AreGranules, granule_rows}
+use Rattle.mt_defs.specs.Granules.{granule_rows}
 use Rattle.mt_defs.specs.Metadata.{no_column}
 use Rattle.mt_defs.specs.Rows.{Row, column_values}
 use Rattle.mt_defs.specs.Wide.{HasColumn, HasStream, IsWide, stream_payloads}
-use Rattle.mt_codec.specs.StreamOrder.{streams_of}
 use Rattle.mt_granules.specs.ByteFiles.{HasByteFiles}
 use Rattle.mt_granules.specs.ColumnRows.{all_values, row_at, rows_of}
 use Rattle.mt_granules.specs.FileFaults.{Judged, file_fault, in_order}
@@ -50,8 +48,7 @@ granules_held folder count columns granules files e =
     ok_then (payloads_reading folder (data_name name) (marks_name name) 1) _ read is (λ found found_is is.
     required (sum found.granules == count) (file_fault (marks_name name) why.Rows) (λ _. Ok found) read is (λ all is.
     let held = payloads_held folder (data_name name) (marks_name name) 1 found files (omega arith) found_is in
-    let same : granules ≡ found.granules = ok_one _ _ e ∙ ap (λ (r : GranulePayloads). r.granules) (ok_one _ _ is) in
-    (
+    let same : granules ≡ found.granules = ok_one _ _ e ∙ ap (λ (r : GranulePayloads). r.granules) (ok_one _ _ is) in (
       subst AreHeldGranules (sym same) (record { some = held.some; small = held.small; not_empty = held.not_empty }),
       ap sum same ∙ eqb-true (sum found.granules) count all,
     ))))
@@ -88,12 +85,11 @@ wide_held folder count columns rows granules files profile e =
           let within : r < count = omega (arith, h, length-rows_of count cols) in
           subst (RowFits columns) (sym (get_or-map-range_with_len (row_at cols) 0 count r r d within (omega arith)))
           (row_fits columns cols r (pointwise_of _ columns cols (omega (arith, wide, cols_wide)) (λ k a b h.
-              let same = ap (λ (c : Column). fits_of c.ty) (get_or_default columns k no_column a h) in
-              let here : get_or cols k b ≡ all_values (get_or values k []) = get_or_default cols k b [] (omega (arith, h, wide, cols_wide)) ∙ column_at k h in
-              (
-                subst (λ (vs : List Value). list_all (fits_of (get_or columns k a).ty) vs ≡ true) (sym here) (subst (λ (p : Value → Bool). list_all p (all_values (get_or values k [])) ≡ true) same (held k h).fit),
-                omega (arith, within, long k h, ap (λ (vs : List Value). length vs) here),
-              )))));
+          let same = ap (λ (c : Column). fits_of c.ty) (get_or_default columns k no_column a h) in
+          let here : get_or cols k b ≡ all_values (get_or values k []) = get_or_default cols k b [] (omega (arith, h, wide, cols_wide)) ∙ column_at k h in (
+            subst (λ (vs : List Value). list_all (fits_of (get_or columns k a).ty) vs ≡ true) (sym here) (subst (λ (p : Value → Bool). list_all p (all_values (get_or values k [])) ≡ true) same (held k h).fit),
+            omega (arith, within, long k h, ap (λ (vs : List Value). length vs) here),
+          )))));
       layout = record {
         cut = record {
           not_empty = subst (All (λ n. 1 ≤ n)) (sym pair.1) held_granules.0.some;
@@ -112,8 +108,7 @@ first_has [] rows granules folder some is = absurd (omega arith)
 first_has (c ∷ columns) rows granules folder some is =
     let has = numbered_each (λ (p : ℕ × Column). HasColumn p.1 p.0 rows granules folder) (c ∷ columns) no_column 0 is.columns_there (omega arith) in
     let names = stream_names c in
-    let there : 0 < length names = omega (arith, names_count c, streams_some c.ty) in
-    (
+    let there : 0 < length names = omega (arith, names_count c, streams_some c.ty) in (
       stream_payloads 0 has.granule_streams,
       numbered_each (λ (p : ℕ × List ℕ). HasStream p.1 (stream_payloads p.0 has.granule_streams) granules folder) names [] 0 has.streams there,
       length-map has.granule_streams _ ∙ sym (pointwise_long _ (granule_rows granules rows) has.granule_streams has.encoded) ∙ length-granule_rows granules rows,
@@ -130,17 +125,17 @@ wide_read folder count columns rows granules files profile some any few holds =
     let first : wide_granules folder count columns ≡ Ok granules =
     then_of (granules_reading folder count (data_name name) (marks_name name) 1) (record { payloads = payloads; granules = granules }) (λ read. Ok read.granules)
     (then_of (payloads_reading folder (data_name name) (marks_name name) 1) (record { payloads = payloads; granules = granules }) _ (first_read folder granules name payloads files are many has)
-        ∙ passed (sum granules == count) (file_fault (marks_name name) why.Rows) _ (eq-eqb (sum granules) count all)) in
+    ∙ passed (sum granules == count) (file_fault (marks_name name) why.Rows) _ (eq-eqb (sum granules) count all)) in
     let numbered = enumerate_from 0 columns in
     let values : List (List (List Value)) = map (λ (i, column). map (column_values i) (granule_rows granules rows)) numbered in
     let long : length numbered ≡ length columns = length-enumerate_from 0 columns in
     let columns_are : in_order (column_reading folder granules) columns ≡ Ok values =
     order_all (column_reading folder granules) columns values (pointwise_of _ columns values (sym (length-map numbered _ ∙ long)) (λ k a b h.
-        let here = numbered_each (λ (p : ℕ × Column). HasColumn p.1 p.0 rows granules folder) columns a k is.columns_there h in
-        let at : get_or numbered k (0, a) ≡ (k, get_or columns k a) = get_or-enumerate_from 0 columns k (0, a) h ∙ ap (λ n. (n, get_or columns k a)) (let z : 0 + k ≡ k = omega arith in z) in
-        column_is_read folder granules (get_or columns k a) k rows files are (profile k a h) is.cut.all here
-        ∙ ap (λ (vs : List (List Value)). let r : Judged (List (List Value)) = Ok vs in r)
-            (sym (get_or-map (λ (p : ℕ × Column). map (column_values p.0) (granule_rows granules rows)) numbered k (0, a) b (omega (arith, h, long)) ∙ ap (λ (p : ℕ × Column). map (column_values p.0) (granule_rows granules rows)) at)))) in
+    let here = numbered_each (λ (p : ℕ × Column). HasColumn p.1 p.0 rows granules folder) columns a k is.columns_there h in
+    let at : get_or numbered k (0, a) ≡ (k, get_or columns k a) = get_or-enumerate_from 0 columns k (0, a) h ∙ ap (λ n. (n, get_or columns k a)) (let z : 0 + k ≡ k = omega arith in z) in
+    column_is_read folder granules (get_or columns k a) k rows files are (profile k a h) is.cut.all here
+    ∙ ap (λ (vs : List (List Value)). let r : Judged (List (List Value)) = Ok vs in r)
+    (sym (get_or-map (λ (p : ℕ × Column). map (column_values p.0) (granule_rows granules rows)) numbered k (0, a) b (omega (arith, h, long)) ∙ ap (λ (p : ℕ × Column). map (column_values p.0) (granule_rows granules rows)) at)))) in
     let cols_are : map all_values values ≡ map (λ (i, column). column_values i rows) numbered = each_joined numbered is.cut.all in
     let rows_are : rows_reading folder granules count columns ≡ Ok rows =
     then_of (in_order (column_reading folder granules) columns) values (λ values. Ok (rows_of count (map all_values values))) columns_are

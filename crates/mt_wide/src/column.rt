@@ -81,7 +81,13 @@ fn read_stream<'a>(
 {
     let data_name = with_ending(alloc, name, b".bin")?;
     let marks_name = with_ending(alloc, name, b".mrk2")?;
-    let payloads = read_payloads(alloc, folder, data_name.as_slice(), marks_name.as_slice(), 1)?;
+    let payloads = read_payloads(
+        alloc,
+        folder,
+        data_name.as_slice(),
+        marks_name.as_slice(),
+        1,
+    )?;
     check_granules(alloc, marks_name.as_slice(), granules, payloads.granules())?;
     Ok(payloads)
 }

@@ -22,5 +22,5 @@ append_payloads-requires c =
 pub returns : goal.returns
 returns c = λ blocks are.
     c.of.ensures ∙ past_first c.args.frames.now c.split_frame.result.0.now c.split_frame.result.1.now c.tail-first.result.now c.extend_from_slice.new.self.items c.append_payloads.new.out.items c.args.inner c.args.size
-        c.tail-first.ensures (omega (arith, c.if-size-first.false)) (c.in_ok-extend_from_slice.ensures.items ∙ ap (λ (l : List ℕ). l ++ c.tail-first.result.now) c.in_ok-bytes.ensures.items) c.in_ok-append_payloads.ensures
-        (first_parts c.args.frames.now c.split_frame.result.0.now c.split_frame.result.1.now c.args.inner c.args.size (omega (arith, c.if-size-eq0.false)) c.split_frame.ensures c.requires) blocks are
+    c.tail-first.ensures (omega (arith, c.if-size-first.false)) (c.in_ok-extend_from_slice.ensures.items ∙ ap (λ (l : List ℕ). l ++ c.tail-first.result.now) c.in_ok-bytes.ensures.items) c.in_ok-append_payloads.ensures
+    (first_parts c.args.frames.now c.split_frame.result.0.now c.split_frame.result.1.now c.args.inner c.args.size (omega (arith, c.if-size-eq0.false)) c.split_frame.ensures c.requires) blocks are

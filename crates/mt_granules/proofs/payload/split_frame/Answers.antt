@@ -1,4 +1,4 @@
-use Rattle.std.proofs.Common.{◌≡◌, ◌+◌, ℕ, take, drop, length, List, ap, sym, ◌∙◌, arith}
+use Rattle.std.proofs.Common.{◌+◌, ℕ, take, drop, ap, sym, ◌∙◌, arith}
 use Rattle.std.proofs.lemmas.List.{drop-drop}
 use Rattle.mt_defs.specs.Frames.{Block}
 use Rattle.mt_frame.proofs.BytesLemmas.{number_in}
@@ -17,8 +17,7 @@ returns c = λ block rest e is.
     let bytes = c.args.frames.now in
     let n = c.payload_size.result in
     let header = starts_header bytes block rest is e in
-    let size = number_in bytes c.split_at.result.0.now 21 4 n (omega arith) (omega arith) c.payload_size.ensures.small (sym c.split_at.ensures.front) c.payload_size.ensures.bytes in
-    (
+    let size = number_in bytes c.split_at.result.0.now 21 4 n (omega arith) (omega arith) c.payload_size.ensures.small (sym c.split_at.ensures.front) c.payload_size.ensures.bytes in (
       c.split_at-2.ensures.front ∙ ap (take n) c.split_at.ensures.back ∙ ap (λ (k : ℕ). take k (drop 25 bytes)) (sym size) ∙ sym (ap (λ (b : Block). b.payload) header.block),
       c.split_at-2.ensures.back ∙ ap (drop n) c.split_at.ensures.back ∙ drop-drop n 25 bytes ∙ ap (λ (k : ℕ). drop (25 + k) bytes) (sym size) ∙ sym header.rest_is,
     )

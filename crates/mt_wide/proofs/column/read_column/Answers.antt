@@ -1,15 +1,14 @@
-use Rattle.std.proofs.Common.{◌≡◌, List, ℕ, ap, sym, ◌∙◌, length, get_or}
+use Rattle.std.proofs.Common.{List, ap, sym, ◌∙◌, get_or}
 use Rattle.std.specs.Prelude.{Ok}
 use Rattle.std.specs.List.{enumerate_from}
 use Rattle.std.proofs.lemmas.List.{get_or_default}
 use Rattle.std.proofs.lemmas.Result.{err_from_is_err_and}
 use Rattle.mt_types.specs.declared.value.Value.{Value}
 use Rattle.mt_types.proofs.StepLemmas.{then_of}
-use Rattle.mt_granules.specs.FileFaults.{Judged, in_order}
+use Rattle.mt_granules.specs.FileFaults.{in_order}
 use Rattle.mt_granules.specs.FileFolder.{folder_in}
 use Rattle.mt_granules.proofs.OrderLemmas.{numbered_continues, numbered_ends}
 use Rattle.mt_granules.proofs.StepLemmas.{fails_after, fails_numbered}
-use Rattle.mt_granules.specs.declared.payloads.Payloads.{Payloads}
 use Rattle.mt_defs.specs.FileNames.{stream_names}
 use Rattle.mt_wide.specs.StreamView.{streams_in}
 use Rattle.mt_wide.specs.WideReading.{granule_reading, stream_reading}
@@ -30,9 +29,9 @@ returns-in_err-read_granule-clause-reads c =
     let i = c.loop-granule.granule in
     let step = granule_reading c.args.column.now streams in
     rw (p.1, p.2) (fails_after e (in_order (stream_reading (folder_in c.args.folder.now) granules) (stream_names c.args.column.now)) streams (λ streams. in_order (granule_reading c.args.column.now streams) (enumerate_from 0 granules))
-        (rw (c.as_slice.ensures, c.in_ok-names.ensures) at c.in_ok-streams.ensures.reads)
-        (fails_numbered e step granules i (get_or granules i 0) c.loop-granule.values c.loop-granule-test.true (get_or_default granules i 0 (get_or granules i 0) c.loop-granule-test.true) c.loop-granule.invariant.so_far
-            (rw c.as_slice-in-loop-granule-2.ensures at c.in_err-read_granule.ensures.reads)))
+    (rw (c.as_slice.ensures, c.in_ok-names.ensures) at c.in_ok-streams.ensures.reads)
+    (fails_numbered e step granules i (get_or granules i 0) c.loop-granule.values c.loop-granule-test.true (get_or_default granules i 0 (get_or granules i 0) c.loop-granule-test.true) c.loop-granule.invariant.so_far
+    (rw c.as_slice-in-loop-granule-2.ensures at c.in_err-read_granule.ensures.reads)))
 
 pub loop-granule-preserved : goal.loop-granule-preserved
 loop-granule-preserved c =

@@ -6,7 +6,7 @@ use Rattle.mt_granules.specs.FileFolder.{folder_in}
 use Rattle.mt_granules.specs.ColumnRows.{all_values, rows_of}
 use Rattle.mt_granules.proofs.StepLemmas.{fails_in_order, fails_on}
 use Rattle.mt_wide.specs.WideReading.{column_reading}
-use Rattle.mt_wide.proofs.ReadingLemmas.{all_read, column_read, none_read, rows_many, values_fit}
+use Rattle.mt_wide.proofs.ReadingLemmas.{column_read, rows_many, values_fit}
 use Rattle.mt_wide.proofs.reading.read_columns.Goals as goal
 
 pub returns-in_err-values : goal.returns-in_err-values
@@ -14,7 +14,7 @@ returns-in_err-values c =
     let p = err_from_is_err_and c.from_residual-in_err-values.result c.from_residual-in_err-values.ensures.1 in
     let step = column_reading (folder_in c.args.folder.now) c.args.granules.now in
     rw (p.1, p.2) (fails_on c.in_err-values.field-0.0 (in_order step c.args.columns.now) (λ values. Ok (rows_of c.args.count (map all_values values)))
-        (fails_in_order c.in_err-values.field-0.0 step c.args.columns.now c.loop-column.column-index c.column-item.result c.loop-column.invariant.values c.loop-column-test.true c.column-item.is c.loop-column.invariant.so_far c.in_err-values.ensures.reads))
+    (fails_in_order c.in_err-values.field-0.0 step c.args.columns.now c.loop-column.column-index c.column-item.result c.loop-column.invariant.values c.loop-column-test.true c.column-item.is c.loop-column.invariant.so_far c.in_err-values.ensures.reads))
 
 pub append_column-requires : goal.append_column-requires
 append_column-requires c =

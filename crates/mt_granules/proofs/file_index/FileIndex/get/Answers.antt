@@ -1,4 +1,4 @@
-use Rattle.std.proofs.Common.{◌≡◌, ◌<◌, ◌≤◌, true, false, List, length, get_or, ap, sym, ◌∙◌, arith, Bor}
+use Rattle.std.proofs.Common.{List, length, get_or, ap, sym, ◌∙◌, arith, Bor}
 use Rattle.std.specs.Prelude.{option_copied, Some}
 use Rattle.std.specs.Str.{bytes_eq}
 use Rattle.std.proofs.lemmas.Bool.{ltb-true, ltb-false}
@@ -13,7 +13,7 @@ returns-in_err-file c =
     let over = ltb-false _ _ (sym c.in_err-file.ensures.lookup.0) in
     ap option_copied c.from_residual.ensures
     ∙ sym (not_found c.args.name.now (files_in c.args.self.now.sorted.items) c.count_below-index.result c.count_below-index.ensures
-        (omega (arith, over, ap (λ (l : List (Bor FileBytes)). length l) c.as_slice.ensures.value, files_many c.args.self.now.sorted.items)))
+    (omega (arith, over, ap (λ (l : List (Bor FileBytes)). length l) c.as_slice.ensures.value, files_many c.args.self.now.sorted.items)))
 
 pub returns-then-eq : goal.returns-then-eq
 returns-then-eq c =
@@ -24,7 +24,7 @@ returns-then-eq c =
     let there = reference_at files c.count_below-index.result file (omega (arith, inside, many)) (c.in_ok-file.ensures.lookup.1 ∙ ap (λ (l : List (Bor FileBytes)). get_or l c.count_below-index.result file) c.as_slice.ensures.value) in
     ap (λ b. Some b) c.as_slice-then-eq.ensures
     ∙ sym (found_there c.args.name.now (files_in files) c.count_below-index.result file.now c.count_below-index.ensures (omega (arith, inside, many, files_many files)) there
-        (is_eq-slice_cmp file.now.name c.args.name.now ∙ ap (λ n. bytes_eq n c.args.name.now) (sym c.as_slice-2.ensures) ∙ sym c.if-eq.ensures))
+    (is_eq-slice_cmp file.now.name c.args.name.now ∙ ap (λ n. bytes_eq n c.args.name.now) (sym c.as_slice-2.ensures) ∙ sym c.if-eq.ensures))
 
 pub returns : goal.returns
 returns c =
@@ -34,4 +34,4 @@ returns c =
     let many = ap (λ (l : List (Bor FileBytes)). length l) c.as_slice.ensures.value in
     let there = reference_at files c.count_below-index.result file (omega (arith, inside, many)) (c.in_ok-file.ensures.lookup.1 ∙ ap (λ (l : List (Bor FileBytes)). get_or l c.count_below-index.result file) c.as_slice.ensures.value) in
     sym (other_there c.args.name.now (files_in files) c.count_below-index.result file.now c.args.self.now.rising c.count_below-index.ensures (omega (arith, inside, many, files_many files)) there
-        (is_eq-slice_cmp file.now.name c.args.name.now ∙ ap (λ n. bytes_eq n c.args.name.now) (sym c.as_slice-2.ensures) ∙ sym c.if-eq.ensures))
+    (is_eq-slice_cmp file.now.name c.args.name.now ∙ ap (λ n. bytes_eq n c.args.name.now) (sym c.as_slice-2.ensures) ∙ sym c.if-eq.ensures))
