@@ -1,8 +1,7 @@
 -- Positions cut a payload into pieces whose lengths give the positions, and back; and pieces stand in runs, one per granule.
-use Rattle.std.proofs.Common.{◌≡◌, ℕ, zero, suc, ◌+◌, ◌-◌, ◌*◌, ◌<◌, ◌≤◌, List, [], ◌∷◌, ◌++◌, length, map, take, drop, refl, ap, sym, ◌∙◌, subst, append_assoc, append-nil, arith, length-append, take-add}
-use Rattle.std.specs.Prelude.{replicate}
+use Rattle.std.proofs.Common.{◌≡◌, ℕ, zero, suc, ◌+◌, ◌-◌, ◌*◌, ◌≤◌, List, [], ◌∷◌, ◌++◌, length, map, take, drop, refl, ap, sym, ◌∙◌, append_assoc, append-nil, arith, length-append, take-add}
 use Rattle.std.specs.List.{concat, flat_map, sum}
-use Rattle.std.proofs.lemmas.List.{length-take, length-take-le, length-drop, drop-drop, take-append-drop, take_at, drop_at, length-map}
+use Rattle.std.proofs.lemmas.List.{length-take, length-take-le, length-drop, drop-drop, take-append-drop, take_at, drop_at}
 use Rattle.std.proofs.Math.Seq.{take-append_seam, drop-append_seam}
 use Rattle.mt_defs.specs.Lists.{offsets_from}
 use Rattle.mt_defs.specs.Marks.{granule_starts}

@@ -1,22 +1,22 @@
 -- What entries that keep the rules say of rows, positions and offsets, and back.
-use Rattle.std.proofs.Common.{◌≡◌, ℕ, zero, suc, ◌+◌, ◌-◌, ◌*◌, ◌^◌, ◌<◌, ◌≤◌, Bool, true, false, ◌&&◌, List, [], ◌∷◌, ◌++◌, length, map, take, drop, get_or, refl, ap, sym, ◌∙◌, subst, arith, append_assoc, append-nil, length-append, Option, Some, None}
-use Rattle.std.specs.Prelude.{All, nat_le, nat_lt, ◌==◌, ◌||◌, not, replicate, slice_index_or}
-use Rattle.std.specs.List.{flat_map, sum}
+use Rattle.std.proofs.Common.{◌≡◌, ℕ, zero, suc, ◌+◌, ◌-◌, ◌^◌, ◌<◌, ◌≤◌, Bool, true, false, List, [], ◌∷◌, ◌++◌, length, map, take, get_or, refl, ap, sym, ◌∙◌, subst, arith, append_assoc, append-nil, Option, Some, None}
+use Rattle.std.specs.Prelude.{All, nat_le, nat_lt, ◌==◌, ◌||◌, not, replicate}
+use Rattle.std.specs.List.{sum}
 use Rattle.std.specs.List.Sorted.{IsNonDecreasingBy}
-use Rattle.std.proofs.lemmas.Bool.{leb-true, ltb-true, eqb-true, le-leb, lt-ltb, eq-eqb, and_parts, and_from}
-use Rattle.std.proofs.lemmas.List.Elements.{All-nil, All-cons, All-head, All-tail}
+use Rattle.std.proofs.lemmas.Bool.{ltb-true, eqb-true, and_parts}
+use Rattle.std.proofs.lemmas.List.Elements.{All-nil, All-cons}
 use Rattle.mt_table.specs.Rows.{Pointwise}
 use Rattle.mt_defs.specs.declared.mark.Mark.{Mark}
 use Rattle.mt_frame.specs.declared.frames.Frames.{Frames}
 use Rattle.mt_marks.specs.Entries.{Entry}
-use Rattle.mt_marks.specs.MarkReading.{offset_before, position_before, is_placed, payload_len, are_rows, is_last}
+use Rattle.mt_marks.specs.MarkReading.{is_placed, payload_len, is_last}
 use Rattle.mt_marks.specs.Positions.{position_of}
-use Rattle.mt_marks.proofs.RawLemmas.{all_marks, all_rows}
+use Rattle.mt_marks.proofs.RawLemmas.{all_rows}
 use Rattle.mt_granules.proofs.RowLemmas.{sum-cons}
 use Rattle.mt_granules.proofs.MarksBytesLemmas.{entry_lists}
 use Rattle.mt_granules.proofs.MarksFileLemmas.{HaveMarks}
 use Rattle.mt_granules.proofs.CutLemmas.{AreRuns, RisesTo, flat}
-use Rattle.mt_granules.proofs.RuleLemmas.{Former, IsRuled, as_former, AreRuled, AreEntries, Rises, joined}
+use Rattle.mt_granules.proofs.RuleLemmas.{Former, as_former, AreRuled, AreEntries, Rises, joined}
 
 -- ---- rows
 

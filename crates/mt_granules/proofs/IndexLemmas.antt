@@ -1,5 +1,5 @@
 -- Lists by their indexes.
-use Rattle.std.proofs.Common.{◌≡◌, ℕ, zero, suc, ◌+◌, ◌<◌, ◌≤◌, Bool, true, false, ◌&&◌, List, [], ◌∷◌, ◌++◌, length, map, take, drop, get_or, refl, ap, sym, ◌∙◌, subst, arith, length-append}
+use Rattle.std.proofs.Common.{◌≡◌, ℕ, zero, suc, ◌+◌, ◌<◌, Bool, true, List, [], ◌∷◌, ◌++◌, length, map, take, drop, get_or, refl, ap, sym, ◌∙◌, subst, arith}
 use Rattle.std.specs.Prelude.{All, slice_index_or}
 use Rattle.std.specs.List.{enumerate_from, list_all, range_with_len, sum}
 use Rattle.std.proofs.lemmas.Bool.{and_parts, and_from}
@@ -7,7 +7,6 @@ use Rattle.std.proofs.lemmas.List.{ext_get_or, get_or-map, get_or_default, lengt
 use Rattle.std.proofs.lemmas.List.FromFn.{get_or-enumerate_from, get_or-map-range_with_len, length-enumerate_from, length-map-range_with_len}
 use Rattle.mt_types.specs.declared.value.Value.{Value}
 use Rattle.mt_types.specs.declared.value.Value.TheVariants.{Null}
-use Rattle.mt_types.specs.Fits.{fits_of}
 use Rattle.mt_table.specs.Rows.{Pointwise, RowFits}
 use Rattle.mt_table.specs.declared.column.Column.{Column}
 use Rattle.mt_defs.specs.Metadata.{no_column}

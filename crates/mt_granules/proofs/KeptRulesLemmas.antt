@@ -1,7 +1,7 @@
 -- Marks at the right positions keep the rules.
-use Rattle.std.proofs.Common.{◌≡◌, ℕ, zero, suc, ◌+◌, ◌-◌, ◌*◌, ◌^◌, ◌<◌, ◌≤◌, Bool, true, false, ◌&&◌, List, [], ◌∷◌, ◌++◌, length, map, take, drop, get_or, refl, ap, sym, ◌∙◌, subst, arith, append_assoc, append-nil, length-append, Option, Some, None}
-use Rattle.std.specs.Prelude.{All, nat_le, nat_lt, ◌==◌, ◌||◌, not, replicate}
-use Rattle.std.specs.List.{flat_map, sum}
+use Rattle.std.proofs.Common.{◌≡◌, ℕ, zero, suc, ◌+◌, ◌^◌, ◌<◌, ◌≤◌, Bool, true, false, List, [], ◌∷◌, ◌++◌, length, map, get_or, refl, ap, sym, subst, arith, Option, Some, None}
+use Rattle.std.specs.Prelude.{All, nat_le, nat_lt, ◌==◌, replicate}
+use Rattle.std.specs.List.{sum}
 use Rattle.std.specs.List.Sorted.{IsNonDecreasingBy}
 use Rattle.std.proofs.lemmas.Bool.{le-leb, lt-ltb, eq-eqb, and_from}
 use Rattle.std.proofs.lemmas.List.Elements.{All-nil, All-cons, All-head, All-tail}
@@ -9,13 +9,13 @@ use Rattle.mt_table.specs.Rows.{Pointwise}
 use Rattle.mt_defs.specs.declared.mark.Mark.{Mark}
 use Rattle.mt_frame.specs.declared.frames.Frames.{Frames}
 use Rattle.mt_marks.specs.Entries.{Entry}
-use Rattle.mt_marks.specs.MarkReading.{offset_before, position_before, is_placed, payload_len, are_rows, is_last}
+use Rattle.mt_marks.specs.MarkReading.{offset_before, position_before, is_placed, payload_len}
 use Rattle.mt_marks.specs.Positions.{position_of}
 use Rattle.mt_marks.proofs.RawLemmas.{all_marks, all_rows}
 use Rattle.mt_granules.proofs.RowLemmas.{sum-cons}
 use Rattle.mt_granules.proofs.MarksBytesLemmas.{entry_lists}
 use Rattle.mt_granules.proofs.MarksFileLemmas.{HaveMarks}
-use Rattle.mt_granules.proofs.RuleLemmas.{Former, IsRuled, as_former, AreRuled, AreEntries, Rises, joined}
+use Rattle.mt_granules.proofs.RuleLemmas.{Former, as_former, AreRuled, AreEntries, Rises, joined}
 
 abbrev Denote : Frames → List Mark → List ℕ → Type 0
 Denote frames = Pointwise (λ m n. position_of frames m ≡ Some n)

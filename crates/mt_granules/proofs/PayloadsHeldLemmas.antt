@@ -1,19 +1,18 @@
 -- What is read of a data file and its marks file is what they hold.
-use Rattle.std.proofs.Common.{◌≡◌, ℕ, zero, suc, ◌+◌, ◌-◌, ◌*◌, ◌/◌, ◌%◌, ◌^◌, ◌<◌, ◌≤◌, List, [], ◌∷◌, ◌++◌, length, map, take, drop, refl, ap, sym, ◌∙◌, subst, arith, append_assoc, append-nil, length-append, Option, Some, None}
-use Rattle.std.specs.Prelude.{All, Result, Ok, Err, replicate}
+use Rattle.std.proofs.Common.{◌≡◌, ℕ, zero, suc, ◌+◌, ◌-◌, ◌*◌, ◌^◌, ◌<◌, ◌≤◌, List, [], ◌∷◌, ◌++◌, length, map, take, drop, refl, ap, sym, ◌∙◌, subst, arith, append_assoc, length-append, Option, Some, None}
+use Rattle.std.specs.Prelude.{All, Ok, replicate}
 use Rattle.std.specs.List.{concat, flat_map, sum}
 use Rattle.std.proofs.Math.Nat.{mod-eq-sub-div-mul, div-mul-le_self}
-use Rattle.std.proofs.lemmas.List.{length-map, length-take-le, take_all, take_at, drop_at, take-append-drop}
-use Rattle.std.proofs.lemmas.List.Concat.{flat_map-append}
+use Rattle.std.proofs.lemmas.List.{length-map, length-take-le, take_all, take_at}
 use Rattle.std.proofs.lemmas.List.Elements.{All-nil, All-cons, All-head, All-tail, All-take, All-drop, All-append}
-use Rattle.mt_types.specs.Steps.{◌>>=◌, ok_or}
+use Rattle.mt_types.specs.Steps.{ok_or}
 use Rattle.mt_types.proofs.StepLemmas.{ok_then, ok_one}
 use Rattle.mt_shelf.specs.declared.fault.Why.TheVariants as why
 use Rattle.mt_table.specs.Rows.{Pointwise}
 use Rattle.mt_defs.specs.declared.frame.Frame.{Frame}
 use Rattle.mt_defs.specs.declared.mark.Mark.{Mark}
 use Rattle.mt_defs.specs.Folder.{Folder}
-use Rattle.mt_defs.specs.Frames.{Block, IsBlock, IsFileOf, IsFramed, payload_of}
+use Rattle.mt_defs.specs.Frames.{Block, IsBlock, IsFramed, payload_of}
 use Rattle.mt_defs.specs.Lists.{AreBytes, offsets_from}
 use Rattle.mt_defs.specs.Marks.{IsMarksFile, MarksPosition, granule_starts, marks_bytes as bytes_of_marks}
 use Rattle.mt_frame.specs.declared.frames.Frames.{Frames}
@@ -22,23 +21,23 @@ use Rattle.mt_frame.specs.Results.{AreFramesOf}
 use Rattle.mt_item.proofs.ExactLemmas.{small_of}
 use Rattle.mt_marks.specs.declared.marks.Marks.{Marks}
 use Rattle.mt_marks.specs.Entries.{Entry}
-use Rattle.mt_marks.specs.MarkReading.{entry_len, marks_of, marks_reading, payload_len}
+use Rattle.mt_marks.specs.MarkReading.{entry_len, marks_reading, payload_len}
 use Rattle.mt_marks.specs.Positions.{position_of}
 use Rattle.mt_marks.proofs.DenotedLemmas.{position_denotes}
 use Rattle.mt_marks.proofs.RawLemmas.{all_marks, all_rows}
 use Rattle.mt_granules.specs.ByteFiles.{HasByteFiles, IsByteFile}
 use Rattle.mt_granules.specs.FileFaults.{blame, file_fault, file_reading, frame_fault, marks_fault}
-use Rattle.mt_granules.specs.PayloadReading.{GranulePayloads, frames_in, granules_of, mark_count, payload_in, payloads_of, payloads_reading, pieces, positions_of}
+use Rattle.mt_granules.specs.PayloadReading.{GranulePayloads, frames_in, granules_of, mark_count, payloads_of, payloads_reading, pieces, positions_of}
 use Rattle.std.specs.List.Sorted.{IsNonDecreasingBy}
 use Rattle.mt_granules.proofs.StepLemmas.{blame_ok}
 use Rattle.mt_granules.proofs.DataFileLemmas.{length-offsets}
 use Rattle.mt_granules.proofs.RowLemmas.{sum-cons}
-use Rattle.mt_granules.proofs.RuleLemmas.{AreEntries, Climb, Rises, all_entries, climb_all, entries_rows, joined}
+use Rattle.mt_granules.proofs.RuleLemmas.{Rises, all_entries, climb_all, entries_rows, joined}
 use Rattle.mt_granules.proofs.MarkLemmas.{file_is, frames_are, payload_is, positions_are}
-use Rattle.mt_granules.proofs.MarksFileLemmas.{HaveMarks, IsReadAs, marks_read}
+use Rattle.mt_granules.proofs.MarksFileLemmas.{marks_read}
 use Rattle.mt_granules.proofs.MarksBytesLemmas.{entry_lists, file_encodes}
 use Rattle.mt_granules.proofs.CutLemmas.{AreRuns, RisesTo, concat_flat, flat, length-flat, length-runs, pieces_joined, pieces_start, runs, runs_are, runs_back, runs_joined, sizes_of, sizes_runs, starts_runs, sum_grouped}
-use Rattle.mt_granules.proofs.EntriesLemmas.{EndsAt, begins_at, each_below, ends_at, entries_denote, joined_last, never_fall, rises_to, rows_end, rows_small}
+use Rattle.mt_granules.proofs.EntriesLemmas.{begins_at, each_below, ends_at, entries_denote, joined_last, never_fall, rises_to, rows_end, rows_small}
 
 -- the folder's data file and marks file hold these payloads, so many in each granule
 pub record HoldsPayloads (folder : Folder) (data_name marks_name : List ℕ) (per : ℕ) (grouped : List (List (List ℕ))) (granules : List ℕ) : Type 0 where

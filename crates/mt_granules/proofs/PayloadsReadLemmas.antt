@@ -1,15 +1,14 @@
 -- What a data file and its marks file hold is read.
-use Rattle.std.proofs.Common.{◌≡◌, ℕ, zero, suc, ◌+◌, ◌-◌, ◌*◌, ◌^◌, ◌<◌, ◌≤◌, ◌&&◌, Bool, true, false, List, [], ◌∷◌, ◌++◌, length, map, take, drop, refl, ap, sym, ◌∙◌, subst, arith, append_assoc, append-nil, length-append, Option, Some, None, ◌⊎◌, inl, inr}
-use Rattle.std.specs.Prelude.{All, Result, Ok, Err, option_map, nat_le, ◌==◌, replicate}
-use Rattle.std.specs.List.{concat, flat_map, sum}
-use Rattle.std.specs.List.Sorted.{IsNonDecreasingBy}
+use Rattle.std.proofs.Common.{◌≡◌, ℕ, zero, suc, ◌+◌, ◌-◌, ◌*◌, ◌^◌, ◌<◌, ◌≤◌, ◌&&◌, true, List, [], ◌∷◌, ◌++◌, length, map, take, drop, refl, ap, sym, ◌∙◌, subst, arith, length-append, Option, Some, None, inl, inr}
+use Rattle.std.specs.Prelude.{All, Result, Ok, option_map, nat_le, ◌==◌, replicate}
+use Rattle.std.specs.List.{concat, sum}
 use Rattle.std.proofs.lemmas.Bool.{le-leb, eq-eqb, and_from}
 use Rattle.std.proofs.lemmas.List.{length-map, take_at}
 use Rattle.std.proofs.lemmas.Nat.{mul-le}
 use Rattle.std.proofs.lemmas.List.Concat.{flat_map-append}
 use Rattle.std.proofs.lemmas.List.Elements.{All-nil, All-cons, All-head, All-tail, All-append}
 use Rattle.mt_types.specs.Steps.{◌>>=◌, require, ok_or}
-use Rattle.mt_types.proofs.StepLemmas.{ok_one, passed, then_of}
+use Rattle.mt_types.proofs.StepLemmas.{passed, then_of}
 use Rattle.mt_shelf.specs.declared.fault.Why.{Why}
 use Rattle.mt_shelf.specs.declared.fault.Why.TheVariants as why
 use Rattle.mt_table.specs.Rows.{Pointwise}
@@ -19,7 +18,7 @@ use Rattle.mt_defs.specs.declared.mark.Mark.{Mark}
 use Rattle.mt_defs.specs.Folder.{Folder}
 use Rattle.mt_defs.specs.Frames.{Block, IsBlock, IsFileOf, block_bytes, file_of, payload_of}
 use Rattle.mt_defs.specs.Lists.{offsets_from}
-use Rattle.mt_defs.specs.Marks.{IsMarksFile, MarksPosition, MarksFrame, MarksEnd, granule_starts, marks_bytes}
+use Rattle.mt_defs.specs.Marks.{IsMarksFile, MarksPosition, granule_starts, marks_bytes}
 use Rattle.mt_frame.specs.declared.frames.Frames.{Frames}
 use Rattle.mt_frame.specs.EndToEnd.{lie_end_to_end}
 use Rattle.mt_frame.specs.FrameReading.{frames_reading, layout, layout_from}
@@ -45,7 +44,7 @@ use Rattle.mt_granules.proofs.MarksFileLemmas.{HaveMarks, entries_are, read_have
 use Rattle.mt_granules.proofs.MarksBytesLemmas.{entry_lists}
 use Rattle.mt_granules.proofs.CutLemmas.{AreRuns, concat_flat, flat, length-flat, length-runs, pieces_back, runs, runs_are, runs_back, runs_joined, sizes_of, sizes_runs, starts_runs, sum_grouped, sum_sizes}
 use Rattle.mt_granules.proofs.EntriesLemmas.{joined_last}
-use Rattle.mt_granules.proofs.KeptRulesLemmas.{Begins, AtEnd, RowsFit, all_copies, at_end, build_entries, offsets_rise, rows_fit}
+use Rattle.mt_granules.proofs.KeptRulesLemmas.{Begins, RowsFit, all_copies, at_end, build_entries, offsets_rise, rows_fit}
 use Rattle.mt_granules.proofs.PayloadsHeldLemmas.{HoldsPayloads, copies, len_is, layout_next, layout_none, lists_flat, take_one_more}
 
 -- ---- the frames of a file lie end to end

@@ -1,15 +1,13 @@
 -- A column is read exactly where its files hold it.
-use Rattle.std.proofs.Common.{◌≡◌, ℕ, suc, ◌+◌, ◌<◌, ◌≤◌, true, List, [], ◌∷◌, ◌++◌, length, map, take, drop, get_or, refl, ap, sym, ◌∙◌, subst, arith}
-use Rattle.std.specs.Prelude.{All, Result, Ok, Err, IsTrue, slice_index_or}
+use Rattle.std.proofs.Common.{◌≡◌, ℕ, suc, ◌+◌, ◌<◌, ◌≤◌, true, List, [], ◌∷◌, length, map, take, drop, get_or, refl, ap, sym, ◌∙◌, subst, arith}
+use Rattle.std.specs.Prelude.{All, Ok, slice_index_or}
 use Rattle.std.specs.List.{enumerate_from, list_all, range_with_len, sum}
 use Rattle.std.proofs.Math.Path.{fun_ext}
 use Rattle.std.proofs.lemmas.List.{get_or-map, length-map, length-take-le, length-drop}
 use Rattle.std.proofs.lemmas.List.FromFn.{get_or-map-range_with_len, length-map-range_with_len}
-use Rattle.std.proofs.lemmas.List.Elements.{All-head, All-tail}
 use Rattle.mt_types.specs.declared.value.Value.{Value}
 use Rattle.mt_types.specs.Fits.{fits_of}
 use Rattle.mt_types.specs.Profile.{is_profile}
-use Rattle.mt_types.specs.Steps.{◌>>=◌}
 use Rattle.mt_types.proofs.StepLemmas.{ok_then, then_of}
 use Rattle.mt_table.specs.Rows.{Pointwise}
 use Rattle.mt_table.specs.declared.column.Column.{Column}
@@ -36,7 +34,7 @@ use Rattle.mt_granules.proofs.StepLemmas.{blame_ok}
 use Rattle.mt_wide.specs.WideReading.{column_reading, granule_reading, payloads_at, stream_reading, value_fault}
 use Rattle.mt_wide.proofs.CountLemmas.{names_count}
 use Rattle.mt_wide.proofs.EncodedCountLemmas.{encoded_count}
-use Rattle.mt_wide.proofs.StreamLawLemmas.{AreHeldGranules, IsHeld, stream_held, stream_read}
+use Rattle.mt_wide.proofs.StreamLawLemmas.{AreHeldGranules, stream_held, stream_read}
 
 -- ---- the substreams of a column, one after another
 

@@ -1,8 +1,8 @@
 -- Values are encoded by as many substreams as their type has.
-use Rattle.std.proofs.Common.{◌≡◌, ℕ, suc, ◌+◌, ◌≤◌, List, [], ◌∷◌, length, map, refl, ap, sym, ◌∙◌, subst, arith}
-use Rattle.mt_types.specs.declared.ty.Ty.{Ty, map-Ty, out-Ty, roll-Ty}
+use Rattle.std.proofs.Common.{◌≡◌, ℕ, suc, ◌+◌, ◌≤◌, List, [], ◌∷◌, length, ap, sym, ◌∙◌, subst, arith}
+use Rattle.mt_types.specs.declared.ty.Ty.{Ty, map-Ty, roll-Ty}
 use Rattle.mt_types.specs.declared.ty.Ty.TheOpen.{Ty-F}
-use Rattle.mt_types.specs.declared.ty.Ty.TheFolds.{fold-Ty, fold-roll-Ty, ind-Ty}
+use Rattle.mt_types.specs.declared.ty.Ty.TheFolds.{fold-roll-Ty, ind-Ty}
 use Rattle.mt_types.specs.declared.ty.Ty.TheViews.{out-roll-Ty}
 use Rattle.mt_types.specs.declared.value.Value.{Value}
 use Rattle.mt_defs.specs.Encoding.{Encoding, EncodesAs, encoding_step}

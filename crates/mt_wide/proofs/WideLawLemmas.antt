@@ -1,15 +1,14 @@
 -- A Wide part is read exactly where its files are of the layout.
-use Rattle.std.proofs.Common.{◌≡◌, ℕ, suc, ◌+◌, ◌^◌, ◌<◌, ◌≤◌, Bool, true, List, [], ◌∷◌, ◌++◌, length, map, get_or, refl, ap, sym, ◌∙◌, subst, arith}
-use Rattle.std.specs.Prelude.{All, Result, Ok, Err, ◌↔◌, IsTrue, slice_index_or, ◌==◌}
-use Rattle.std.specs.List.{enumerate_from, list_all, range_with_len, sum}
+use Rattle.std.proofs.Common.{◌≡◌, ℕ, ◌+◌, ◌<◌, ◌≤◌, Bool, true, List, [], ◌∷◌, length, map, get_or, refl, ap, sym, ◌∙◌, subst, arith}
+use Rattle.std.specs.Prelude.{All, Ok, ◌↔◌, IsTrue, ◌==◌}
+use Rattle.std.specs.List.{enumerate_from, list_all, sum}
 use Rattle.std.proofs.lemmas.Bool.{eqb-true, eq-eqb}
 use Rattle.std.proofs.lemmas.List.{get_or-map, get_or_default, length-map}
-use Rattle.std.proofs.lemmas.List.FromFn.{get_or-enumerate_from, get_or-map-range_with_len, length-enumerate_from, length-map-range_with_len}
+use Rattle.std.proofs.lemmas.List.FromFn.{get_or-enumerate_from, get_or-map-range_with_len, length-enumerate_from}
 use Rattle.mt_types.specs.declared.value.Value.{Value}
 use Rattle.mt_types.specs.declared.value.Value.TheVariants.{Null}
 use Rattle.mt_types.specs.Fits.{fits_of}
 use Rattle.mt_types.specs.Profile.{is_profile}
-use Rattle.mt_types.specs.Steps.{◌>>=◌, require}
 use Rattle.mt_types.proofs.StepLemmas.{ok_pair, ok_one, ok_then, passed, required, then_of}
 use Rattle.mt_shelf.specs.declared.fault.Why.TheVariants as why
 use Rattle.mt_table.specs.Rows.{Pointwise, RowFits}
@@ -17,11 +16,10 @@ use Rattle.mt_table.specs.declared.column.Column.{Column}
 use Rattle.mt_table.specs.declared.limits.TheConstants.{MAX_ROWS}
 use Rattle.mt_defs.specs.FileNames.{stream_names, data_name, marks_name}
 use Rattle.mt_defs.specs.Folder.{Folder}
-use Rattle.mt_defs.specs.Granules.{AreGranules, granule_rows}
+use Rattle.mt_defs.specs.Granules.{granule_rows}
 use Rattle.mt_defs.specs.Metadata.{no_column}
 use Rattle.mt_defs.specs.Rows.{Row, column_values}
 use Rattle.mt_defs.specs.Wide.{HasColumn, HasStream, IsWide, stream_payloads}
-use Rattle.mt_codec.specs.StreamOrder.{streams_of}
 use Rattle.mt_granules.specs.ByteFiles.{HasByteFiles}
 use Rattle.mt_granules.specs.ColumnRows.{all_values, row_at, rows_of}
 use Rattle.mt_granules.specs.FileFaults.{Judged, file_fault, in_order}
