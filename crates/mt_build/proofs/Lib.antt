@@ -1,15 +1,6 @@
-pub mod ColumnLemmas
-pub mod ExampleLemmas
-pub mod FolderLemmas
-pub mod GranuleLemmas
-pub mod HeldLemmas
-pub mod ItemLemmas
-pub mod LawLemmas
-pub mod LookupLemmas
-pub mod MarkLemmas
-pub mod NoRowsLemmas
-pub mod OrderLemmas
-pub mod SizeLemmas
-pub mod StableLemmas
-pub mod StandsLemmas
-pub mod WideLemmas
+pub mod AppendLemmas
+pub mod DefinitionLemmas
+pub mod InnerLemmas
+mod OrderLemmas
+pub mod ProjectionRowLemmas
+pub mod SkipLemmas

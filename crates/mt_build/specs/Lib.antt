@@ -1,3 +1,2 @@
-pub mod NumberColumns
-pub mod TextFiles
-pub mod WrongFolders
+pub mod Definitions
+pub mod SkipFiles

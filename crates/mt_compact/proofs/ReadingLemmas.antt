@@ -64,5 +64,5 @@ pub part_read : (folder given : Folder) (count : ℕ) (columns : List Column) (r
 part_read folder given count columns read rows shown granules same first all is granules_are =
     subst (λ (f : Folder). compact_reading f count columns ≡ Ok (shown, granules)) same
     (then_of (granules_reading folder count compact_data_name compact_marks_name (length columns)) read (λ read. rows_reading read count columns >>= λ rows. Ok (rows, read.granules)) first
-        ∙ then_of (rows_reading read count columns) rows (λ rows. Ok (rows, read.granules)) all
-        ∙ ap (λ (l : List Row). let r : Judged (List Row × List ℕ) = Ok (l, read.granules) in r) (sym is) ∙ ap (λ (g : List ℕ). let r : Judged (List Row × List ℕ) = Ok (shown, g) in r) (sym granules_are))
+    ∙ then_of (rows_reading read count columns) rows (λ rows. Ok (rows, read.granules)) all
+    ∙ ap (λ (l : List Row). let r : Judged (List Row × List ℕ) = Ok (l, read.granules) in r) (sym is) ∙ ap (λ (g : List ℕ). let r : Judged (List Row × List ℕ) = Ok (shown, g) in r) (sym granules_are))

@@ -106,14 +106,7 @@ pub fn read_column(
     let mut values = List::with_capacity(alloc, granules.len())?;
     for (granule, rows) in granules.iter().enumerate() {
         let index = granule * width + column_index;
-        values.push(read_granule(
-            alloc,
-            payloads,
-            index,
-            column,
-            granule as u64,
-            *rows,
-        )?)?;
+        values.push(read_granule(alloc, payloads, index, column, granule as u64, *rows)?)?;
     }
     Ok(values)
 }

@@ -1,5 +1,8 @@
+pub mod CellLemmas
+pub mod Completeness
+pub mod FolderLemmas
+pub mod PartitionLemmas
+pub mod ProjectionParts
 pub mod Reported
 pub mod WriteLemmas
-pub mod FolderLemmas
-pub mod Completeness
-mod PartitionLemmas
+pub mod WrittenParts

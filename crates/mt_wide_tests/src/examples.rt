@@ -34,7 +34,10 @@ pub const NESTED: Part = Part {
     files: &[
         ("k.bin", Frames(&[b"\x01", b"\x02"])),
         ("k.mrk2", Numbers(&[0, 0, 1, 26, 0, 1, 52, 0, 0])),
-        ("a.size0.bin", Frames(&[b"\0\0\0\0\0\0\0\0", b"\x02\0\0\0\0\0\0\0"])),
+        (
+            "a.size0.bin",
+            Frames(&[b"\0\0\0\0\0\0\0\0", b"\x02\0\0\0\0\0\0\0"]),
+        ),
         ("a.size0.mrk2", Numbers(&[0, 0, 1, 33, 0, 1, 66, 0, 0])),
         ("a.null.bin", Frames(&[b"\0\x01"])),
         ("a.null.mrk2", Numbers(&[0, 0, 1, 0, 0, 1, 27, 0, 0])),

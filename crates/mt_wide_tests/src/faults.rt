@@ -25,7 +25,10 @@ const WIDE: [Case; 27] = [
     (&[("k.bin", Bytes(METHOD))], "k.bin at 0: Method"),
     (&[("k.bin", Bytes(SIZES))], "k.bin at 0: Sizes"),
     (&[("k.bin", Bytes(TOO_LONG))], "k.bin at 0: TooLong"),
-    (&[("k.bin", Bytes(CUT)), ("k.mrk2", Absent)], "k.bin at 0: Cut"),
+    (
+        &[("k.bin", Bytes(CUT)), ("k.mrk2", Absent)],
+        "k.bin at 0: Cut",
+    ),
     (&[("k.mrk2", Absent), ("s.bin", Absent)], "k.mrk2: Missing"),
     (&[("k.mrk2", Numbers(&[62, 0, 0]))], "k.mrk2: Length"),
     (&[("k.mrk2", Numbers(&[0, 0, 2, 33]))], "k.mrk2: Length"),
@@ -81,7 +84,10 @@ const WIDE: [Case; 27] = [
         "s.bin at 0: Cut",
     ),
     (&[("s.mrk2", Absent)], "s.mrk2: Missing"),
-    (&[("s.mrk2", Numbers(&[0, 0, 3, 56, 0, 0]))], "s.mrk2: Length"),
+    (
+        &[("s.mrk2", Numbers(&[0, 0, 3, 56, 0, 0]))],
+        "s.mrk2: Length",
+    ),
     (
         &[("s.mrk2", Numbers(&[0, 0, 1, 29, 0, 1, 56, 0, 0]))],
         "s.mrk2 granule 0: Rows",

@@ -36,7 +36,7 @@ returns-in_err-read_granule-clause-reads c =
     let i = c.loop-granule.granule in
     let step = granule_reading c.args.column.now c.args.column_index c.args.width (payloads_in c.args.payloads.now).payloads in
     rw (p.1, p.2) (subst (λ (g : List ℕ). FailsAs c.in_err-read_granule.field-0.0 (in_order step (enumerate_from 0 g))) c.granules-granules.ensures (fails_numbered c.in_err-read_granule.field-0.0 step granules i (get_or granules i 0) c.loop-granule.values c.loop-granule-test.true (get_or_default granules i 0 (get_or granules i 0) c.loop-granule-test.true)
-        c.loop-granule.invariant.so_far c.in_err-read_granule.ensures.reads))
+    c.loop-granule.invariant.so_far c.in_err-read_granule.ensures.reads))
 
 pub loop-granule-preserved : goal.loop-granule-preserved
 loop-granule-preserved c =

@@ -16,8 +16,8 @@ returns-in_err-values c =
     let p = err_from_is_err_and c.from_residual-in_err-values.result c.from_residual-in_err-values.ensures.1 in
     let step = column_reading (length c.args.columns.now) (payloads_in c.args.payloads.now) in
     rw (p.1, p.2) (fails_on c.in_err-values.field-0.0 (in_order step (enumerate_from 0 c.args.columns.now)) (λ values. Ok (rows_of c.args.count (map all_values values)))
-        (fails_numbered c.in_err-values.field-0.0 step c.args.columns.now c.loop-column_index.column_index c.index-columns-column_index.result c.loop-column_index.invariant.values c.loop-column_index-test.true c.index-columns-column_index.is
-            c.loop-column_index.invariant.so_far c.in_err-values.ensures.reads))
+    (fails_numbered c.in_err-values.field-0.0 step c.args.columns.now c.loop-column_index.column_index c.index-columns-column_index.result c.loop-column_index.invariant.values c.loop-column_index-test.true c.index-columns-column_index.is
+    c.loop-column_index.invariant.so_far c.in_err-values.ensures.reads))
 
 pub append_column-requires : goal.append_column-requires
 append_column-requires c =

@@ -18,7 +18,7 @@ returns-in_err-payloads c =
     let p = err_from_is_err_and c.from_residual-in_err-payloads.result c.from_residual-in_err-payloads.ensures.1 in
     let folder = folder_in c.in_ok-folder.folder in
     rw (p.1, p.2) (subst (λ (f : Folder). FailsAs c.in_err-payloads.field-0.0 (compact_reading f c.args.count c.args.columns.now)) c.in_ok-folder.ensures
-        (fails_on c.in_err-payloads.field-0.0 (granules_reading folder c.args.count compact_data_name compact_marks_name (length c.args.columns.now)) (λ read. rows_reading read c.args.count c.args.columns.now >>= λ rows. Ok (rows, read.granules)) c.in_err-payloads.ensures.reads))
+    (fails_on c.in_err-payloads.field-0.0 (granules_reading folder c.args.count compact_data_name compact_marks_name (length c.args.columns.now)) (λ read. rows_reading read c.args.count c.args.columns.now >>= λ rows. Ok (rows, read.granules)) c.in_err-payloads.ensures.reads))
 
 pub returns-in_err-rows : goal.returns-in_err-rows
 returns-in_err-rows c =
@@ -26,8 +26,8 @@ returns-in_err-rows c =
     let folder = folder_in c.in_ok-folder.folder in
     let read = payloads_in c.in_ok-payloads.payloads in
     rw (p.1, p.2) (subst (λ (f : Folder). FailsAs c.in_err-rows.field-0.0 (compact_reading f c.args.count c.args.columns.now)) c.in_ok-folder.ensures
-        (fails_after c.in_err-rows.field-0.0 (granules_reading folder c.args.count compact_data_name compact_marks_name (length c.args.columns.now)) read (λ read. rows_reading read c.args.count c.args.columns.now >>= λ rows. Ok (rows, read.granules))
-            c.in_ok-payloads.ensures.reads (fails_on c.in_err-rows.field-0.0 (rows_reading read c.args.count c.args.columns.now) (λ rows. Ok (rows, read.granules)) c.in_err-rows.ensures)))
+    (fails_after c.in_err-rows.field-0.0 (granules_reading folder c.args.count compact_data_name compact_marks_name (length c.args.columns.now)) read (λ read. rows_reading read c.args.count c.args.columns.now >>= λ rows. Ok (rows, read.granules))
+    c.in_ok-payloads.ensures.reads (fails_on c.in_err-rows.field-0.0 (rows_reading read c.args.count c.args.columns.now) (λ rows. Ok (rows, read.granules)) c.in_err-rows.ensures)))
 
 pub returns : goal.returns
 returns c =
