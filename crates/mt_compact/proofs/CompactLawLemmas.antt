@@ -169,10 +169,10 @@ module _ (width : ℕ) (grouped : List (List (List ℕ))) (granules : List ℕ) 
       let values = map (column_values k) (granule_rows granules rows) in
       let count : length granules ≡ length values = sym (length-map (granule_rows granules rows) (column_values k) ∙ length-granule_rows granules rows) in
       order_all step (enumerate_from 0 granules) values (numbered_pointwise (λ p vs. step p ≡ Ok vs) granules values 0 [] count (λ g below.
-          let here = flat_at width grouped g k [] runs h (omega (arith, below, many)) in
-          ap (λ (payload : List ℕ). payload_reading column g (get_or granules g 0) payload) here
-          ∙ payload_read column g (get_or granules g 0) (get_or (get_or grouped g []) k []) (column_values k (get_or (granule_rows granules rows) g [])) profile (each g below)
-          ∙ ap (λ (vs : List Value). let r : Judged (List Value) = Ok vs in r) (sym (get_or-map (column_values k) (granule_rows granules rows) g [] [] (omega (arith, below, length-granule_rows granules rows))))))
+      let here = flat_at width grouped g k [] runs h (omega (arith, below, many)) in
+      ap (λ (payload : List ℕ). payload_reading column g (get_or granules g 0) payload) here
+      ∙ payload_read column g (get_or granules g 0) (get_or (get_or grouped g []) k []) (column_values k (get_or (granule_rows granules rows) g [])) profile (each g below)
+      ∙ ap (λ (vs : List Value). let r : Judged (List Value) = Ok vs in r) (sym (get_or-map (column_values k) (granule_rows granules rows) g [] [] (omega (arith, below, length-granule_rows granules rows))))))
 
 -- ---- rows that are read are held
 
@@ -210,12 +210,11 @@ rows_held folder count columns rows read profile held all e =
           let within : r < count = omega (arith, h, length-rows_of count cols) in
           subst (RowFits columns) (sym (get_or-map-range_with_len (row_at cols) 0 count r r d within (omega arith)))
           (row_fits columns cols r (pointwise_of _ columns cols (omega (arith, wide, cols_wide)) (λ k a b h.
-              let same = ap (λ (c : Column). fits_of c.ty) (get_or_default columns k no_column a h) in
-              let here : get_or cols k b ≡ all_values (get_or values k []) = get_or_default cols k b [] (omega (arith, h, wide, cols_wide)) ∙ column_at k h in
-              (
-                subst (λ (vs : List Value). list_all (fits_of (get_or columns k a).ty) vs ≡ true) (sym here) (subst (λ (p : Value → Bool). list_all p (all_values (get_or values k [])) ≡ true) same (column_is k h).fit),
-                omega (arith, within, long k h, ap (λ (vs : List Value). length vs) here),
-              )))));
+          let same = ap (λ (c : Column). fits_of c.ty) (get_or_default columns k no_column a h) in
+          let here : get_or cols k b ≡ all_values (get_or values k []) = get_or_default cols k b [] (omega (arith, h, wide, cols_wide)) ∙ column_at k h in (
+            subst (λ (vs : List Value). list_all (fits_of (get_or columns k a).ty) vs ≡ true) (sym here) (subst (λ (p : Value → Bool). list_all p (all_values (get_or values k [])) ≡ true) same (column_is k h).fit),
+            omega (arith, within, long k h, ap (λ (vs : List Value). length vs) here),
+          )))));
       layout = record {
         cut = record { not_empty = held.some; all = all ∙ sym many };
         payloads = held.grouped;
@@ -223,13 +222,13 @@ rows_held folder count columns rows read profile held all e =
             let below : g < length known = omega (arith, h, granules_many) in
             subst (λ (rs : List Row). EncodesColumns columns rs (get_or held.grouped g b)) (get_or_default (granule_rows known rows) g [] a h)
             (subst (λ (run : List (List ℕ)). EncodesColumns columns (get_or (granule_rows known rows) g []) run) (get_or_default held.grouped g [] b (omega (arith, below, held.many)))
-                (numbered_pointwise (λ (p : ℕ × Column) payload. (streams : List (List ℕ)) × Encodes p.1.ty (column_values p.0 (get_or (granule_rows known rows) g [])) streams × (payload ≡ concat streams)) columns (get_or held.grouped g []) no_column []
-                    (sym (run_long width held.grouped g held.are (omega (arith, below, held.many)))) (λ k h.
-                    let is = (column_is k h).each g below in (
-                      is.streams,
-                      subst (λ (vs : List Value). Encodes (get_or columns k no_column).ty vs is.streams) (sym (granule_values k known (get_or values k []) rows g (column_is k h).long (values_are k h) below)) is.encodes,
-                      is.joined,
-                    )))));
+            (numbered_pointwise (λ (p : ℕ × Column) payload. (streams : List (List ℕ)) × Encodes p.1.ty (column_values p.0 (get_or (granule_rows known rows) g [])) streams × (payload ≡ concat streams)) columns (get_or held.grouped g []) no_column []
+            (sym (run_long width held.grouped g held.are (omega (arith, below, held.many)))) (λ k h.
+            let is = (column_is k h).each g below in (
+              is.streams,
+              subst (λ (vs : List Value). Encodes (get_or columns k no_column).ty vs is.streams) (sym (granule_values k known (get_or values k []) rows g (column_is k h).long (values_are k h) below)) is.encodes,
+              is.joined,
+            )))));
         data_file = held.holds.data_file;
         marks_file = held.holds.marks_file;
         has_data = held.holds.has_data;
@@ -294,17 +293,17 @@ compact_read folder count columns rows granules files profile some narrow any fe
     let long : length numbered ≡ length columns = length-enumerate_from 0 columns in
     let columns_are : in_order (column_reading width read) numbered ≡ Ok values =
     order_all (column_reading width read) numbered values (numbered_pointwise (λ (p : ℕ × Column) vs. column_reading width read p ≡ Ok vs) columns values no_column [] (sym (length-map numbered _ ∙ long)) (λ k h.
-        column_read width grouped granules runs many k (get_or columns k no_column) rows h (profile k no_column h) is.cut.all (λ g below.
-            let here = numbered_at (λ (p : ℕ × Column) payload. (streams : List (List ℕ)) × Encodes p.1.ty (column_values p.0 (get_or (granule_rows granules rows) g [])) streams × (payload ≡ concat streams)) columns (get_or grouped g []) no_column [] k
-            (pointwise_at (EncodesColumns columns) (granule_rows granules rows) grouped g [] [] is.encoded (omega (arith, below, rows_many))) h in
-            record {
-              many = length-map (get_or (granule_rows granules rows) g []) _ ∙ granule_long granules rows g is.cut.all below;
-              streams = here.0;
-              encodes = here.1;
-              joined = here.2;
-            })
-        ∙ ap (λ (vs : List (List Value)). let r : Judged (List (List Value)) = Ok vs in r)
-            (sym (get_or-map (λ (p : ℕ × Column). map (column_values p.0) (granule_rows granules rows)) numbered k (0, no_column) [] (omega (arith, h, long)) ∙ ap (λ (p : ℕ × Column). map (column_values p.0) (granule_rows granules rows)) (number_at columns no_column k (0, no_column) h))))) in
+    column_read width grouped granules runs many k (get_or columns k no_column) rows h (profile k no_column h) is.cut.all (λ g below.
+    let here = numbered_at (λ (p : ℕ × Column) payload. (streams : List (List ℕ)) × Encodes p.1.ty (column_values p.0 (get_or (granule_rows granules rows) g [])) streams × (payload ≡ concat streams)) columns (get_or grouped g []) no_column [] k
+    (pointwise_at (EncodesColumns columns) (granule_rows granules rows) grouped g [] [] is.encoded (omega (arith, below, rows_many))) h in
+    record {
+      many = length-map (get_or (granule_rows granules rows) g []) _ ∙ granule_long granules rows g is.cut.all below;
+      streams = here.0;
+      encodes = here.1;
+      joined = here.2;
+    })
+    ∙ ap (λ (vs : List (List Value)). let r : Judged (List (List Value)) = Ok vs in r)
+    (sym (get_or-map (λ (p : ℕ × Column). map (column_values p.0) (granule_rows granules rows)) numbered k (0, no_column) [] (omega (arith, h, long)) ∙ ap (λ (p : ℕ × Column). map (column_values p.0) (granule_rows granules rows)) (number_at columns no_column k (0, no_column) h))))) in
     let cols_are : map all_values values ≡ map (λ (i, column). column_values i rows) numbered = each_joined numbered is.cut.all in
     let rows_are : rows_reading read count columns ≡ Ok rows =
     then_of (in_order (column_reading width read) numbered) values (λ values. Ok (rows_of count (map all_values values))) columns_are
