@@ -1,7 +1,7 @@
 -- A Compact part is read exactly where its files are of the layout.
-use Rattle.std.proofs.Common.{◌≡◌, ℕ, zero, suc, ◌+◌, ◌*◌, ◌^◌, ◌<◌, ◌≤◌, Bool, true, false, List, [], ◌∷◌, ◌++◌, length, map, take, drop, get_or, refl, ap, sym, ◌∙◌, subst, arith, append-nil, get_or-append-add}
-use Rattle.std.specs.Prelude.{All, Result, Ok, Err, ◌↔◌, IsTrue, slice_index_or, ◌==◌}
-use Rattle.std.specs.List.{concat, enumerate_from, list_all, range_with_len, sum}
+use Rattle.std.proofs.Common.{◌≡◌, ℕ, zero, suc, ◌+◌, ◌*◌, ◌<◌, ◌≤◌, Bool, true, List, [], ◌∷◌, ◌++◌, length, map, drop, get_or, refl, ap, sym, ◌∙◌, subst, arith, append-nil, get_or-append-add}
+use Rattle.std.specs.Prelude.{All, Ok, ◌↔◌, IsTrue, ◌==◌}
+use Rattle.std.specs.List.{concat, enumerate_from, list_all, sum}
 use Rattle.std.proofs.lemmas.Bool.{eqb-true, eq-eqb}
 use Rattle.std.proofs.lemmas.List.{get_or-map, get_or_default, length-map, length-take-le, length-drop}
 use Rattle.std.proofs.lemmas.List.FromFn.{get_or-enumerate_from, get_or-map-range_with_len, length-enumerate_from}
@@ -10,16 +10,15 @@ use Rattle.mt_types.specs.declared.value.Value.{Value}
 use Rattle.mt_types.specs.declared.value.Value.TheVariants.{Null}
 use Rattle.mt_types.specs.Fits.{fits_of}
 use Rattle.mt_types.specs.Profile.{is_profile}
-use Rattle.mt_types.specs.Steps.{◌>>=◌, require}
 use Rattle.mt_types.proofs.StepLemmas.{ok_pair, ok_one, ok_then, passed, required, then_of}
 use Rattle.mt_shelf.specs.declared.fault.Why.TheVariants as why
 use Rattle.mt_table.specs.Rows.{Pointwise, RowFits}
 use Rattle.mt_table.specs.declared.column.Column.{Column}
 use Rattle.mt_table.specs.declared.limits.TheConstants.{MAX_COLUMNS, MAX_ROWS}
-use Rattle.mt_defs.specs.Compact.{EncodesColumns, IsCompact, compact_data_name, compact_marks_name}
+use Rattle.mt_defs.specs.Compact.{EncodesColumns, compact_data_name, compact_marks_name}
 use Rattle.mt_defs.specs.Encoding.{Encodes}
 use Rattle.mt_defs.specs.Folder.{Folder}
-use Rattle.mt_defs.specs.Granules.{AreGranules, granule_rows}
+use Rattle.mt_defs.specs.Granules.{granule_rows}
 use Rattle.mt_defs.specs.Lists.{AreBytes}
 use Rattle.mt_defs.specs.Metadata.{no_column}
 use Rattle.mt_defs.specs.Rows.{Row, column_values}

@@ -1,4 +1,4 @@
-use Rattle.std.proofs.Common.{◌≡◌, ◌≤◌, ◌*◌, List, ℕ, ap, sym, ◌∙◌, subst, arith, get_or, length}
+use Rattle.std.proofs.Common.{List, ℕ, ap, sym, ◌∙◌, subst, arith, get_or, length}
 use Rattle.std.specs.Prelude.{Ok}
 use Rattle.std.proofs.lemmas.Result.{err_from_is_err_and}
 use Rattle.std.specs.List.{enumerate_from}
