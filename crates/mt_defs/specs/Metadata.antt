@@ -1,21 +1,13 @@
 -- columns.txt and count.txt: docs/FORMAT.md, "Metadata" (ClickHouse: NamesAndTypesList::writeText).
-use Rattle.std.specs.Prelude.{◌≡◌, ℕ, List, ◌++◌, length, map, codes, Some, IsPermutation, slice_index_or}
+use Rattle.std.specs.Prelude.{◌≡◌, ℕ, List, ◌++◌, length, map, codes, Some, IsPermutation}
 use Rattle.std.specs.List.{flat_map, range_with_len}
 use Rattle.std.specs.Fmt.{decimal}
-use Rattle.mt_types.specs.declared.ty.Ty.TheVariants.{Str}
 use Rattle.mt_types.specs.Names.{type_name}
 use Rattle.mt_table.specs.declared.column.Column.{Column}
 use Rattle.mt_table.specs.declared.definition.PartDef.{PartDef}
+pub use Rattle.mt_table.specs.Stored.{no_column, column_at}
 use Rattle.mt_defs.specs.Folder.{Folder}
 use Rattle.mt_defs.specs.Rows.{Row}
-
--- what stands for a column that no definition has
-abbrev pub no_column : Column
-no_column = record { name = codes ""; ty = Str }
-
--- a column by its index; every index of a definition has one
-abbrev pub column_at : List Column → ℕ → Column
-column_at columns column_index = slice_index_or columns column_index no_column
 
 -- the file that lists the columns
 abbrev pub columns_name : List ℕ

@@ -1,59 +1,23 @@
 -- Projections: what they store, and which stored rows stand for which rows, docs/FORMAT.md, "Projections" (ClickHouse: ProjectionDescription).
 use Rattle.std.specs.Prelude.{◌≡◌, ℕ, ◌+◌, Bool, true, false, ◌&&◌, ◌==◌, if◌then◌else◌, List, [], ◌∷◌, ◌++◌, length, map, filter, take, codes, Option, Some, None, IsPermutation}
-use Rattle.std.specs.List.{list_any, range_with_len}
+use Rattle.std.specs.List.{list_any}
 use Rattle.std.specs.Ordering.{is_eq}
 use Rattle.mt_types.specs.declared.ty.Agg.{Agg}
 use Rattle.mt_types.specs.declared.ty.Agg.TheVariants.{Sum, Min, Max}
-use Rattle.mt_types.specs.declared.ty.Ty.TheVariants.{CountState, State as StateOf}
 use Rattle.mt_types.specs.declared.value.AggState.{AggState}
 use Rattle.mt_types.specs.declared.value.Value.{Value, out-Value}
 use Rattle.mt_types.specs.declared.value.Value.TheOpen.{Value-F}
 use Rattle.mt_types.specs.Order.{values_cmp}
-use Rattle.mt_table.specs.declared.column.Column.{Column}
 use Rattle.mt_table.specs.declared.definition.Table.{Table}
-use Rattle.mt_table.specs.declared.definition.PartDef.{PartDef}
 use Rattle.mt_table.specs.declared.projection.Aggregate.{Aggregate}
 use Rattle.mt_table.specs.declared.projection.Aggregate.TheVariants.{Count, Of}
 use Rattle.mt_table.specs.declared.projection.Projection.{Projection}
 use Rattle.mt_table.specs.declared.projection.Projection.TheVariants.{Normal, Grouped}
 use Rattle.mt_defs.specs.Rows.{Row, cell, key_of}
-use Rattle.mt_defs.specs.Metadata.{column_at}
+pub use Rattle.mt_table.specs.Stored.{base_of, stored_columns, index_in, aggregate_word, state_column, inner_of}
 use Rattle.mt_defs.specs.Folds.{fold_of, merge_of}
 
--- ---- what is stored
-
--- what the table's own part stores
-abbrev pub base_of : Table → PartDef
-base_of table = record { columns = table.columns; sort = table.sort; primary = table.primary }
-
--- the columns that a normal projection stores, in the table's order
-abbrev pub stored_columns : Table → List ℕ → List ℕ
-stored_columns table columns = filter (λ i. list_any (λ j. j == i) columns) (range_with_len 0 (length table.columns))
-
--- where a column stands among some columns
-abbrev pub index_in : List ℕ → ℕ → ℕ
-index_in [] i = 0
-index_in (j ∷ js) i = if j == i then 0 else index_in js i + 1
-
--- the name of an aggregate function
-abbrev pub aggregate_word : Agg → List ℕ
-aggregate_word Sum = codes "sum"
-aggregate_word Min = codes "min"
-aggregate_word Max = codes "max"
-
--- the column of an aggregate's states
-abbrev pub state_column : Table → Aggregate → Column
-state_column table Count = record { name = codes "count()"; ty = CountState }
-state_column table (Of agg i) =
-    record { name = aggregate_word agg ++ codes "(" ++ (column_at table.columns i).name ++ codes ")"; ty = StateOf agg (column_at table.columns i).ty }
-
--- what a projection stores: its columns in the table's order, or its keys and then a state per aggregate
-abbrev pub inner_of : Table → Projection → PartDef
-inner_of table (Normal name columns sort) =
-    let stored = stored_columns table columns in
-    record { columns = map (column_at table.columns) stored; sort = map (index_in stored) sort; primary = length sort }
-inner_of table (Grouped name keys aggs) =
-    record { columns = map (column_at table.columns) keys ++ map (state_column table) aggs; sort = range_with_len 0 (length keys); primary = length keys }
+-- ---- where it is stored
 
 -- the name of a projection
 abbrev pub projection_name : Projection → List ℕ

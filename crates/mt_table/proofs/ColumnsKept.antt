@@ -1,16 +1,14 @@
 -- The columns and keys of a sentence that was judged keep the rules of a table.
-use Rattle.std.proofs.Common.{◌≡◌, ℕ, ◌≤◌, arith, Bool, true, false, List, [], ◌∷◌, length, map, refl, ap, sym, ◌∙◌, subst}
-use Rattle.std.specs.Prelude.{◌&&◌, if◌then◌else◌, nat_le, not, Option, Some, None}
-use Rattle.std.specs.List.{filter_map, list_all}
+use Rattle.std.proofs.Common.{◌≡◌, ℕ, ◌≤◌, arith, Bool, true, false, List, [], ◌∷◌, length, refl, ap, sym, ◌∙◌}
+use Rattle.std.specs.Prelude.{if◌then◌else◌, nat_le, not, Option, Some, None}
+use Rattle.std.specs.List.{list_all}
 use Rattle.std.specs.Str.{bytes_eq}
-use Rattle.std.proofs.lemmas.Bool.{le-leb, leb-true}
 use Rattle.std.proofs.lemmas.List.{length-map}
 use Rattle.mt_types.specs.declared.ty.Ty.{Ty}
 use Rattle.mt_types.specs.NameReading.{type_named}
 use Rattle.mt_types.proofs.ReadingLemmas.{name_of_type_named}
 use Rattle.mt_types.proofs.StepLemmas.{both_of, both_true}
 use Rattle.mt_tokens.specs.Words.{is_name}
-use Rattle.mt_syntax.specs.declared.tree.CodecText.{CodecText}
 use Rattle.mt_syntax.specs.declared.tree.Element.{Element}
 use Rattle.mt_syntax.specs.declared.tree.Element.TheVariants.{Column as Column', Index, Projection}
 use Rattle.mt_syntax.specs.declared.tree.TypeText.{TypeText}

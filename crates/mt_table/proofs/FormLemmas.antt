@@ -1,12 +1,11 @@
 -- A table that passes the test of the two-column form is of the form.
-use Rattle.std.proofs.Common.{◌≡◌, ℕ, zero, suc, ◌<◌, ◌≤◌, arith, Bool, true, false, List, [], ◌∷◌, length, ap, sym, ◌∙◌, subst, refl, nat_eq}
-use Rattle.std.specs.Prelude.{◌&&◌, ◌||◌, ◌==◌, ◌≢◌, nat_le, not, slice_get}
-use Rattle.std.specs.List.{list_all, list_any}
+use Rattle.std.proofs.Common.{◌≡◌, ℕ, zero, suc, ◌<◌, ◌≤◌, arith, true, false, List, [], ◌∷◌, length, ap, sym, ◌∙◌, subst, refl}
+use Rattle.std.specs.Prelude.{◌&&◌, ◌||◌, ◌==◌, ◌≢◌, nat_le, not}
+use Rattle.std.specs.List.{list_all}
 use Rattle.std.specs.Str.{bytes_eq}
 use Rattle.std.proofs.Math.Bool.{Bool-set}
 use Rattle.std.proofs.lemmas.Bool.Decides.{Decides-eqb}
 use Rattle.std.proofs.lemmas.Slice.Eq.{bytes_eq-Decides}
-use Rattle.mt_types.specs.declared.ty.Width.{Width}
 use Rattle.mt_types.specs.declared.ty.Width.TheVariants.{W8, W16, W32, W64}
 use Rattle.mt_types.specs.declared.ty.Ty.{Ty, out-Ty}
 use Rattle.mt_types.specs.declared.ty.Ty.TheOpen.{Ty-F}
@@ -21,7 +20,7 @@ use Rattle.mt_table.specs.declared.settings.Settings.{Settings}
 use Rattle.mt_table.specs.ColumnTypes.{is_column_type, is_key_type, place_has}
 use Rattle.mt_table.specs.Fields.{Fields, fields}
 use Rattle.mt_table.specs.Form.{IsNumbersTable, are_two_numbers, is_empty, is_numbers_form, is_uint64, is_uint64_at, numbers_fields, uint64_column, wide_settings}
-use Rattle.mt_table.specs.Kept.{is_column, keeps_columns, keeps_key, keeps_primary, keeps_rules, names_of}
+use Rattle.mt_table.specs.Kept.{is_column, keeps_columns, keeps_key, keeps_rules}
 use Rattle.mt_table.specs.Names.{names_differ, places_differ}
 use Rattle.mt_table.specs.Tables.{fields_of_table, table_with}
 use Rattle.mt_table.proofs.KeptLemmas.{each_of, primary_within}

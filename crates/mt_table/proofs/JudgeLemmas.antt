@@ -1,7 +1,7 @@
 -- The rules in order, from each of them on.
-use Rattle.std.proofs.Common.{◌≡◌, ℕ, Bool, true, false, List, length, map, refl, ap, sym, ◌∙◌, subst}
-use Rattle.std.specs.Prelude.{Option, Some, None, Result, Ok, Err, IsTrue}
-use Rattle.std.specs.List.{filter_map, list_all}
+use Rattle.std.proofs.Common.{◌≡◌, ℕ, Bool, true, false, List, ap, sym, ◌∙◌}
+use Rattle.std.specs.Prelude.{Option, Some, None, Result, Ok, Err}
+use Rattle.std.specs.List.{list_all}
 use Rattle.mt_types.specs.Steps.{◌>>=◌, ok_or, require}
 use Rattle.mt_syntax.specs.declared.tree.Element.{Element}
 use Rattle.mt_syntax.specs.declared.tree.TableText.{TableText}
@@ -14,8 +14,7 @@ use Rattle.mt_table.specs.declared.skip.Skip.{Skip}
 use Rattle.mt_table.specs.declared.why.TableWhy.{TableWhy}
 use Rattle.mt_table.specs.declared.why.TableWhy.TheVariants.{BadKey, BadPartition, BadProjection, BadSkip, Codec, NoSuchColumn, NotAType, Setting, TooMany, TwoNames}
 use Rattle.mt_table.specs.Fields.{Fields, fields}
-use Rattle.mt_table.specs.Kept.{keeps_rules}
-use Rattle.mt_table.specs.Rules.{all_are_there, are_few, are_own, fields_judged, fields_of, has_form, has_keys, has_own_names, is_index, is_partition, is_uncompressed, primary_names}
+use Rattle.mt_table.specs.Rules.{all_are_there, are_few, are_own, fields_judged, fields_of, has_form, has_keys, has_own_names, is_index, is_partition, is_uncompressed}
 use Rattle.mt_table.specs.Sentence.{column_names, columns_of, index_names, projection_names}
 use Rattle.mt_table.specs.SentenceNames.{AreOfElements}
 use Rattle.mt_table.specs.SettingTexts.{settings_of}

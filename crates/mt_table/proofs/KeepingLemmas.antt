@@ -1,7 +1,7 @@
 -- A sentence that was judged keeps the rules of a table.
-use Rattle.std.proofs.Common.{◌≡◌, ℕ, ◌≤◌, Bool, true, false, List, [], ◌∷◌, length, map, ap, sym, ◌∙◌, subst, refl, arith}
+use Rattle.std.proofs.Common.{◌≡◌, ℕ, ◌≤◌, Bool, true, false, List, [], ◌∷◌, length, ap, sym, ◌∙◌, subst, refl, arith}
 use Rattle.std.specs.Prelude.{◌&&◌, ◌-◌, ◌^◌, codes, if◌then◌else◌, nat_le, Option, Some, None, unwrap_or}
-use Rattle.std.specs.List.{filter_map, list_all, list_any}
+use Rattle.std.specs.List.{list_all, list_any}
 use Rattle.std.proofs.lemmas.Bool.{le-leb}
 use Rattle.std.proofs.lemmas.List.{length-map}
 use Rattle.mt_types.proofs.StepLemmas.{both_of, both_true}
@@ -13,11 +13,11 @@ use Rattle.mt_syntax.specs.declared.tree.SettingValue.{SettingValue}
 use Rattle.mt_syntax.specs.declared.tree.SettingValue.TheVariants.{Number, Text, Word}
 use Rattle.mt_syntax.specs.declared.tree.TableText.{TableText}
 use Rattle.mt_table.specs.declared.column.Column.{Column}
-use Rattle.mt_table.specs.declared.limits.TheConstants.{DEFAULT_GRANULE_BYTES, DEFAULT_GRANULE_ROWS, DEFAULT_WIDE_BYTES, DEFAULT_WIDE_ROWS, MAX_COLUMNS, MAX_GRANULE_BYTES, MAX_GRANULE_ROWS, MAX_KEY, MAX_PARTITION, MAX_PROJECTIONS, MAX_SKIPS}
+use Rattle.mt_table.specs.declared.limits.TheConstants.{DEFAULT_GRANULE_BYTES, DEFAULT_GRANULE_ROWS, DEFAULT_WIDE_BYTES, DEFAULT_WIDE_ROWS, MAX_COLUMNS, MAX_GRANULE_BYTES, MAX_GRANULE_ROWS, MAX_PARTITION, MAX_PROJECTIONS, MAX_SKIPS}
 use Rattle.mt_table.specs.declared.settings.Settings.{Settings}
 use Rattle.mt_syntax.specs.Formed.{has_one, has_one_given, is_formed, is_formed_element}
 use Rattle.mt_syntax.specs.Trees.{is_column}
-use Rattle.mt_table.specs.Kept.{keeps_columns, keeps_key, keeps_primary, keeps_rules, keeps_settings, names_of}
+use Rattle.mt_table.specs.Kept.{keeps_rules, keeps_settings, names_of}
 use Rattle.mt_table.specs.Names.{are_among, are_apart, begins, names_differ}
 use Rattle.mt_table.specs.Projections.{is_key}
 use Rattle.mt_table.specs.Rules.{all_are_there, are_few, element_is_there, expression_is_there, fields_of, has_form, has_keys, has_own_names, is_index, is_partition, is_short, is_small, primary_names}

@@ -1,16 +1,13 @@
 -- The rules of a table, one by one.
-use Rattle.std.proofs.Common.{◌≡◌, ℕ, ◌≤◌, arith, Bool, true, List, length, refl, ap, sym, ◌∙◌, subst}
+use Rattle.std.proofs.Common.{◌≡◌, ℕ, ◌≤◌, arith, true, List, length}
 use Rattle.std.proofs.lemmas.Bool.{leb-true}
 use Rattle.std.specs.Prelude.{nat_le, ◌&&◌}
-use Rattle.std.specs.List.{list_all}
 use Rattle.mt_types.proofs.StepLemmas.{both_true}
 use Rattle.mt_tokens.specs.Words.{is_name}
 use Rattle.mt_table.specs.declared.column.Column.{Column}
 use Rattle.mt_table.specs.declared.limits.TheConstants.{MAX_KEY}
-use Rattle.mt_table.specs.ColumnTypes.{is_key_type, place_has}
 use Rattle.mt_table.specs.Fields.{Fields}
 use Rattle.mt_table.specs.Kept.{keeps_columns, keeps_key, keeps_partition, keeps_primary, keeps_projections, keeps_rules, keeps_settings, keeps_skips}
-use Rattle.mt_table.specs.Names.{places_differ}
 
 -- the rules, one each
 pub record Each (f : Fields) : Type 0 where

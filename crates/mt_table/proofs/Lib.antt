@@ -15,3 +15,4 @@ pub mod ProjectionsKept
 pub mod TextReadingLemmas
 pub mod FormLemmas
 pub mod NumbersKept
+pub mod StoredLemmas

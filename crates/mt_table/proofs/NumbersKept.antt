@@ -1,5 +1,5 @@
 -- Two UInt64 columns keep the rules of a table.
-use Rattle.std.proofs.Common.{◌≡◌, ◌⊎◌, inl, inr, ℕ, Bool, true, List, [], ◌∷◌, ap, sym, ◌∙◌, refl}
+use Rattle.std.proofs.Common.{◌≡◌, ◌⊎◌, inl, inr, ℕ, true, List, [], ◌∷◌, ap, ◌∙◌, refl}
 use Rattle.std.specs.Prelude.{not}
 use Rattle.mt_types.specs.declared.ty.Ty.{Ty, map-Ty}
 use Rattle.mt_types.specs.declared.ty.Ty.TheVariants.{UInt, outs-UInt}
@@ -8,8 +8,7 @@ use Rattle.mt_types.specs.declared.ty.Width.TheVariants.{W64}
 use Rattle.mt_types.specs.Profile.{Kind, is_known, is_profile, kind_of, kind_step}
 use Rattle.mt_types.proofs.StepLemmas.{both_of}
 use Rattle.mt_tokens.specs.Words.{is_name}
-use Rattle.mt_table.specs.declared.column.Column.{Column}
-use Rattle.mt_table.specs.ColumnTypes.{is_column_type, is_key_at, is_key_type, is_state_at, is_state_type, place_has}
+use Rattle.mt_table.specs.ColumnTypes.{is_column_type, is_key_at, is_key_type, is_state_at, place_has}
 use Rattle.mt_table.specs.Form.{numbers_fields, uint64_column, wide_settings}
 use Rattle.mt_table.specs.Kept.{keeps_rules, keeps_settings}
 use Rattle.mt_table.specs.Names.{names_differ}

@@ -1,7 +1,7 @@
 -- Different names stand at different places.
-use Rattle.std.proofs.Common.{◌≡◌, ◌⊎◌, inl, inr, ℕ, ◌+◌, ◌<◌, ◌≤◌, arith, Bool, true, false, nat_eq, List, [], ◌∷◌, length, map, refl, ap, sym, ◌∙◌, subst, get_or}
-use Rattle.std.specs.Prelude.{cond, not, ◌&&◌, ◌||◌, slice_get}
-use Rattle.std.specs.List.{list_all, list_any, position_or_len, prefix_len, range_with_len}
+use Rattle.std.proofs.Common.{◌≡◌, ℕ, ◌+◌, ◌<◌, arith, Bool, true, false, nat_eq, List, [], ◌∷◌, length, refl, ap, sym, ◌∙◌, subst, get_or}
+use Rattle.std.specs.Prelude.{cond, not, ◌&&◌, ◌||◌}
+use Rattle.std.specs.List.{list_all, list_any, position_or_len}
 use Rattle.std.specs.Str.{bytes_eq}
 use Rattle.std.proofs.lemmas.Bool.Decides.{Decides-eqb}
 use Rattle.std.proofs.lemmas.List.Folds.{list_all-map}
@@ -11,7 +11,7 @@ use Rattle.mt_types.specs.declared.ty.Ty.{Ty}
 use Rattle.mt_types.proofs.StepLemmas.{both_of, both_true}
 use Rattle.mt_table.specs.declared.column.Column.{Column}
 use Rattle.mt_table.specs.ColumnTypes.{column_has, named_has, place_has}
-use Rattle.mt_table.specs.Kept.{is_one_of, is_place, names_of}
+use Rattle.mt_table.specs.Kept.{names_of}
 use Rattle.mt_table.specs.Names.{are_among, is_among, names_differ, places_differ}
 use Rattle.mt_table.specs.Sentence.{place_in, places_in}
 use Rattle.mt_table.proofs.ColumnLemmas.{named_is}

@@ -1,15 +1,14 @@
 -- The projections of a sentence that was judged keep the rules of a table.
-use Rattle.std.proofs.Common.{◌≡◌, ◌⊎◌, inl, inr, ℕ, zero, suc, ◌+◌, ◌<◌, ◌≤◌, arith, Bool, true, false, nat_eq, List, [], ◌∷◌, length, map, refl, ap, sym, ◌∙◌, subst}
-use Rattle.std.specs.Prelude.{◌&&◌, ◌||◌, cond, not, nat_le, nat_lt, Option, Some, None}
-use Rattle.std.specs.List.{count_by, filter_map, list_all, list_any, range_with_len, sum_by}
+use Rattle.std.proofs.Common.{◌≡◌, inl, inr, ℕ, zero, suc, ◌+◌, ◌<◌, ◌≤◌, arith, Bool, true, false, nat_eq, List, [], ◌∷◌, length, map, refl, ap, sym, ◌∙◌, subst}
+use Rattle.std.specs.Prelude.{◌||◌, cond, not, nat_le, nat_lt, Option, Some, None}
+use Rattle.std.specs.List.{count_by, filter_map, list_all, list_any, range_with_len}
 use Rattle.std.specs.Str.{bytes_eq}
-use Rattle.std.proofs.lemmas.Bool.{le-leb, leb-true, ltb-true}
+use Rattle.std.proofs.lemmas.Bool.{le-leb}
 use Rattle.std.proofs.lemmas.Bool.Decides.{Decides-eqb, Decides-ltb, not_from_Decides}
 use Rattle.std.proofs.lemmas.List.Sums.{sum_by-cons}
 use Rattle.std.proofs.Math.Nat.{eq-or-lt_of_le}
 use Rattle.std.proofs.lemmas.List.{length-map}
 use Rattle.std.proofs.lemmas.Slice.Eq.{bytes_eq-Decides}
-use Rattle.mt_types.specs.declared.ty.Agg.{Agg}
 use Rattle.mt_types.specs.declared.ty.Agg.TheVariants.{Sum, Min, Max}
 use Rattle.mt_types.proofs.StepLemmas.{both_of, both_true}
 use Rattle.mt_tokens.specs.Words.{is_name}
@@ -29,11 +28,11 @@ use Rattle.mt_syntax.specs.Formed.{has_one, has_one_given, is_formed_element}
 use Rattle.mt_table.specs.Kept as kept
 use Rattle.mt_table.specs.Kept.{is_one_of, is_place, keeps_aggregate, keeps_grouped, keeps_key, keeps_normal, keeps_projection, keeps_projections, max_place, min_place, name_of, names_of, sum_place}
 use Rattle.mt_table.specs.Names.{are_among, is_among, names_differ, places_differ}
-use Rattle.mt_table.specs.Projections.{aggregate_of, aggregates_differ, are_same, is_grouped, is_key, is_normal, is_over, is_projection, projection_of, selected_aggregates, selected_places, selects_for, selects_key}
+use Rattle.mt_table.specs.Projections.{aggregate_of, aggregates_differ, are_same, is_grouped, is_key, is_normal, is_over, is_projection, projection_of, selected_places, selects_key}
 use Rattle.mt_table.specs.Rules.{element_is_there, has_few_aggregates, has_form, is_short, is_small, item_is_there, items_are_there, projection_in}
 use Rattle.mt_table.specs.Sentence.{is_aggregate, is_count, item_column, max_column, min_column, names_or_none, place_in, places_in, projection_names, sum_column}
 use Rattle.mt_table.proofs.ColumnsKept.{key_kept}
-use Rattle.mt_table.proofs.PlacesDiffer.{all_same, differ_in, place_below, place_is_named}
+use Rattle.mt_table.proofs.PlacesDiffer.{differ_in, place_below, place_is_named}
 
 -- ---- all places
 

@@ -1,12 +1,9 @@
 -- What reading a table text gives.
-use Rattle.std.proofs.Common.{◌≡◌, ◌⊎◌, inl, inr, ℕ, Bool, true, false, List, refl, ap, sym, ◌∙◌, subst}
-use Rattle.std.specs.Prelude.{IfOk, IsTrue, Result, Ok, Err}
+use Rattle.std.proofs.Common.{◌≡◌, inl, inr, ℕ, Bool, true, false, List, refl, ap, sym, ◌∙◌, subst}
+use Rattle.std.specs.Prelude.{IfOk, Result, Ok, Err}
 use Rattle.std.proofs.Math.Bool.{Bool-set}
 use Rattle.mt_types.specs.Steps.{◌>>=◌}
-use Rattle.mt_syntax.specs.declared.error.SyntaxError.{SyntaxError}
-use Rattle.mt_syntax.specs.declared.error.SyntaxError.TheVariants as syntax
 use Rattle.mt_syntax.specs.declared.tree.TableText.{TableText}
-use Rattle.mt_syntax.specs.Answers.{GivesSentence}
 use Rattle.mt_syntax.specs.Grammar.{IsTableText}
 use Rattle.mt_table.specs.declared.definition.Table.{Table}
 use Rattle.mt_table.specs.declared.why.TableWhy.{TableWhy}

@@ -1,17 +1,14 @@
 -- The function that reads a table text gives what the text defines.
-use Rattle.std.proofs.Common.{◌≡◌, ◌⊎◌, inl, inr, ℕ, zero, suc, ◌<◌, ◌≤◌, arith, List, [], ◌∷◌, length, ap, sym, ◌∙◌, subst, refl}
-use Rattle.std.specs.Prelude.{Option, Some, None, option_and_then, option_map, Result, Ok, Err}
+use Rattle.std.proofs.Common.{◌≡◌, inl, inr, ℕ, zero, suc, ◌≤◌, arith, List, [], ◌∷◌, length, ap, sym, ◌∙◌, subst, refl}
+use Rattle.std.specs.Prelude.{Option, Some, None, option_and_then, option_map}
 use Rattle.mt_tokens.specs.Lexis.{AreTokens, IsTokens, skip_blanks, token_at}
 use Rattle.mt_tokens.specs.Tokens.{Tok}
 use Rattle.mt_tokens.proofs.TokenRuns.{shorter}
 use Rattle.mt_syntax.specs.declared.tree.TableText.{TableText}
-use Rattle.mt_syntax.specs.Grammar.{IsSentence, IsTableText}
+use Rattle.mt_syntax.specs.Grammar.{IsTableText}
 use Rattle.mt_syntax.specs.Reading.{sentence_at}
 use Rattle.mt_syntax.proofs.SentenceLaws.{sentence_complete, sentence_sound}
-use Rattle.mt_table.specs.declared.definition.Table.{Table}
-use Rattle.mt_table.specs.declared.why.TableWhy.{TableWhy}
-use Rattle.mt_table.specs.declared.why.TableWhy.TheVariants.{Syntax}
-use Rattle.mt_table.specs.Tables.{Defines, judged}
+use Rattle.mt_table.specs.Tables.{Defines}
 use Rattle.mt_table.specs.TextReading.{judged_sentence, table_reading, token_onto, tokens_from, tokens_of}
 
 then_is : {A B : Type 0} (f : A → Option B) (o : Option A) (y : B) → option_and_then f o ≡ Some y → (x : A) × (o ≡ Some x) × (f x ≡ Some y)

@@ -1,7 +1,6 @@
 -- The rules that each table keeps, over its fields: docs/LANGUAGE.md, "Table text".
-use Rattle.std.specs.Prelude.{ℕ, Bool, true, false, ◌&&◌, ◌^◌, nat_eq, nat_le, nat_lt, List, [], ◌∷◌, length, map, Option, Some, None}
+use Rattle.std.specs.Prelude.{ℕ, Bool, true, false, ◌&&◌, nat_eq, nat_le, nat_lt, List, length, map, Option, Some, None}
 use Rattle.std.specs.List.{count_by, filter_map, list_all, list_any}
-use Rattle.mt_types.specs.declared.ty.Agg.{Agg}
 use Rattle.mt_types.specs.declared.ty.Agg.TheVariants.{Sum, Min, Max}
 use Rattle.mt_table.specs.declared.column.Column.{Column}
 use Rattle.mt_table.specs.declared.limits.TheConstants.{MAX_COLUMNS, MAX_GRANULARITY, MAX_GRANULE_BYTES, MAX_GRANULE_ROWS, MAX_KEY, MAX_PARTITION, MAX_PROJECTIONS, MAX_SET_ROWS, MAX_SKIPS}

@@ -1,5 +1,5 @@
 -- The projections of a sentence, and the two forms that they may have: docs/LANGUAGE.md, "Table text".
-use Rattle.std.specs.Prelude.{ℕ, Bool, true, false, not, ◌&&◌, nat_le, List, [], ◌∷◌, length, map, Option, Some, None}
+use Rattle.std.specs.Prelude.{ℕ, Bool, true, false, not, ◌&&◌, nat_le, List, [], length, Option, Some, None}
 use Rattle.std.specs.List.{count_by, filter_map, list_all, list_any, range_with_len}
 use Rattle.mt_types.specs.declared.ty.Agg.{Agg}
 use Rattle.mt_types.specs.declared.ty.Agg.TheVariants.{Sum, Min, Max}
@@ -13,7 +13,7 @@ use Rattle.mt_table.specs.declared.projection.Aggregate.TheVariants.{Count, Of}
 use Rattle.mt_table.specs.declared.projection.Projection.{Projection}
 use Rattle.mt_table.specs.declared.projection.Projection.TheVariants.{Normal, Grouped}
 use Rattle.mt_table.specs.ColumnTypes.{is_integer_type, is_key_type, is_number_type, named_has}
-use Rattle.mt_table.specs.Names.{are_among, is_among, names_differ}
+use Rattle.mt_table.specs.Names.{are_among, names_differ}
 use Rattle.mt_table.specs.Sentence.{is_aggregate, is_count, item_column, max_column, min_column, names_or_none, place_in, places_in, sum_column}
 
 -- different names of integer, FixedString, String or Date columns

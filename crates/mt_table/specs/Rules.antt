@@ -1,5 +1,5 @@
 -- The rules of a table text behind its grammar, one each, in the order in which they are judged: docs/LANGUAGE.md, "Table text".
-use Rattle.std.specs.Prelude.{ℕ, Bool, true, false, not, ◌&&◌, ◌==◌, nat_le, List, [], ◌∷◌, length, map, filter, codes, Option, Some, None, Result, Ok, Err}
+use Rattle.std.specs.Prelude.{ℕ, Bool, true, false, not, ◌&&◌, nat_le, List, [], ◌∷◌, length, map, codes, Option, Some, None, Result, Ok}
 use Rattle.std.specs.List.{count_by, filter_map, list_all}
 use Rattle.std.specs.Option.{unwrap_or}
 use Rattle.std.specs.Str.{bytes_eq}
@@ -31,7 +31,7 @@ use Rattle.mt_table.specs.ColumnTypes.{is_date_type, is_key_type, named_has}
 use Rattle.mt_table.specs.Fields.{Fields}
 use Rattle.mt_table.specs.Names.{are_among, are_apart, begins, is_among, names_differ}
 use Rattle.mt_table.specs.Projections.{is_key, is_projection, projection_of}
-use Rattle.mt_table.specs.Sentence.{column_names, columns_of, index_names, is_aggregate, item_column, month_name, names_or_none, place_in, places_in, plain_name, projection_names}
+use Rattle.mt_table.specs.Sentence.{column_names, columns_of, index_names, is_aggregate, month_name, names_or_none, place_in, places_in, plain_name, projection_names}
 use Rattle.mt_table.specs.SettingTexts.{settings_of}
 
 -- ---- TwoNames

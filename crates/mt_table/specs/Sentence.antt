@@ -1,5 +1,5 @@
 -- The columns, indexes, projections and names of a sentence: docs/LANGUAGE.md, "Table text".
-use Rattle.std.specs.Prelude.{ℕ, ◌+◌, Bool, true, false, List, [], ◌∷◌, ◌++◌, length, map, Option, Some, None, option_map, option_and_then}
+use Rattle.std.specs.Prelude.{ℕ, Bool, true, false, List, [], ◌∷◌, map, Option, Some, None, option_and_then}
 use Rattle.std.specs.List.{filter_map, position_or_len}
 use Rattle.std.specs.Option.{unwrap_or}
 use Rattle.std.specs.Str.{bytes_eq}
@@ -11,8 +11,6 @@ use Rattle.mt_syntax.specs.declared.tree.PartitionText.{PartitionText}
 use Rattle.mt_syntax.specs.declared.tree.PartitionText.TheVariants as part
 use Rattle.mt_syntax.specs.declared.tree.Selection.{Selection}
 use Rattle.mt_syntax.specs.declared.tree.Selection.TheVariants as selection
-use Rattle.mt_syntax.specs.declared.tree.Selected.{Selected}
-use Rattle.mt_syntax.specs.declared.tree.Selected.TheVariants.{All, Items}
 use Rattle.mt_table.specs.declared.column.Column.{Column}
 use Rattle.mt_table.specs.TypeTexts.{column_type_of}
 

@@ -1,6 +1,9 @@
 //! Columns.
 
-use mt_types::{List, Ty};
+ghost use Rattle.std.specs.Prelude.{◌≡◌, IfOk};
+
+use mt_types::{List, NoMemory, Ty};
+use std::alloc::Global;
 
 /// A column of a table or of a projection.
 #[derive(Debug, Drop)]
@@ -10,4 +13,16 @@ pub struct Column {
     pub name: List<u8>,
     /// The type of its values.
     pub ty: Ty,
+}
+
+impl Column {
+    /// A column of the same name and type.
+    pub fn copy(&self, alloc: Global) -> Result<Column, NoMemory>
+        ensures { IfOk result (λ copied. copied ≡ self.now) }
+    {
+        Ok(Column {
+            name: List::of_bytes(alloc, self.name.as_slice())?,
+            ty: self.ty.copy(alloc)?,
+        })
+    }
 }

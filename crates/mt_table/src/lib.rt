@@ -26,6 +26,7 @@ mod sentence;
 mod setting_texts;
 mod settings;
 mod skip;
+mod stored;
 mod type_text;
 mod why;
 

@@ -8,4 +8,6 @@ mod limits;
 #[cfg(test)]
 mod refused;
 #[cfg(test)]
+mod stored;
+#[cfg(test)]
 mod tables;

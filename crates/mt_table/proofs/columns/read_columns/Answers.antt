@@ -1,4 +1,4 @@
-use Rattle.std.proofs.Common.{◌∙◌, ap, sym}
+use Rattle.std.proofs.Common.{◌∙◌, sym}
 use Rattle.mt_table.proofs.ColumnLemmas.{no_type, one_column, passed_over}
 use Rattle.mt_table.proofs.columns.read_columns.Goals.{in-Column+in_ok-ty+in-Some+in_ok-name+in_ok-push, in_default}
 use Rattle.mt_table.proofs.columns.read_columns.Goals as goal

@@ -1,13 +1,12 @@
-use Rattle.std.proofs.Common.{◌≡◌, ◌∙◌, ap, false, length, subst, sym, true}
-use Rattle.std.specs.Prelude.{MatchOption, Some, None, Ok}
+use Rattle.std.proofs.Common.{◌≡◌, ◌∙◌, ap, false, subst, sym, true}
+use Rattle.std.specs.Prelude.{MatchOption, Ok}
 use Rattle.std.specs.List.{list_all}
-use Rattle.mt_table.specs.NameSets.{AreListed, listed}
-use Rattle.mt_table.specs.Rules.{all_are_there, are_few, are_own, fields_judged, has_form, has_keys, has_own_names, is_index, is_partition, is_uncompressed}
-use Rattle.mt_table.specs.Sentence.{column_names, columns_of}
+use Rattle.mt_table.specs.NameSets.{AreListed}
+use Rattle.mt_table.specs.Rules.{all_are_there, are_own, fields_judged, has_form, has_keys, is_index, is_partition, is_uncompressed}
+use Rattle.mt_table.specs.Sentence.{columns_of}
 use Rattle.mt_table.specs.SentenceNames.{AreOfElements}
 use Rattle.mt_table.specs.SettingTexts.{settings_of}
-use Rattle.mt_table.specs.Tables.{GivesFields, fields_of_table}
-use Rattle.mt_table.proofs.JudgeLemmas.{begun, broken, from_codecs, from_counts, from_forms, from_indexes, from_keys, from_partition, from_present, from_settings, kept, no_setting, no_types, owned, set, two_names}
+use Rattle.mt_table.proofs.JudgeLemmas.{begun, broken, from_codecs, from_forms, from_indexes, from_keys, from_partition, from_settings, kept, no_setting, no_types, owned, set, two_names}
 use Rattle.mt_table.specs.Kept.{names_of}
 use Rattle.mt_table.proofs.ColumnLemmas.{read_names}
 use Rattle.mt_table.proofs.KeepingLemmas.{rules_are_kept}

@@ -1,10 +1,9 @@
-use Rattle.std.proofs.Common.{◌≡◌, ◌≤◌, ◌∙◌, ap, arith, length, map, subst, sym, true}
+use Rattle.std.proofs.Common.{◌≤◌, ◌∙◌, ap, arith, length, map, subst, sym}
 use Rattle.std.specs.List.{filter_map}
 use Rattle.mt_table.specs.declared.limits.TheConstants.{MAX_KEY}
-use Rattle.mt_table.specs.Fields.{Fields}
 use Rattle.mt_table.specs.Kept.{keeps_rules}
 use Rattle.mt_table.specs.NameSets.{listed}
-use Rattle.mt_table.specs.Rules.{expression_of, fields_of, primary_names, projection_in, skip_of}
+use Rattle.mt_table.specs.Rules.{expression_of, fields_of, projection_in, skip_of}
 use Rattle.mt_table.specs.Sentence.{places_in}
 use Rattle.mt_table.proofs.JudgeLemmas.{same_fields}
 use Rattle.mt_table.proofs.KeptLemmas.{primary_small}

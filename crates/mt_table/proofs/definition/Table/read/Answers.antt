@@ -1,10 +1,6 @@
-use Rattle.std.proofs.Common.{◌≡◌, sym, subst}
-use Rattle.std.specs.Prelude.{Result, Ok, Err}
-use Rattle.mt_syntax.specs.declared.tree.TableText.{TableText}
-use Rattle.mt_syntax.specs.declared.error.SyntaxError.{SyntaxError}
-use Rattle.mt_syntax.specs.declared.error.SyntaxError.TheVariants as syntax
+use Rattle.std.proofs.Common.{subst}
+use Rattle.std.specs.Prelude.{Err}
 use Rattle.mt_syntax.specs.Answers.{GivesSentence}
-use Rattle.mt_syntax.specs.Grammar.{IsTableText}
 use Rattle.mt_syntax.proofs.FormedLemmas.{text_is_formed}
 use Rattle.mt_table.specs.TextReading.{table_reading}
 use Rattle.mt_table.proofs.TextReadingLemmas.{reading_defines}

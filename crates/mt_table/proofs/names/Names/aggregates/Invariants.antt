@@ -1,4 +1,4 @@
-use Rattle.std.proofs.Common.{◌≡◌, map, take}
+use Rattle.std.proofs.Common.{◌≡◌, take}
 use Rattle.std.specs.List.{filter_map}
 use Rattle.mt_table.specs.Projections.{aggregate_of}
 use Rattle.mt_table.specs.NameSets.{listed}

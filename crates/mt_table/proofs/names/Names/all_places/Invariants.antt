@@ -1,6 +1,5 @@
-use Rattle.std.proofs.Common.{◌≡◌, map, take}
+use Rattle.std.proofs.Common.{◌≡◌}
 use Rattle.std.specs.List.{range_with_len}
-use Rattle.mt_table.specs.NameSets.{listed}
 use Rattle.mt_table.proofs.names.Names.all_places.Given as goal
 
 abbrev pub invariant-loop-place : goal.invariant-loop-place
