@@ -58,7 +58,16 @@ projections_checks table accepted _ _ = gives (Ok tt)
 abbrev pub projection_folders : Table → Folder → List Folder
 projection_folders table folder = map (λ projection. folder_below folder (projection_prefix projection)) table.projections
 
--- ---- other files
+-- ---- the part
+
+-- what the files of a part and of its projections stand for, or their first fault
+abbrev pub files_checks : Table → Folder → List Folder → Checks Accepted
+files_checks table folder projections = do
+  accepted ← gives (definition_reading (base_of table) folder)
+  _ ← gives (partition_reading table folder accepted)
+  _ ← each (skip_checks table folder accepted) table.skips
+  _ ← projections_checks table accepted table.projections projections
+  gives (Ok accepted)
 
 -- a name that may stand in the folder
 abbrev pub is_known : List (List ℕ) → List ℕ → Bool
@@ -69,14 +78,9 @@ abbrev pub first_unknown : List (List ℕ) → List (List ℕ) → Option (List 
 first_unknown known [] = None
 first_unknown known (name ∷ names) = if is_known known name then first_unknown known names else Some name
 
--- ---- the part
-
 -- what a folder with these names stands for, or its first fault
 abbrev pub folder_checks : Table → Folder → List (List ℕ) → Checks Accepted
 folder_checks table folder names = do
-  accepted ← gives (definition_reading (base_of table) folder)
-  _ ← gives (partition_reading table folder accepted)
-  _ ← each (skip_checks table folder accepted) table.skips
-  _ ← projections_checks table accepted table.projections (projection_folders table folder)
+  accepted ← files_checks table folder (projection_folders table folder)
   _ ← gives (none_found (first_unknown (known_names table folder) names) (λ name. fault_of name why.Stray))
   gives (Ok accepted)

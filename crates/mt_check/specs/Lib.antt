@@ -11,4 +11,5 @@ pub mod PartitionReading
 pub mod SkipMarks
 pub mod RowGroups
 pub mod FolderChecks
+pub mod OwnNames
 pub mod Results

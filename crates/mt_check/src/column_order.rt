@@ -1,6 +1,7 @@
 //! Columns and rows in the order of a folder's files, and in the definition's.
 
-ghost use Rattle.std.specs.Prelude.{◌≡◌, ◌<◌, length, map, All, IfOk, IsTrue};
+ghost use Rattle.std.specs.Prelude.{◌≡◌, ◌<◌, length, map, replicate, All, IfOk, IsTrue};
+ghost use Rattle.mt_types.specs.declared.value.Value.TheVariants.{Null};
 ghost use Rattle.std.specs.List.{range_with_len};
 ghost use Rattle.mt_defs.specs.Metadata.{column_at};
 ghost use Rattle.mt_defs.specs.Rows.{key_of};
@@ -22,18 +23,9 @@ pub(crate) fn ordered_columns(
 {
     let mut ordered = List::with_capacity(alloc, order.len())?;
     for place in order {
-        ordered.push(copied_column(alloc, &columns[*place as usize])?)?;
+        ordered.push(columns[*place as usize].copy(alloc)?)?;
     }
     Ok(ordered)
-}
-
-fn copied_column(alloc: Global, column: &Column) -> Result<Column, NoMemory>
-    ensures { IfOk result (λ copied. copied ≡ column.now) }
-{
-    Ok(Column {
-        name: List::of_bytes(alloc, column.name.as_slice())?,
-        ty: column.ty.copy(alloc)?,
-    })
 }
 
 /// Rows whose columns stand in an order, with their columns in the order of their places. No value is
@@ -75,11 +67,22 @@ fn row_in_place(alloc: Global, order: &[u32], row: Row) -> Result<Row, NoMemory>
     requires long { length row ≡ length order.now }
     ensures { IfOk result (λ placed. placed ≡ key_of (places_in order.now) row) }
 {
-    let mut placed = vec![in alloc; Value::Null; order.len()]?;
+    let mut placed = nulls(alloc, order.len())?;
     let mut index = 0;
     for value in row.into_vec() {
         placed[order[index] as usize] = value;
         index += 1;
     }
     Ok(List::of(placed))
+}
+
+/// So many NULL.
+fn nulls(alloc: Global, count: usize) -> Result<Vec<Value>, NoMemory>
+    ensures { IfOk result (λ values. values.items ≡ replicate count Null) }
+{
+    let mut values = Vec::with_capacity(alloc, count)?;
+    for _ in 0..count {
+        values.push(Value::Null)?;
+    }
+    Ok(values)
 }

@@ -10,9 +10,12 @@ mod data;
 mod definition;
 mod fault;
 mod files;
+mod folder;
 mod names;
+mod own_names;
 mod partition;
 mod primary_index;
+mod projection;
 mod skip_entries;
 mod skip_index;
 mod skip_marks;
@@ -20,3 +23,4 @@ mod sort_order;
 mod texts;
 
 pub use accepted::Accepted;
+pub use folder::{PartFiles, check_files};

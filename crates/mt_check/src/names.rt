@@ -21,3 +21,12 @@ pub(crate) fn file_name(
     file.append(ending)?;
     Ok(file)
 }
+
+/// A name and an ending.
+pub(crate) fn with_ending(alloc: Global, name: &[u8], ending: &[u8]) -> Result<List<u8>, NoMemory>
+    ensures { IfOk result (λ file. file ≡ name.now ++ ending.now) }
+{
+    let mut file = List::of_bytes(alloc, name)?;
+    file.append(ending)?;
+    Ok(file)
+}

@@ -3,7 +3,7 @@
 ghost use Rattle.std.specs.Prelude.{◌≡◌, ◌<◌, ◌≤◌, ◌++◌, length, codes, map, IfOk};
 ghost use Rattle.mt_defs.specs.Folder.{folder_of};
 ghost use Rattle.mt_defs.specs.Projections as defined;
-ghost use Rattle.mt_proj.specs.Keys.{projection_at};
+ghost use Rattle.mt_table.specs.Stored.{projection_at};
 ghost use Rattle.mt_check.specs.Definitions.{HasProjections};
 ghost use Rattle.mt_check.specs.FolderChecks.{projection_checks, projection_folder, projections_checks};
 ghost use Rattle.mt_check.specs.Faults.{fault_of};
@@ -48,7 +48,7 @@ fn check_projection(
     ensures { Answers result (projection_checks table.now accepted.now (projection_at table.now place) (folder_of files.now)) }
 {
     let projection = &table.projections.as_slice()[place];
-    let Ok(definition) = table.inner(alloc, projection) else {
+    let Ok(definition) = table.inner(alloc, place) else {
         return Err(ReadError::NoMemory);
     };
     let stored = match read_definition(alloc, &definition, files) {

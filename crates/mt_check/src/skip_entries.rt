@@ -84,10 +84,10 @@ pub(crate) fn marks_name(alloc: Global, skip: &Skip, compact: bool) -> Result<Li
 }
 
 /// The frames of a data file of this name.
-fn read_frames(alloc: Global, file: &[u8], data: &[u8]) -> Result<Frames, ReadError>
-    ensures { GivesFramesOf data.now result (in_frames file.now (frames_reading data.now)) }
+fn read_frames(alloc: Global, file: &[u8], bytes: &[u8]) -> Result<Frames, ReadError>
+    ensures { GivesFramesOf bytes.now result (in_frames file.now (frames_reading bytes.now)) }
 {
-    match frames_of(alloc, data) {
+    match frames_of(alloc, bytes) {
         Ok(frames) => Ok(frames),
         Err(FrameError::At { offset, why }) => {
             Err(fault_at(alloc, file, offset, why_of(why)))

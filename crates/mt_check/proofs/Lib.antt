@@ -1,0 +1,4 @@
+pub mod CheckLemmas
+pub mod FaultLemmas
+pub mod RowLemmas
+pub mod FileLemmas
