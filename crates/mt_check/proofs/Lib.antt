@@ -2,3 +2,4 @@ pub mod CheckLemmas
 pub mod FaultLemmas
 pub mod RowLemmas
 pub mod FileLemmas
+pub mod PartitionLaw

@@ -1,9 +1,10 @@
 -- The first row that falls, and the granule of a row.
 use Rattle.std.proofs.Common.{◌≡◌, ℕ, zero, suc, ◌+◌, ◌-◌, ◌<◌, ◌≤◌, Bool, true, false, List, [], ◌∷◌, length, drop, refl, ap, sym, ◌∙◌, arith, get_or}
-use Rattle.std.specs.Prelude.{Option, Some, None, option_map, if◌then◌else◌}
+use Rattle.std.specs.Prelude.{Option, Some, None, option_map, if◌then◌else◌, All}
+use Rattle.std.proofs.lemmas.List.Elements.{All-nil, All-cons, All-head, All-tail}
 use Rattle.std.specs.Ordering.{is_lt}
 use Rattle.mt_defs.specs.Rows.{Row, key_cmp}
-use Rattle.mt_check.specs.RowsReading.{first_fall, granule_of}
+use Rattle.mt_check.specs.RowsReading.{first_fall, first_index, granule_of}
 
 -- so many rows later
 abbrev pub later_by : ℕ → Option ℕ → Option ℕ
@@ -78,3 +79,40 @@ free_of_falls sort (a ∷ b ∷ rows) rise =
 
 pub granule_next : (granules later : List ℕ) (count row : ℕ) → granules ≡ count ∷ later → (row < count → ⊥) → granule_of granules row ≡ suc (granule_of later (row - count))
 granule_next granules later count row is out = ap (λ g. granule_of g row) is ∙ grind arith
+
+-- ---- the first that passes
+
+pub index_step : {X : Type 0} (test : X → Bool) (xs : List X) (n : ℕ) (d : X) → n < length xs → test (get_or xs n d) ≡ false → later_by n (first_index test (drop n xs)) ≡ later_by (suc n) (first_index test (drop (suc n) xs))
+index_step test [] n d inside fails = absurd (omega (arith, inside))
+index_step test (x ∷ xs) zero d inside fails = ap (λ t. later_by 0 (if t then Some 0 else option_map suc (first_index test xs))) fails ∙ one_later 0 (first_index test xs)
+index_step test (x ∷ xs) (suc n) d inside fails =
+    later_suc n (first_index test (drop n xs)) ∙ ap (option_map suc) (index_step test xs n d (omega (arith, inside)) fails) ∙ sym (later_suc (suc n) (first_index test (drop (suc n) xs)))
+
+pub index_here : {X : Type 0} (test : X → Bool) (xs : List X) (n : ℕ) (d : X) → n < length xs → test (get_or xs n d) ≡ true → later_by n (first_index test (drop n xs)) ≡ Some n
+index_here test [] n d inside passes = absurd (omega (arith, inside))
+index_here test (x ∷ xs) zero d inside passes = ap (λ t. later_by 0 (if t then Some 0 else option_map suc (first_index test xs))) passes ∙ ap Some (omega arith)
+index_here test (x ∷ xs) (suc n) d inside passes = later_suc n (first_index test (drop n xs)) ∙ ap (option_map suc) (index_here test xs n d (omega (arith, inside)) passes)
+
+pub index_none : {X : Type 0} (test : X → Bool) (xs : List X) (n : ℕ) → length xs ≤ n → first_index test (drop n xs) ≡ None
+index_none test [] zero few = refl
+index_none test [] (suc n) few = refl
+index_none test (x ∷ xs) zero few = absurd (omega (arith, few))
+index_none test (x ∷ xs) (suc n) few = index_none test xs n (omega (arith, few))
+
+-- none passes where none is found, and the other way round
+pub none_passes : {X : Type 0} (test : X → Bool) (xs : List X) → first_index test xs ≡ None → All (λ x. test x ≡ false) xs
+none_passes test [] none = All-nil (λ x. test x ≡ false)
+none_passes {X} test (x ∷ xs) none = here (test x) refl (none_passes test xs) none
+  where
+    none_mapped : (found : Option ℕ) → option_map suc found ≡ None → found ≡ None
+    none_mapped None e = refl
+    none_mapped (Some k) e = cc
+
+    here : (t : Bool) → test x ≡ t → (first_index test xs ≡ None → All (λ x. test x ≡ false) xs) → (if t then Some 0 else option_map suc (first_index test xs)) ≡ None → All (λ x. test x ≡ false) (x ∷ xs)
+    here true is later e = cc
+    here false is later e = All-cons (λ x. test x ≡ false) x xs is (later (none_mapped (first_index test xs) e))
+
+pub none_found_of : {X : Type 0} (test : X → Bool) (xs : List X) → All (λ x. test x ≡ false) xs → first_index test xs ≡ None
+none_found_of test [] all = refl
+none_found_of test (x ∷ xs) all =
+    ap (λ t. if t then Some 0 else option_map suc (first_index test xs)) (All-head (λ x. test x ≡ false) x xs all) ∙ ap (option_map suc) (none_found_of test xs (All-tail (λ x. test x ≡ false) x xs all))

@@ -1,5 +1,5 @@
 -- Checks that are made one after another, each only where all earlier ones hold: what they answer is a value, or the first fault.
-use Rattle.std.specs.Prelude.{◌≡◌, Unit, List, [], ◌∷◌, Result, Ok, Err, ◌⊎◌}
+use Rattle.std.specs.Prelude.{◌≡◌, List, [], ◌∷◌, Result, Ok, Err, ◌⊎◌}
 use Rattle.mt_shelf.specs.declared.fault.Fault.{Fault}
 
 -- which answer some checks give

@@ -1,5 +1,5 @@
 -- Faults, and the files of a folder that must be there: docs/FORMAT.md, "The first fault".
-use Rattle.std.specs.Prelude.{ℕ, Unit, List, ◌++◌, Option, Some, None, Result, Ok, Err}
+use Rattle.std.specs.Prelude.{ℕ, List, ◌++◌, Option, Some, None, Result, Ok, Err}
 use Rattle.mt_shelf.specs.declared.fault.Why.{Why}
 use Rattle.mt_shelf.specs.declared.fault.Why.TheVariants.{Missing}
 use Rattle.mt_shelf.specs.declared.fault.Fault.{Fault}

@@ -1,5 +1,5 @@
 -- The checks of a part's folder, in their order: docs/FORMAT.md, "The first fault".
-use Rattle.std.specs.Prelude.{ℕ, ◌+◌, not, Bool, Unit, List, [], ◌∷◌, ◌++◌, length, map, codes, Option, Some, None, if◌then◌else◌, Result, Ok}
+use Rattle.std.specs.Prelude.{ℕ, ◌+◌, not, Bool, List, [], ◌∷◌, ◌++◌, length, map, codes, Option, Some, None, if◌then◌else◌, Result, Ok}
 use Rattle.std.specs.List.{list_any}
 use Rattle.mt_types.specs.declared.ty.Ty.{Ty}
 use Rattle.mt_shelf.specs.declared.fault.Fault.{Fault}

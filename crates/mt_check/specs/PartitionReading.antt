@@ -1,5 +1,5 @@
 -- The files of a partition, which all rows must be of: docs/FORMAT.md, "Partition" and "The first fault".
-use Rattle.std.specs.Prelude.{ℕ, not, Unit, ◌==◌, if◌then◌else◌, List, [], ◌∷◌, length, take, position, Result, Ok}
+use Rattle.std.specs.Prelude.{ℕ, not, ◌==◌, if◌then◌else◌, List, [], ◌∷◌, length, take, Option, Result, Ok}
 use Rattle.std.specs.List.{flat_map}
 use Rattle.std.specs.Str.{bytes_eq}
 use Rattle.mt_shelf.specs.declared.file.FileBytes.{FileBytes}
@@ -13,7 +13,7 @@ use Rattle.mt_defs.specs.Partition.{partition_name, partition_bytes}
 use Rattle.mt_defs.specs.WrittenPartition.{partition_files}
 use Rattle.mt_check.specs.declared.accepted.Accepted.{Accepted}
 use Rattle.mt_check.specs.Faults.{fault_of, fault_in, file_reading, none_found}
-use Rattle.mt_check.specs.RowsReading.{granule_of}
+use Rattle.mt_check.specs.RowsReading.{first_index, granule_of}
 
 -- the folder has these files, byte by byte
 unfoldable pub files_reading : Folder → List FileBytes → Result Unit Fault
@@ -29,7 +29,7 @@ first_value table rows = flat_map (partition_bytes table) (take 1 rows)
 
 -- the first row of another partition than the first row's, by its index
 abbrev pub other_partition : Table → List Row → Option ℕ
-other_partition table rows = position (λ row. not (bytes_eq (partition_bytes table row) (first_value table rows))) rows
+other_partition table rows = first_index (λ row. not (bytes_eq (partition_bytes table row) (first_value table rows))) rows
 
 -- partition.dat is there, all rows have one partition value, and the files are those of the rows
 unfoldable pub partition_reading : Table → Folder → Accepted → Result Unit Fault

@@ -1,5 +1,5 @@
 -- What is checked of rows once they are read: docs/FORMAT.md, "The first fault".
-use Rattle.std.specs.Prelude.{ℕ, suc, ◌+◌, ◌-◌, nat_lt, ◌==◌, Unit, if◌then◌else◌, List, [], ◌∷◌, length, map, take, drop, Option, Some, None, option_map, Result, Ok}
+use Rattle.std.specs.Prelude.{ℕ, suc, ◌+◌, ◌-◌, nat_lt, ◌==◌, Bool, if◌then◌else◌, List, [], ◌∷◌, length, map, take, drop, Option, Some, None, option_map, Result, Ok}
 use Rattle.std.specs.List.{range_with_len}
 use Rattle.std.specs.Str.{bytes_eq}
 use Rattle.std.specs.Ordering.{is_lt}
@@ -19,6 +19,11 @@ places_in order = map (index_in order) (range_with_len 0 (length order))
 abbrev pub granule_of : List ℕ → ℕ → ℕ
 granule_of [] row = 0
 granule_of (count ∷ granules) row = if nat_lt row count then 0 else suc (granule_of granules (row - count))
+
+-- the first element that passes a test, by its index
+abbrev pub first_index : {X : Type 0} → (X → Bool) → List X → Option ℕ
+first_index test [] = None
+first_index test (x ∷ xs) = if test x then Some 0 else option_map suc (first_index test xs)
 
 -- the first row that is below the row before it, by its index
 abbrev pub first_fall : List ℕ → List Row → Option ℕ

@@ -20,6 +20,7 @@ mod skip_entries;
 mod skip_index;
 mod skip_marks;
 mod sort_order;
+mod stubs;
 mod texts;
 
 pub use accepted::Accepted;
