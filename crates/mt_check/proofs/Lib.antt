@@ -2,4 +2,3 @@ pub mod CheckLemmas
 pub mod FaultLemmas
 pub mod RowLemmas
 pub mod FileLemmas
-pub mod PartitionLaw

@@ -1,5 +1,5 @@
 -- The files of a partition, which all rows must be of: docs/FORMAT.md, "Partition" and "The first fault".
-use Rattle.std.specs.Prelude.{ℕ, not, ◌==◌, if◌then◌else◌, List, [], ◌∷◌, length, take, Option, Result, Ok}
+use Rattle.std.specs.Prelude.{ℕ, not, ◌==◌, Bool, if◌then◌else◌, List, [], ◌∷◌, length, take, Option, Result, Ok}
 use Rattle.std.specs.List.{flat_map}
 use Rattle.std.specs.Str.{bytes_eq}
 use Rattle.mt_shelf.specs.declared.file.FileBytes.{FileBytes}
@@ -27,9 +27,13 @@ files_reading folder (file ∷ files) = do
 abbrev pub first_value : Table → List Row → List ℕ
 first_value table rows = flat_map (partition_bytes table) (take 1 rows)
 
+-- the row is of another partition than the first row
+abbrev pub is_other : Table → List Row → Row → Bool
+is_other table rows row = not (bytes_eq (partition_bytes table row) (first_value table rows))
+
 -- the first row of another partition than the first row's, by its index
 abbrev pub other_partition : Table → List Row → Option ℕ
-other_partition table rows = first_index (λ row. not (bytes_eq (partition_bytes table row) (first_value table rows))) rows
+other_partition table rows = first_index (is_other table rows) rows
 
 -- partition.dat is there, all rows have one partition value, and the files are those of the rows
 unfoldable pub partition_reading : Table → Folder → Accepted → Result Unit Fault

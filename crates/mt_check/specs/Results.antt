@@ -10,7 +10,10 @@ use Rattle.mt_frame.specs.declared.frames.Frames.{Frames}
 use Rattle.mt_frame.specs.FrameReading.{layout}
 use Rattle.mt_check.specs.declared.skip_entries.SkipEntries.{SkipEntries}
 use Rattle.mt_check.specs.Checks.{Checks}
-use Rattle.mt_check.specs.SkipMarks.{pieces_at}
+use Rattle.mt_frame.specs.declared.fault.FrameError.{FrameError}
+use Rattle.mt_frame.specs.declared.fault.FrameError.TheVariants as frame
+use Rattle.mt_check.specs.Faults.{fault_at}
+use Rattle.mt_check.specs.SkipMarks.{frame_why, pieces_at}
 
 -- what was returned is the answer of some checks, out of memory aside; no shelf is asked
 abbrev pub Answers : {A : Type 0} → Result A ReadError → Checks A → Type 0
@@ -40,3 +43,9 @@ abbrev pub IsBelow : List ℕ → ReadError → ReadError → Type 0
 IsBelow prefix (AtFault fault) error = IsFault (record { file = prefix ++ fault.file; granule = fault.granule; at = fault.at; why = fault.why }) error
 IsBelow prefix Shelf error = error ≡ Shelf
 IsBelow prefix NoMemory error = error ≡ NoMemory
+
+-- an error of frames, as one of a file
+abbrev pub IsFrameError : List ℕ → FrameError → ReadError → Type 0
+IsFrameError file (frame.At offset why) error = IsFault (fault_at file offset (frame_why why)) error
+IsFrameError file frame.Shelf error = error ≡ NoMemory
+IsFrameError file frame.NoMemory error = error ≡ NoMemory

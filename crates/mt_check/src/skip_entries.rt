@@ -7,7 +7,7 @@ ghost use Rattle.mt_defs.specs.Part.{marks_ending};
 ghost use Rattle.mt_defs.specs.SkipIndexes as index;
 ghost use Rattle.mt_frame.specs.FrameReading.{frames_reading, layout};
 ghost use Rattle.mt_frame.specs.Results.{AreFramesOf};
-ghost use Rattle.mt_check.specs.Results.{GivesEntries, GivesFramesOf};
+ghost use Rattle.mt_check.specs.Results.{GivesEntries, GivesFramesOf, IsFrameError};
 ghost use Rattle.mt_check.specs.SkipMarks.{frame_why, in_frames, index_entries};
 
 use crate::fault::fault_at;
@@ -89,10 +89,17 @@ fn read_frames(alloc: Global, file: &[u8], bytes: &[u8]) -> Result<Frames, ReadE
 {
     match frames_of(alloc, bytes) {
         Ok(frames) => Ok(frames),
-        Err(FrameError::At { offset, why }) => {
-            Err(fault_at(alloc, file, offset, why_of(why)))
-        }
-        Err(_) => Err(ReadError::NoMemory),
+        Err(error) => Err(frame_error(alloc, file, error)),
+    }
+}
+
+/// Why frames weren't read, as a fault of a file of this name.
+fn frame_error(alloc: Global, file: &[u8], error: FrameError) -> ReadError
+    ensures { IsFrameError file.now error result }
+{
+    match error {
+        FrameError::At { offset, why } => fault_at(alloc, file, offset, why_of(why)),
+        _ => ReadError::NoMemory,
     }
 }
 
