@@ -42,3 +42,15 @@ found_nowhere [] name zero long = refl
 found_nowhere [] name (suc i) long = refl
 found_nowhere (file ∷ files) name zero long = absurd (omega (arith, long))
 found_nowhere (file ∷ files) name (suc i) long = found_nowhere files name i (omega (arith, long))
+
+-- ---- as loops ask for it
+
+pub file_found : (files : List FileBytes) (name : List ℕ) (i : ℕ) (file : FileBytes) (whole : Option (List ℕ)) → folder_of (drop i files) name ≡ whole → i < length files → file ≡ get_or files i file → file.name ≡ name → whole ≡ Some file.bytes
+file_found files name i file whole ahead inside at is =
+    sym ahead ∙ found_here files name i file inside (ap (λ (f : FileBytes). f.name) (sym at) ∙ is) ∙ ap (λ (f : FileBytes). Some f.bytes) (sym at)
+
+pub file_passed : (files : List FileBytes) (name : List ℕ) (i : ℕ) (file : FileBytes) (whole : Option (List ℕ)) → folder_of (drop i files) name ≡ whole → i < length files → file ≡ get_or files i file → (file.name ≡ name → ⊥)
+    → folder_of (drop (i + 1) files) name ≡ whole
+file_passed files name i file whole ahead inside at other =
+    ap (λ k. folder_of (drop k files) name) (let e : i + 1 ≡ suc i = omega arith in e)
+    ∙ sym (found_later files name i file inside (λ is. other (ap (λ (f : FileBytes). f.name) at ∙ is))) ∙ ahead

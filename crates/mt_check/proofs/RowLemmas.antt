@@ -3,6 +3,7 @@ use Rattle.std.proofs.Common.{◌≡◌, ℕ, zero, suc, ◌+◌, ◌-◌, ◌<�
 use Rattle.std.specs.Prelude.{Option, Some, None, option_map, if◌then◌else◌, All}
 use Rattle.std.proofs.lemmas.List.Elements.{All-nil, All-cons, All-head, All-tail}
 use Rattle.std.specs.Ordering.{is_lt}
+use Rattle.std.specs.declared.cmp.Ordering.{Ordering}
 use Rattle.mt_defs.specs.Rows.{Row, key_cmp}
 use Rattle.mt_check.specs.RowsReading.{first_fall, first_index, granule_of}
 
@@ -116,3 +117,22 @@ pub none_found_of : {X : Type 0} (test : X → Bool) (xs : List X) → All (λ x
 none_found_of test [] all = refl
 none_found_of test (x ∷ xs) all =
     ap (λ t. if t then Some 0 else option_map suc (first_index test xs)) (All-head (λ x. test x ≡ false) x xs all) ∙ ap (option_map suc) (none_found_of test xs (All-tail (λ x. test x ≡ false) x xs all))
+
+-- ---- as the loop asks for it
+
+pub rises_on : (sort : List ℕ) (rows : List Row) (i : ℕ) (row before : Row) → 1 ≤ i → first_fall sort rows ≡ later_by (i - 1) (first_fall sort (drop (i - 1) rows)) → i < length rows
+    → row ≡ get_or rows i row → before ≡ get_or rows (i - 1) before → (o : Ordering) → o ≡ key_cmp sort row before → (below : Bool) → below ≡ is_lt o → below ≡ false
+    → first_fall sort rows ≡ later_by (i + 1 - 1) (first_fall sort (drop (i + 1 - 1) rows))
+rises_on sort rows zero row before some ahead inside at at_before o order below tested fails = absurd (omega (arith, some))
+rises_on sort rows (suc n) row before some ahead inside at at_before o order below tested fails =
+    let less : suc n - 1 ≡ n = omega arith in
+    let former : before ≡ get_or rows n before = at_before ∙ ap (λ k. get_or rows k before) less in
+    let rises : is_lt (key_cmp sort (get_or rows (suc n) row) (get_or rows n before)) ≡ false =
+        ap (λ (r : Row). is_lt (key_cmp sort r (get_or rows n before))) (sym at) ∙ ap (λ (b : Row). is_lt (key_cmp sort row b)) (sym former) ∙ ap is_lt (sym order) ∙ sym tested ∙ fails in
+    ahead ∙ ap (λ k. later_by k (first_fall sort (drop k rows))) less ∙ fall_step sort rows n row before inside rises ∙ ap (λ k. later_by k (first_fall sort (drop k rows))) (let e : suc n ≡ suc n + 1 - 1 = omega arith in e)
+
+pub falls_nowhere : (sort : List ℕ) (rows : List Row) (i : ℕ) → 1 ≤ i → first_fall sort rows ≡ later_by (i - 1) (first_fall sort (drop (i - 1) rows)) → length rows ≤ i → None ≡ first_fall sort rows
+falls_nowhere sort rows zero some ahead over = absurd (omega (arith, some))
+falls_nowhere sort rows (suc n) some ahead over =
+    let less : suc n - 1 ≡ n = omega arith in
+    sym (ahead ∙ ap (λ k. later_by k (first_fall sort (drop k rows))) less ∙ ap (later_by n) (fall_none sort rows n over))

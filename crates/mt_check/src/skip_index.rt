@@ -82,10 +82,18 @@ fn group_sizes(alloc: Global, per_entry: u64, granules: &[u64]) -> Result<List<u
     let mut rest = granules;
     while !rest.is_empty() {
         let (group, after) = rest.split_at(rest.len().min(per_entry as usize));
-        sizes.push(group.iter().sum::<u64>())?;
+        sizes.push(rows_of(group))?;
         rest = after;
     }
     Ok(sizes)
+}
+
+/// The rows of some granules together.
+fn rows_of(granules: &[u64]) -> u64
+    requires { sum granules.now < 2 ^ 64 }
+    ensures { result ≡ sum granules.now }
+{
+    granules.iter().sum::<u64>()
 }
 
 /// That each entry is the one of its rows; groups of rows have these sizes.

@@ -74,7 +74,7 @@ fn first_fall(sort: &[u32], rows: &[Row]) -> Option<usize>
 {
     let mut index = 1;
     while index < rows.len() {
-        if compare_rows(sort, &rows[index], &rows[index - 1]) == Ordering::Less {
+        if compare_rows(sort, &rows[index], &rows[index - 1]).is_lt() {
             return Some(index);
         }
         index += 1;
