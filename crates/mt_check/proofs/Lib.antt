@@ -6,4 +6,5 @@ pub mod FileLemmas
 pub mod OrderLemmas
 pub mod KeyLemmas
 pub mod FrameLemmas
+pub mod GroupLemmas
 pub mod PartitionLemmas
