@@ -10,7 +10,7 @@ use Rattle.mt_defs.specs.declared.frame.Frame.{Frame}
 use Rattle.mt_defs.specs.Frames.{Block, IsBlock, IsFileOf, block_bytes, file_of, payload_of}
 use Rattle.mt_frame.specs.FrameReading.{frames_reading, layout, layout_from, u32_at}
 use Rattle.mt_frame.proofs.BlockLemmas.{frame_complete, frames_complete, header_facts}
-use Rattle.mt_check.proofs.LoopLemmas.{at_index, at_end}
+use Rattle.mt_check.proofs.LoopLemmas.{at_index, at_end, same_default}
 
 -- a frame at the front is cut off by its payload's length
 pub record IsCut (bytes : List ℕ) (block : Block) (rest : List ℕ) : Type 0 where
@@ -49,11 +49,6 @@ length-layout : (offset : ℕ) (blocks : List Block) → length (layout_from off
 unfolding layout_from
 length-layout offset [] = refl
 length-layout offset (block ∷ blocks) = ap suc (length-layout (offset + (25 + length block.payload)) blocks)
-
-same_default : {X : Type 0} (xs : List X) (i : ℕ) (d e : X) → i < length xs → get_or xs i d ≡ get_or xs i e
-same_default [] i d e inside = absurd (omega (arith, inside))
-same_default (x ∷ xs) zero d e inside = refl
-same_default (x ∷ xs) (suc i) d e inside = same_default xs i d e (omega (arith, inside))
 
 -- ---- the loop
 

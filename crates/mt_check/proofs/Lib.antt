@@ -7,4 +7,7 @@ pub mod OrderLemmas
 pub mod KeyLemmas
 pub mod FrameLemmas
 pub mod GroupLemmas
+pub mod PositionLemmas
+pub mod EntryLemmas
+pub mod SkipLemmas
 pub mod PartitionLemmas

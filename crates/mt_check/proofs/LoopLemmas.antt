@@ -29,3 +29,8 @@ nonempty (x ∷ xs) some =
 pub is_none : {X : Type 0} (xs : List X) → (length xs == 0) ≡ true → xs ≡ []
 is_none [] e = refl
 is_none (x ∷ xs) e = absurd (let zero : suc (length xs) ≡ 0 = eqb-true (length (x ∷ xs)) 0 e in omega (arith, zero))
+
+pub same_default : {X : Type 0} (xs : List X) (i : ℕ) (d e : X) → i < length xs → get_or xs i d ≡ get_or xs i e
+same_default [] i d e inside = absurd (omega (arith, inside))
+same_default (x ∷ xs) zero d e inside = refl
+same_default (x ∷ xs) (suc i) d e inside = same_default xs i d e (omega (arith, inside))

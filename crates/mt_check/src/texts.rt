@@ -1,14 +1,15 @@
 //! columns.txt and count.txt.
 
-ghost use Rattle.std.specs.Prelude.{◌≡◌, ◌≤◌, length};
+ghost use Rattle.std.specs.Prelude.{◌≡◌, ◌≤◌, length, IfOk};
 ghost use Rattle.mt_table.specs.declared.limits.TheConstants.{MAX_COLUMNS};
 ghost use Rattle.mt_defs.specs.Folder.{folder_of};
 ghost use Rattle.mt_check.specs.DefinitionReading.{count_why, order_reading, rows_reading};
+ghost use Rattle.mt_check.specs.Orders.{IsOrder};
 ghost use Rattle.mt_check.specs.Results.{Gives};
 
 use crate::fault::fault_of;
 use crate::files::bytes_of;
-use mt_meta::{CountWhy, read_columns, read_count};
+use mt_meta::{CountWhy, only_lists_are_read, read_columns, read_count};
 use mt_shelf::{FileBytes, ReadError, Why};
 use mt_table::PartDef;
 use mt_types::List;
@@ -26,9 +27,12 @@ pub(crate) fn read_order(
     files: &[FileBytes],
 ) -> Result<List<u32>, ReadError>
     requires { length definition.now.columns ≤ MAX_COLUMNS }
-    ensures { Gives result (order_reading definition.now (folder_of files.now)) }
+    ensures gives { Gives result (order_reading definition.now (folder_of files.now)) }
+    ensures order { IfOk result IsOrder }
+    ensures long { IfOk result (λ order. length order ≡ length definition.now.columns) }
 {
     let text = bytes_of(alloc, files, COLUMNS_FILE)?;
+    only_lists_are_read();
     read_columns(alloc, definition.columns.as_slice(), text)
 }
 
