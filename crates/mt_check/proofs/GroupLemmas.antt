@@ -159,11 +159,11 @@ values_fit_at columns i d rows inside fit =
     All-map (λ value. fits_of (get_or columns i d).ty value ≡ true) (λ (row : Row). cell row i) rows
     (All-weaker (RowFits columns) (λ row. fits_of (get_or columns i d).ty (cell row i) ≡ true) (λ row fits. cell_fits columns row i d fits inside) rows fit)
 
-pub values_fit : (columns items : List Column) (i : ℕ) (column : Column) (ty : Ty) (rows : List Row) → items ≡ columns → column ≡ get_or items i column → ty ≡ column.ty → i < length columns → All (RowFits columns) rows
-    → All (λ value. fits_of ty value ≡ true) (column_values i rows)
-values_fit columns items i column ty rows same at is inside fit =
-    let ty_is : (get_or columns i column).ty ≡ ty = ap (λ (cs : List Column). (get_or cs i column).ty) (sym same) ∙ sym (ap (λ (c : Column). c.ty) at) ∙ sym is in
-    subst (λ (t : Ty). All (λ value. fits_of t value ≡ true) (column_values i rows)) ty_is (values_fit_at columns i column rows inside fit)
+pub values_fit : (columns : List Column) (skip : Skip) (slice : List Column) (d : Column) (rows held : List Row) → slice ≡ columns → held ≡ rows → skip.column < length columns → All (RowFits columns) rows
+    → All (λ value. fits_of (get_or slice skip.column d).ty value ≡ true) (column_values skip.column held)
+values_fit columns skip slice d rows held same holds inside fit =
+    subst (λ (cs : List Column). All (λ value. fits_of (get_or cs skip.column d).ty value ≡ true) (column_values skip.column held)) (sym same)
+    (subst (λ (rs : List Row). All (λ value. fits_of (get_or columns skip.column d).ty value ≡ true) (column_values skip.column rs)) (sym holds) (values_fit_at columns skip.column d rows inside fit))
 
 pub values_taken : (ty : Ty) (column n : ℕ) (rows group : List Row) → group ≡ take n rows → All (λ value. fits_of ty value ≡ true) (column_values column rows) → All (λ value. fits_of ty value ≡ true) (column_values column group)
 values_taken ty column n rows group front fit =

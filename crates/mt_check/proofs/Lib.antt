@@ -11,3 +11,9 @@ pub mod PositionLemmas
 pub mod EntryLemmas
 pub mod SkipLemmas
 pub mod PartitionLemmas
+pub mod PartDefs
+pub mod DefinitionLemmas
+pub mod InnerLemmas
+pub mod TableLemmas
+pub mod StoredLemmas
+pub mod TextLemmas

@@ -1,13 +1,14 @@
 -- A skip index: its groups, and then its entries.
-use Rattle.std.proofs.Common.{◌≡◌, ℕ, ◌*◌, ◌<◌, ◌≤◌, ◌^◌, Bool, List, length, refl, ap, sym, subst, ◌∙◌, arith}
+use Rattle.std.proofs.Common.{◌≡◌, ℕ, ◌*◌, ◌<◌, ◌≤◌, ◌^◌, Bool, List, length, refl, ap, sym, subst, ◌∙◌, arith, get_or}
 use Rattle.std.specs.Prelude.{sum, Result, Ok, Err}
 use Rattle.mt_types.specs.declared.ty.Ty.{Ty}
 use Rattle.mt_shelf.specs.declared.fault.ReadError.{ReadError}
+use Rattle.mt_table.specs.declared.column.Column.{Column}
 use Rattle.mt_table.specs.declared.definition.Table.{Table}
 use Rattle.mt_table.specs.declared.skip.Skip.{Skip}
 use Rattle.mt_defs.specs.Folder.{Folder}
 use Rattle.mt_defs.specs.Granules.{AreGranules, granule_rows}
-use Rattle.mt_defs.specs.Metadata.{column_at}
+use Rattle.mt_defs.specs.Metadata.{column_at, no_column}
 use Rattle.mt_defs.specs.Part.{is_compact, marks_ending}
 use Rattle.mt_defs.specs.Rows.{Row}
 use Rattle.mt_defs.specs.SkipIndexes.{entry_rows}
@@ -18,6 +19,7 @@ use Rattle.mt_check.specs.Results.{Answers, FailsAs}
 use Rattle.mt_check.specs.RowGroups.{group_sizes}
 use Rattle.mt_check.specs.SkipMarks.{index_entries}
 use Rattle.mt_check.proofs.CheckLemmas.{first_error, next_answer, gives_error}
+use Rattle.mt_check.proofs.LoopLemmas.{same_default}
 use Rattle.mt_check.proofs.GroupLemmas.{sizes_few, sizes_sum, granules_few, product_small, groups_are, length-granule_rows}
 
 sizes_are : (skip : Skip) (granules slice sizes : List ℕ) → slice ≡ granules → sizes ≡ group_sizes skip.granularity (length slice) slice → sizes ≡ group_sizes skip.granularity (length granules) granules
@@ -66,3 +68,7 @@ entries_left table folder accepted skip slice sizes count compact entries ty row
     next_answer entries r (gives reading) (behind table accepted skip) (sym (sym (reading_is folder accepted skip slice sizes count compact same are counted layout) ∙ reads))
     (subst (λ (t : Ty). Answers r (entries_checks skip t 0 (entry_rows skip accepted.rows accepted.granules) entries)) is
     (subst (λ (gs : List (List Row)). Answers r (entries_checks skip ty 0 gs entries)) groups answers))
+
+-- the type of the index's column, where code reads it
+pub type_at : (columns slice : List Column) (place : ℕ) (d : Column) → slice ≡ columns → place < length columns → (get_or slice place d).ty ≡ (column_at columns place).ty
+type_at columns slice place d same inside = ap (λ (cs : List Column). (get_or cs place d).ty) same ∙ ap (λ (c : Column). c.ty) (same_default columns place d no_column inside)
