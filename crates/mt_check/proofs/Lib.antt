@@ -17,3 +17,6 @@ pub mod InnerLemmas
 pub mod TableLemmas
 pub mod StoredLemmas
 pub mod TextLemmas
+pub mod PartitionLaw
+pub mod DefinitionLaw
+pub mod FolderLemmas

@@ -7,7 +7,7 @@ use Rattle.std.proofs.lemmas.List.{length-map, get_or-map}
 use Rattle.std.proofs.lemmas.List.FromFn.{length-range_with_len, get_or-range_with_len}
 use Rattle.std.proofs.lemmas.List.Elements.{All-head, All-tail, All-map, All-weaker, All-get_or}
 use Rattle.std.proofs.lemmas.List.Sorted.{All-permutation, Contains-permutation, length_permutation}
-use Rattle.std.proofs.lemmas.Map.Keys.{IsDistinct-IsPermutation}
+use Rattle.std.proofs.lemmas.Map.Keys.{IsDistinct-IsPermutation, IsDistinct-from_apart, IsDistinct-head, IsDistinct-tail}
 use Rattle.mt_types.specs.declared.value.Value.{Value}
 use Rattle.mt_types.specs.declared.value.Value.TheVariants.{Null}
 use Rattle.mt_types.specs.Fits.{fits_of}
@@ -63,28 +63,28 @@ index_once : (order : List ℕ) (i : ℕ) → IsDistinct eqb order → i < lengt
 index_once [] i distinct inside = absurd (omega (arith, inside))
 index_once (first ∷ order) zero distinct inside = ap (λ b. if b then 0 else index_in order first + 1) (eq-eqb first first refl)
 index_once (first ∷ order) (suc i) distinct inside =
-    let apart : eqb first (get_or order i 0) ≡ false = distinct_at order i distinct.0 (omega (arith, inside)) in
-    ap (λ b. if b then 0 else index_in order (get_or order i 0) + 1) apart ∙ ap (λ k. k + 1) (index_once order i distinct.1 (omega (arith, inside))) ∙ (let e : i + 1 ≡ suc i = omega arith in e)
+    let apart : eqb first (get_or order i 0) ≡ false = distinct_at order i (IsDistinct-head eqb first order distinct) (omega (arith, inside)) in
+    ap (λ b. if b then 0 else index_in order (get_or order i 0) + 1) apart ∙ ap (λ k. k + 1) (index_once order i (IsDistinct-tail eqb first order distinct) (omega (arith, inside))) ∙ (let e : i + 1 ≡ suc i = omega arith in e)
   where
     distinct_at : (order : List ℕ) (i : ℕ) → AllByRecursion (λ y. eqb first y ≡ false) order → i < length order → eqb first (get_or order i 0) ≡ false
     distinct_at [] i all inside = absurd (omega (arith, inside))
     distinct_at (y ∷ order) zero all inside = all.0
     distinct_at (y ∷ order) (suc i) all inside = distinct_at order i all.1 (omega (arith, inside))
 
-range_above : (a n x : ℕ) → x < a → AllByRecursion (λ y. eqb x y ≡ false) (range_with_len a n)
-range_above a zero x below = tt
-range_above a (suc n) x below = (unequal x a below, range_above (a + 1) n x (omega (arith, below)))
-  where
-    unequal : (x a : ℕ) → x < a → eqb x a ≡ false
-    unequal x a below =
-        elim (cases_Bool (eqb x a)) [
-          | inl same ↦ absurd (let e = eqb-true x a same in omega (arith, e, below))
-          | inr other ↦ other
-        ]
+unequal : (x a : ℕ) → x < a → eqb x a ≡ false
+unequal x a below =
+    elim (cases_Bool (eqb x a)) [
+      | inl same ↦ absurd (let e = eqb-true x a same in omega (arith, e, below))
+      | inr other ↦ other
+    ]
 
-range_distinct : (a n : ℕ) → IsDistinct eqb (range_with_len a n)
-range_distinct a zero = tt
-range_distinct a (suc n) = (range_above (a + 1) n a (omega arith), range_distinct (a + 1) n)
+range_distinct : (n : ℕ) → IsDistinct eqb (range_with_len 0 n)
+range_distinct n =
+    IsDistinct-from_apart eqb (range_with_len 0 n) (λ i j d less inside.
+    let size = length-range_with_len 0 n in
+    let at_j = get_or-range_with_len 0 n j d (omega (arith, inside, size)) in
+    let at_i = get_or-range_with_len 0 n i d (omega (arith, less, inside, size)) in
+    unequal (get_or (range_with_len 0 n) i d) (get_or (range_with_len 0 n) j d) (omega (arith, at_i, at_j, less)))
 
 range_below : (n : ℕ) → All (λ place. place < n) (range_with_len 0 n)
 range_below n k d inside =
@@ -110,7 +110,7 @@ order_is n order permuted =
         found_in order place listed.0 place listed.1 listed.2 in (
       record {
         known = subst (λ m. All (λ place. place < m) order) (sym long) (All-permutation (λ place. place < n) (range_with_len 0 n) order permuted (range_below n));
-        once = λ i inside. index_once order i (IsDistinct-IsPermutation eqb eqb_flips (range_with_len 0 n) order permuted (range_distinct 0 n)) inside;
+        once = λ i inside. index_once order i (IsDistinct-IsPermutation eqb eqb_flips (range_with_len 0 n) order permuted (range_distinct n)) inside;
         within = λ place inside. (stands place inside).within;
         each = λ place inside. (stands place inside).there;
       },
@@ -251,13 +251,13 @@ stored_read definition folder order count columns (rows, granules) placed is cou
 
 -- ---- what follows
 
-abbrev behind_index : Accepted → Unit → Result Accepted Fault
+abbrev behind_index : Accepted → Unit {0} → Result Accepted Fault
 behind_index accepted _ = Ok accepted
 
-abbrev behind_sorted : PartDef → Folder → Accepted → Unit → Result Accepted Fault
+abbrev behind_sorted : PartDef → Folder → Accepted → Unit {0} → Result Accepted Fault
 behind_sorted definition folder accepted _ = index_reading definition folder accepted >>= behind_index accepted
 
-abbrev behind_cells : PartDef → Folder → Accepted → Unit → Result Accepted Fault
+abbrev behind_cells : PartDef → Folder → Accepted → Unit {0} → Result Accepted Fault
 behind_cells definition folder accepted _ = sorted_reading definition folder accepted >>= behind_sorted definition folder accepted
 
 abbrev behind_stored : PartDef → Folder → Accepted → Result Accepted Fault
