@@ -1,5 +1,5 @@
 -- A part's files, step by step.
-use Rattle.std.proofs.Common.{◌≡◌, ℕ, suc, ◌+◌, ◌<◌, ◌≤◌, List, [], ◌∷◌, length, map, drop, refl, ap, sym, subst, ◌∙◌, get_or, arith}
+use Rattle.std.proofs.Common.{◌≡◌, ℕ, suc, ◌+◌, ◌<◌, ◌≤◌, List, [], ◌∷◌, ◌++◌, length, map, drop, refl, ap, sym, subst, ◌∙◌, get_or, arith}
 use Rattle.std.specs.Prelude.{Result, Ok, Err}
 use Rattle.mt_shelf.specs.declared.file.FileBytes.{FileBytes}
 use Rattle.mt_shelf.specs.declared.fault.Fault.{Fault}
@@ -27,8 +27,8 @@ use Rattle.mt_check.proofs.LoopLemmas.{at_index, at_end, same_default}
 -- ---- a projection
 
 below_fails : {A : Type 0} (prefix : List ℕ) (error e : ReadError) (reading : Result A Fault) → FailsAs error reading → IsBelow prefix error e → FailsAs e (named_below prefix reading)
-below_fails {A} prefix (AtFault fault) e reading fails below =
-    fault_gives (record { file = _; granule = fault.granule; at = fault.at; why = fault.why }) e (named_below prefix reading) below (ap (named_below {A} prefix) fails)
+below_fails {A = A} prefix (AtFault fault) e reading fails below =
+    fault_gives (record { file = prefix ++ fault.file; granule = fault.granule; at = fault.at; why = fault.why }) e (named_below prefix reading) below (ap (λ (r : Result A Fault). named_below prefix r) fails)
 below_fails prefix Shelf e reading fails below = absurd fails
 below_fails prefix NoMemory e reading fails below = subst (λ (error : ReadError). FailsAs error (named_below prefix reading)) (sym below) tt
 

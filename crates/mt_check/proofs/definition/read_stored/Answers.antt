@@ -1,4 +1,4 @@
-use Rattle.std.proofs.Common.{◌≡◌, ◌∙◌, sym, ap, subst, List}
+use Rattle.std.proofs.Common.{◌≡◌, ◌∙◌, sym, ap, subst, List, map}
 use Rattle.std.specs.Prelude.{All, IsTrue}
 use Rattle.std.proofs.lemmas.Result.{err_from_is_err_and}
 use Rattle.mt_types.specs.Profile.{is_profile}
@@ -20,5 +20,6 @@ returns-in_err-count-clause-gives c =
 
 pub read_data-requires-clause-profile : goal.read_data-requires-clause-profile
 read_data-requires-clause-profile c =
-    let columns = c.as_slice-3.ensures ∙ c.in-Ok.ensures ∙ ap (λ (cs : List Column). _) c.as_slice.ensures in
-    ?
+    let columns = c.args.definition.now.columns in
+    let ordered = c.as_slice-3.ensures ∙ c.in-Ok.ensures ∙ ap (λ (cs : List Column). map (column_at cs) c.as_slice-2.result.now) c.as_slice.ensures ∙ ap (map (column_at columns)) c.as_slice-2.ensures in
+    subst (All (λ column. IsTrue (is_profile column.ty))) (sym ordered) (ordered_profile columns c.in_ok-order.order c.in_ok-order.ensures.order c.in_ok-order.ensures.long c.requires.profile)
