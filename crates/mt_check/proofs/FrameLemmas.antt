@@ -2,7 +2,6 @@
 use Rattle.std.proofs.Common.{◌≡◌, ℕ, zero, suc, ◌+◌, ◌<◌, ◌≤◌, List, [], ◌∷◌, ◌++◌, length, take, drop, refl, ap, sym, subst, ◌∙◌, get_or, arith}
 use Rattle.std.specs.Prelude.{All, Ok}
 use Rattle.std.specs.List.{flat_map}
-use Rattle.std.proofs.Math.Seq.{drop-nil}
 use Rattle.std.proofs.lemmas.List.{append-nil, take_more, take_all, length-take-le, length-drop}
 use Rattle.std.proofs.lemmas.List.Concat.{flat_map-append, flat_map-cons}
 use Rattle.std.proofs.lemmas.List.Elements.{All-get_or}
@@ -10,7 +9,7 @@ use Rattle.mt_defs.specs.declared.frame.Frame.{Frame}
 use Rattle.mt_defs.specs.Frames.{Block, IsBlock, IsFileOf, block_bytes, file_of, payload_of}
 use Rattle.mt_frame.specs.FrameReading.{frames_reading, layout, layout_from, u32_at}
 use Rattle.mt_frame.proofs.BlockLemmas.{frame_complete, frames_complete, header_facts}
-use Rattle.mt_check.proofs.LoopLemmas.{at_index, at_end, same_default}
+use Rattle.mt_check.proofs.LoopLemmas.{at_index, at_end, drop_drop, same_default}
 
 -- a frame at the front is cut off by its payload's length
 pub record IsCut (bytes : List ℕ) (block : Block) (rest : List ℕ) : Type 0 where
@@ -18,11 +17,6 @@ pub record IsCut (bytes : List ℕ) (block : Block) (rest : List ℕ) : Type 0 w
   pub long : length block.payload ≤ length (drop 25 bytes)
   pub payload : take (length block.payload) (drop 25 bytes) ≡ block.payload
   pub rest_is : drop (length block.payload) (drop 25 bytes) ≡ rest
-
-drop_drop : {X : Type 0} (m n : ℕ) (xs : List X) → drop n (drop m xs) ≡ drop (m + n) xs
-drop_drop zero n xs = let e : n ≡ 0 + n = omega arith in ap (λ k. drop k xs) e
-drop_drop (suc m) n [] = drop-nil n ∙ sym (drop-nil (suc m + n))
-drop_drop (suc m) n (x ∷ xs) = drop_drop m n xs ∙ (let e : suc (m + n) ≡ suc m + n = omega arith in ap (λ k. drop k (x ∷ xs)) e)
 
 pub block_cut : (block : Block) (rest : List ℕ) → IsBlock block → IsCut (block_bytes block ++ rest) block rest
 block_cut block rest is =

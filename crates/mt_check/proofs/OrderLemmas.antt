@@ -3,6 +3,7 @@ use Rattle.std.proofs.Common.{◌≡◌, ℕ, zero, suc, ◌+◌, ◌<◌, ◌�
 use Rattle.std.specs.Prelude.{slice_set}
 use Rattle.mt_defs.specs.Rows.{Row}
 use Rattle.std.specs.List.{range_with_len}
+use Rattle.mt_check.proofs.LoopLemmas.{drop_drop}
 use Rattle.std.proofs.lemmas.List.{take_more, take_more_set, map-append}
 
 range_push : (a n : ℕ) → range_with_len a (suc n) ≡ range_with_len a n ++ (a + n) ∷ []
@@ -43,14 +44,7 @@ length_set (y ∷ xs) zero x = refl
 length_set (y ∷ xs) (suc i) x = ap suc (length_set xs i x)
 
 drop_next : {X : Type 0} (xs ys : List X) (i : ℕ) → drop i xs ≡ drop i ys → drop (i + 1) xs ≡ drop (i + 1) ys
-drop_next xs ys i left =
-    let step : {X : Type 0} (zs : List X) → drop (i + 1) zs ≡ drop 1 (drop i zs) = λ zs. drop_drop i zs in
-    step xs ∙ ap (drop 1) left ∙ sym (step ys)
-  where
-    drop_drop : {X : Type 0} (i : ℕ) (zs : List X) → drop (i + 1) zs ≡ drop 1 (drop i zs)
-    drop_drop zero zs = refl
-    drop_drop (suc i) [] = refl
-    drop_drop (suc i) (z ∷ zs) = drop_drop i zs
+drop_next xs ys i left = sym (drop_drop i 1 xs) ∙ ap (drop 1) left ∙ drop_drop i 1 ys
 
 -- where the loop stands
 pub record Moves (f : Row → Row) (rows moved : List Row) (i : ℕ) : Type 0 where

@@ -43,8 +43,9 @@ pub(crate) fn rows_in_place(
     if is_in_place(order) {
         return Ok(rows);
     }
+    let count = rows.len();
     let mut placed = rows.into_vec();
-    for index in 0..placed.len() {
+    for index in 0..count {
         let row = mem::replace(&mut placed[index], List::new(alloc));
         placed[index] = row_in_place(alloc, order, row)?;
     }

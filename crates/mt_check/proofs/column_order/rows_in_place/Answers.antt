@@ -13,15 +13,15 @@ row_in_place-requires-clause-long c =
     let at = c.replace-row.ensures.value ∙ c.index_mut.ensures.value in
     let here = still_there c.args.rows c.loop-index.placed.items c.loop-index.index c.replace-row.result c.index_mut.result.now c.loop-index.invariant.left at in
     let inside = c.loop-index-test.true in
-    let size = c.loop-index.invariant.long in
-    let ends = c.len-index-end.ensures in
-    let end = c.loop-index.auto.index-end in
-    ap length here ∙ c.requires.long c.loop-index.index c.index_mut.result.now ?
+    let ends = c.len-count.ensures in
+    ap length here ∙ c.requires.long c.loop-index.index c.index_mut.result.now (omega (arith, inside, ends))
 
 pub loop-index-preserved : goal.loop-index-preserved
 loop-index-preserved c =
     let at = c.replace-row.ensures.value ∙ c.index_mut.ensures.value in
     let inside = c.loop-index-test.true in
+    let ends = c.len-count.ensures in
+    let size = c.loop-index.invariant.long in
     let moves = moves_on (key_of (places_in c.args.order.now)) c.args.rows c.loop-index.placed.items c.loop-index.index c.replace-row.result c.in_ok-placed.field-0 c.replace-row.new.dest c.index_mut.result.now c.loop-index.invariant.done
-        c.loop-index.invariant.left c.loop-index.invariant.long ? at c.in_ok-placed.ensures in
+        c.loop-index.invariant.left c.loop-index.invariant.long (omega (arith, inside, ends, size)) at c.in_ok-placed.ensures in
     record { done = moves.done; left = moves.left; long = moves.long }
