@@ -1,3 +1,5 @@
+pub mod Definitions
 pub mod NumberColumns
+pub mod SkipFiles
 pub mod TextFiles
 pub mod WrongFolders

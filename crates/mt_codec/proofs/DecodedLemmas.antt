@@ -1,8 +1,8 @@
 -- What `decode` and `decode_front` return.
-use Rattle.std.proofs.Common.{◌≡◌, ℕ, zero, suc, ◌+◌, ◌-◌, ◌<◌, ◌≤◌, true, get_or, List, [], ◌∷◌, ◌++◌, length, take, drop, Result, Ok, Err, refl, ap, sym, ◌∙◌, subst, arith, ◌⊎◌, inl, inr}
+use Rattle.std.proofs.Common.{◌≡◌, ℕ, zero, suc, ◌+◌, ◌-◌, ◌<◌, ◌≤◌, true, get_or, List, [], ◌∷◌, ◌++◌, length, take, drop, Result, Ok, Err, refl, ap, sym, ◌∙◌, subst, arith, ◌⊎◌, inl, inr, Bor}
 use Rattle.std.specs.Prelude.{All}
 use Rattle.std.specs.List.{flat_map}
-use Rattle.std.proofs.lemmas.List.{get_or_default}
+use Rattle.std.proofs.lemmas.List.{get_or_default, get_or-map, length-map}
 use Rattle.std.proofs.lemmas.List.Elements.{All-head, All-tail}
 use Rattle.mt_defs.specs.Lists.{AreBytes}
 use Rattle.mt_item.proofs.ExactLemmas.{small_of}
@@ -19,7 +19,7 @@ use Rattle.mt_item.proofs.LengthLemmas.{Small}
 use Rattle.mt_codec.specs.declared.fault.CodecError.{CodecError}
 use Rattle.mt_codec.specs.declared.fault.CodecError.TheVariants.{At, NoMemory}
 use Rattle.mt_codec.specs.ColumnReading.{Read, decode_reading, front_reading}
-use Rattle.mt_codec.specs.Results.{FailsAs, Gives, GivesFront, AreValues, AreFirstValues, Returns}
+use Rattle.mt_codec.specs.Results.{FailsAs, bytes_of, Gives, GivesFront, AreValues, AreFirstValues, Returns}
 use Rattle.mt_item.specs.declared.fault.CodecWhy.TheVariants.{Over}
 use Rattle.mt_codec.proofs.NotOverLemmas.{front_not_over}
 use Rattle.mt_codec.proofs.TypeLemmas.{front_encodes, encoded_front}
@@ -116,3 +116,12 @@ never_over t profile rows bytes (Err NoMemory) gives stream item is = cc
 never_over t profile rows bytes (Err (At s i why)) gives stream item is =
     let same : why ≡ Over = cc in
     front_not_over t rows bytes s i why profile gives same
+
+-- the same of slices, whose bytes these are
+pub one_slice : (slices : List (Bor (List ℕ))) (i : ℕ) (d : Bor (List ℕ)) → i < length slices → d ≡ get_or slices i d → AreBytes d.now → ((k j : ℕ) → k < i → get_or (get_or (bytes_of slices) k []) j 0 < 256)
+    → (k j : ℕ) → k < i + 1 → get_or (get_or (bytes_of slices) k []) j 0 < 256
+one_slice slices i d inside is small are =
+    one_list (bytes_of slices) i d.now d.now (omega (arith, length-map slices (λ (s : Bor (List ℕ)). s.now))) (ap (λ (s : Bor (List ℕ)). s.now) is ∙ sym (get_or-map (λ (s : Bor (List ℕ)). s.now) slices i d d.now inside)) refl small are
+
+pub all_slices : (slices : List (Bor (List ℕ))) (i : ℕ) → length slices ≤ i → ((k j : ℕ) → k < i → get_or (get_or (bytes_of slices) k []) j 0 < 256) → All AreBytes (bytes_of slices)
+all_slices slices i done are = all_bytes (bytes_of slices) i (omega (arith, length-map slices (λ (s : Bor (List ℕ)). s.now))) are

@@ -9,7 +9,7 @@ use Rattle.mt_codec.specs.declared.fault.CodecError.TheVariants as error
 use Rattle.mt_codec.specs.declared.streams.Streams.{Streams}
 use Rattle.mt_codec.specs.declared.streams.Streams.TheVariants.{Apart, Joined}
 use Rattle.mt_codec.specs.ColumnReading.{Read}
-use Rattle.mt_codec.specs.Results.{FailsAs}
+use Rattle.mt_codec.specs.Results.{FailsAs, bytes_of}
 
 -- each substream has its own bytes
 abbrev pub is_apart : Streams → Bool
@@ -18,7 +18,7 @@ is_apart (Joined bytes) = false
 
 -- the bytes that are left, substream by substream or all in one list
 abbrev pub lists : Streams → List (List ℕ)
-lists (Apart streams) = streams.now
+lists (Apart streams) = bytes_of streams.now
 lists (Joined bytes) = bytes.now ∷ []
 
 -- those behind the first

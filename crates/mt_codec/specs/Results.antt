@@ -1,6 +1,6 @@
 -- What the readers of substreams give.
 use denote.Ref.{Bor}
-use Rattle.std.specs.Prelude.{◌≡◌, ◌≤◌, ℕ, List, ◌++◌, length, drop, Result, Ok, Err}
+use Rattle.std.specs.Prelude.{◌≡◌, ◌≤◌, ℕ, List, ◌++◌, length, map, drop, Result, Ok, Err}
 use Rattle.std.specs.List.{flat_map}
 use Rattle.mt_types.specs.declared.ty.Ty.{Ty}
 use Rattle.mt_types.specs.declared.value.Value.{Value}
@@ -8,6 +8,10 @@ use Rattle.mt_defs.specs.Encoding.{Encodes}
 use Rattle.mt_codec.specs.declared.fault.CodecError.{CodecError}
 use Rattle.mt_codec.specs.declared.fault.CodecError.TheVariants.{At, NoMemory}
 use Rattle.mt_codec.specs.ColumnReading.{Read}
+
+-- the bytes of some slices
+abbrev pub bytes_of : List (Bor (List ℕ)) → List (List ℕ)
+bytes_of slices = map (λ slice. slice.now) slices
 
 -- an error is the reading's fault, out of memory aside
 abbrev pub FailsAs : {A : Type 0} → CodecError → Read A → Type 0

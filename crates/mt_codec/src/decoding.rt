@@ -12,7 +12,7 @@ ghost use Rattle.mt_item.specs.ItemTypes.{has_items};
 ghost use Rattle.mt_codec.specs.declared.fault.CodecError.TheVariants.{At};
 ghost use Rattle.mt_codec.specs.ColumnReading.{column_from, decode_reading, front_reading, nullable_from, stream_from};
 ghost use Rattle.mt_codec.specs.Cursor.{GivesColumn, is_apart, lists};
-ghost use Rattle.mt_codec.specs.Results.{AreFirstValues, AreValues, Gives, GivesFront, Returns};
+ghost use Rattle.mt_codec.specs.Results.{AreFirstValues, AreValues, Gives, GivesFront, Returns, bytes_of};
 ghost use Rattle.mt_codec.specs.StreamOrder.{array_levels};
 ghost use Rattle.mt_codec.specs.StreamOrder as defined;
 
@@ -32,14 +32,14 @@ pub fn decode(
     alloc: Global,
     ty: &Ty,
     rows: u64,
-    streams: &[List<u8>],
+    streams: &[&[u8]],
 ) -> Result<List<Value>, CodecError>
     requires profile { IsTrue (is_profile ty.now) }
     requires few { rows ≤ MAX_ROWS }
     requires each { length streams.now ≡ length (defined.streams_of ty.now) }
-    ensures reads { Gives result (decode_reading ty.now rows streams.now) }
-    ensures found { IfOk result (λ values. AreValues ty.now rows streams.now values) }
-    ensures only { (values : Seq Entry) → AreValues ty.now rows streams.now values
+    ensures reads { Gives result (decode_reading ty.now rows (bytes_of streams.now)) }
+    ensures found { IfOk result (λ values. AreValues ty.now rows (bytes_of streams.now) values) }
+    ensures only { (values : Seq Entry) → AreValues ty.now rows (bytes_of streams.now) values
         → Returns values result }
 {
     know_lists(streams);
@@ -47,13 +47,12 @@ pub fn decode(
     Ok(values)
 }
 
-/// Does nothing: the numbers of each list are bytes, which the type of a slice says and that of a
-/// list does not.
-fn know_lists(streams: &[List<u8>])
-    ensures { All AreBytes streams.now }
+/// Does nothing: the numbers of each slice are bytes, which its type says.
+fn know_lists(streams: &[&[u8]])
+    ensures { All AreBytes (bytes_of streams.now) }
 {
     for stream in streams {
-        know_bytes(stream.as_slice());
+        know_bytes(stream);
     }
 }
 

@@ -6,13 +6,12 @@ ghost use Rattle.mt_codec.specs.Cursor.{GivesLeft, is_apart, lists, others};
 
 use crate::fault::CodecError;
 use mt_item::CodecWhy;
-use mt_types::List;
 
 /// The substreams that are still to be read.
 #[derive(Clone, Copy)]
 pub(crate) enum Streams<'a> {
     /// Each in its own bytes.
-    Apart(&'a [List<u8>]),
+    Apart(&'a [&'a [u8]]),
     /// One after another in these bytes, which others may follow.
     Joined(&'a [u8]),
 }
@@ -25,7 +24,7 @@ impl<'a> Streams<'a> {
     {
         match self {
             Streams::Apart(streams) => match streams.split_first() {
-                Some((first, _)) => Some(first.as_slice()),
+                Some((first, _)) => Some(*first),
                 None => None,
             },
             Streams::Joined(bytes) => Some(bytes),

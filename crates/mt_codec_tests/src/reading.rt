@@ -13,15 +13,6 @@ use std::test::Fail;
 /// The most rows that a test reads.
 const MOST_ROWS: u64 = 4_194_304;
 
-/// The substreams in lists of their own.
-fn lists(alloc: Global, streams: &[&[u8]]) -> Result<List<List<u8>>, NoMemory> {
-    let mut lists = List::new(alloc);
-    for stream in streams {
-        lists.push(List::of_bytes(alloc, stream)?)?;
-    }
-    Ok(lists)
-}
-
 /// The substreams one after another.
 pub fn joined(alloc: Global, streams: &[&[u8]]) -> Result<List<u8>, NoMemory> {
     let mut bytes = List::new(alloc);
@@ -32,7 +23,7 @@ pub fn joined(alloc: Global, streams: &[&[u8]]) -> Result<List<u8>, NoMemory> {
 }
 
 /// What a list of bytes for each substream of a type is read as.
-pub fn decoded(alloc: Global, ty: &Ty, rows: u64, streams: &[List<u8>]) -> Result<List<Value>, Fail>
+pub fn decoded(alloc: Global, ty: &Ty, rows: u64, streams: &[&[u8]]) -> Result<List<Value>, Fail>
     requires { IsTrue (is_profile ty.now) }
     ensures { IfOk result (λ values. IsTrue (list_all (fits_of ty.now) values)) }
 {
@@ -42,7 +33,7 @@ pub fn decoded(alloc: Global, ty: &Ty, rows: u64, streams: &[List<u8>]) -> Resul
     }
 }
 
-fn read(alloc: Global, ty: &Ty, rows: u64, streams: &[List<u8>]) -> Result<List<Value>, CodecError>
+fn read(alloc: Global, ty: &Ty, rows: u64, streams: &[&[u8]]) -> Result<List<Value>, CodecError>
     requires { IsTrue (is_profile ty.now) }
     ensures { IfOk result (λ values. IsTrue (list_all (fits_of ty.now) values)) }
 {
@@ -60,8 +51,7 @@ pub fn fault(
     streams: &[&[u8]],
 ) -> Result<Option<CodecError>, Fail> {
     let ty = Ty::read_name(alloc, name.as_bytes())?;
-    let lists = lists(alloc, streams)?;
-    Ok(read(alloc, &ty, rows, lists.as_slice()).err())
+    Ok(read(alloc, &ty, rows, streams).err())
 }
 
 /// The values of a list of bytes for each substream, written again one after another.
@@ -72,8 +62,7 @@ pub fn rewritten(
     streams: &[&[u8]],
 ) -> Result<List<u8>, Fail> {
     let ty = Ty::read_name(alloc, name.as_bytes())?;
-    let lists = lists(alloc, streams)?;
-    let values = decoded(alloc, &ty, rows, lists.as_slice())?;
+    let values = decoded(alloc, &ty, rows, streams)?;
     Ok(written(alloc, &ty, values.as_slice())?)
 }
 

@@ -1,5 +1,6 @@
+pub mod CellLemmas
+pub mod Completeness
+pub mod FolderLemmas
+pub mod PartitionLemmas
 pub mod Reported
 pub mod WriteLemmas
-pub mod FolderLemmas
-pub mod Completeness
-mod PartitionLemmas

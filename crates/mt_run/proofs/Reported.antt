@@ -8,7 +8,7 @@ use Rattle.mt_shelf.specs.Causes.{Rose}
 use Rattle.mt_run.specs.Notes.{Noted, IsReported, line_of}
 use Rattle.mt_run.specs.Plans.{Plan, World, Meets, Leaves, CausedBy, Performs, Gains, PrintsPrefix, Answers, refusal_of}
 use Rattle.mt_run.specs.declared.status.Status.{Status}
-use Rattle.mt_run.specs.declared.status.Status.TheVariants.{Done, BadWords, NoTable, BadTable, NotBuilt, Exists, NoRows, BadRows, ManyPartitions, TooMuch, SourceFault, ShelfFault, SinkFault, NoMemory}
+use Rattle.mt_run.specs.declared.status.Status.TheVariants.{Done, BadWords, NoTable, BadTable, Exists, NoRows, BadRows, ManyPartitions, TooMuch, SourceFault, ShelfFault, SinkFault, NoMemory}
 
 -- nothing is a prefix of every text
 pub grew_by_nothing : (known now : Option (List ℕ)) (text : List ℕ) → now ≡ known → GrowsByPrefix text known now
@@ -40,7 +40,6 @@ left_of_memory plan old new SourceFault refused cause left = (inr left.0, printe
 left_of_memory plan old new BadWords refused cause left = (inr left.0, printed_nothing plan old new left.1)
 left_of_memory plan old new NoTable refused cause left = (inr left.0, printed_nothing plan old new left.1)
 left_of_memory plan old new (BadTable why) refused cause left = (inr left.0, printed_nothing plan old new left.1)
-left_of_memory plan old new NotBuilt refused cause left = (inr left.0, printed_nothing plan old new left.1)
 left_of_memory plan old new Exists refused cause left = (inr left.0, printed_nothing plan old new left.1)
 left_of_memory plan old new NoRows refused cause left = (inr left.0, printed_nothing plan old new left.1)
 left_of_memory plan old new (BadRows line why) refused cause left = (inr left.0, printed_nothing plan old new left.1)
@@ -94,7 +93,6 @@ noted_whole NoMemory old new before now refused is = (NoMemory, whole_prefix _ o
 noted_whole BadWords old new before now refused is = (whole_prefix _ old new is, inr is)
 noted_whole NoTable old new before now refused is = (whole_prefix _ old new is, inr is)
 noted_whole (BadTable why) old new before now refused is = (whole_prefix _ old new is, inr is)
-noted_whole NotBuilt old new before now refused is = (whole_prefix _ old new is, inr is)
 noted_whole Exists old new before now refused is = (whole_prefix _ old new is, inr is)
 noted_whole NoRows old new before now refused is = (whole_prefix _ old new is, inr is)
 noted_whole (BadRows line why) old new before now refused is = (whole_prefix _ old new is, inr is)
@@ -111,7 +109,6 @@ noted_prefix NoMemory old new before now refused rose prefix = (NoMemory, prefix
 noted_prefix BadWords old new before now refused rose prefix = (prefix, inl rose)
 noted_prefix NoTable old new before now refused rose prefix = (prefix, inl rose)
 noted_prefix (BadTable why) old new before now refused rose prefix = (prefix, inl rose)
-noted_prefix NotBuilt old new before now refused rose prefix = (prefix, inl rose)
 noted_prefix Exists old new before now refused rose prefix = (prefix, inl rose)
 noted_prefix NoRows old new before now refused rose prefix = (prefix, inl rose)
 noted_prefix (BadRows line why) old new before now refused rose prefix = (prefix, inl rose)

@@ -13,7 +13,7 @@ use Rattle.mt_run.specs.Plans.{Meets, Leaves, Gains, Prints, PrintsPrefix, Answe
 use Rattle.mt_run.specs.Steps.{Counts, StepCausedBy, Stored}
 use Rattle.mt_run.specs.Write.{refusal, table_in, table_for, free_target, folder_for, with_folder, write_plan}
 use Rattle.mt_run.specs.declared.status.Status.{Status}
-use Rattle.mt_run.specs.declared.status.Status.TheVariants.{Done, BadWords, NoTable, BadTable, NotBuilt, Exists, NoRows, BadRows, ManyPartitions, TooMuch, SourceFault, ShelfFault, SinkFault, NoMemory}
+use Rattle.mt_run.specs.declared.status.Status.TheVariants.{Done, BadWords, NoTable, BadTable, Exists, NoRows, BadRows, ManyPartitions, TooMuch, SourceFault, ShelfFault, SinkFault, NoMemory}
 use Rattle.mt_run.proofs.Reported.{grew_by_nothing}
 
 -- ---- where the outside shows enough
@@ -110,7 +110,6 @@ folder_stored path part table folder (Err Done) left left' written files mid new
 folder_stored path part table folder (Err BadWords) left left' written files mid new a b c a' b' c' known same gives ended stored = absurd stored
 folder_stored path part table folder (Err NoTable) left left' written files mid new a b c a' b' c' known same gives ended stored = absurd stored
 folder_stored path part table folder (Err (BadTable why)) left left' written files mid new a b c a' b' c' known same gives ended stored = absurd stored
-folder_stored path part table folder (Err NotBuilt) left left' written files mid new a b c a' b' c' known same gives ended stored = absurd stored
 folder_stored path part table folder (Err Exists) left left' written files mid new a b c a' b' c' known same gives ended stored = absurd stored
 folder_stored path part table folder (Err NoRows) left left' written files mid new a b c a' b' c' known same gives ended stored = absurd stored
 folder_stored path part table folder (Err (BadRows line why)) left left' written files mid new a b c a' b' c' known same gives ended stored = absurd stored
@@ -149,7 +148,6 @@ left_before path part files mid left left' written a b c a' b' c' SinkFault befo
 left_before path part files mid left left' written a b c a' b' c' NoMemory before now same cause = ((inr same, printed_prefix path part files left written), λ e. cc)
 left_before path part files mid left left' written a b c a' b' c' NoTable before now same cause = ((same, refl), λ e. cc)
 left_before path part files mid left left' written a b c a' b' c' (BadTable why) before now same cause = ((same, refl), λ e. cc)
-left_before path part files mid left left' written a b c a' b' c' NotBuilt before now same cause = ((same, refl), λ e. cc)
 left_before path part files mid left left' written a b c a' b' c' Exists before now same cause = ((same, refl), λ e. cc)
 left_before path part files mid left left' written a b c a' b' c' NoRows before now same cause = ((same, refl), λ e. cc)
 left_before path part files mid left left' written a b c a' b' c' (BadRows line why) before now same cause = ((same, refl), λ e. cc)

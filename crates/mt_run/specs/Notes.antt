@@ -10,7 +10,7 @@ use Rattle.mt_tsv.specs.declared.fault.RowWhy.TheVariants as row
 use Rattle.mt_run.specs.declared.status.What.{What}
 use Rattle.mt_run.specs.declared.status.What.TheVariants as what
 use Rattle.mt_run.specs.declared.status.Status.{Status}
-use Rattle.mt_run.specs.declared.status.Status.TheVariants.{Done, BadWords, NoTable, BadTable, NotBuilt, Exists, NoRows, BadRows, ManyPartitions, TooMuch, SourceFault, ShelfFault, SinkFault, NoMemory}
+use Rattle.mt_run.specs.declared.status.Status.TheVariants.{Done, BadWords, NoTable, BadTable, Exists, NoRows, BadRows, ManyPartitions, TooMuch, SourceFault, ShelfFault, SinkFault, NoMemory}
 
 -- the rule of a table text, by its variant's name
 abbrev pub table_why_name : TableWhy → List ℕ
@@ -52,7 +52,6 @@ line_of Done = []
 line_of BadWords = codes "mtpart: words are no command\n"
 line_of NoTable = codes "mtpart: no table\n"
 line_of (BadTable why) = codes "mtpart: bad table: " ++ table_why_name why ++ codes "\n"
-line_of NotBuilt = codes "mtpart: not built\n"
 line_of Exists = codes "mtpart: target exists\n"
 line_of NoRows = codes "mtpart: no rows\n"
 line_of (BadRows line why) = codes "mtpart: line " ++ decimal line ++ codes ": " ++ row_why_name why ++ codes "\n"

@@ -1,14 +1,16 @@
 //! From lines to the folder of their rows.
 ghost use Rattle.std.specs.Prelude.{◌≡◌, ◌≢◌, [], ◌<◌, ◌≤◌, IfOk, All, IsTrue, nat_lt};
-ghost use Rattle.mt_table.specs.Form.{IsNumbersTable};
+ghost use Rattle.mt_table.specs.declared.limits.TheConstants.{MAX_CELLS};
 ghost use Rattle.mt_shelf.specs.Held.{HasName};
-ghost use Rattle.mt_defs.specs.Rows.{RowFits};
+ghost use Rattle.mt_defs.specs.Partition.{HaveOnePartition};
+ghost use Rattle.mt_defs.specs.Rows.{RowFits, cell_count};
 ghost use Rattle.mt_defs.specs.Sorting.{sorted_rows};
 ghost use Rattle.mt_defs.specs.Writer.{written_folder};
 ghost use Rattle.mt_run.specs.Status.{Gives};
 ghost use Rattle.mt_run.specs.Steps.{StepCausedBy, of_nothing};
 ghost use Rattle.mt_run.specs.Write.{rows_of, folder_bytes, folder_of};
 
+use crate::cells::few_cells;
 use crate::limits::MAX_FOLDER;
 use crate::partition::one_partition;
 use crate::status::{Status, What, status_of_rows};
@@ -27,6 +29,7 @@ fn rows_of(alloc: Global, table: &Table, text: &[u8]) -> Result<List<Row>, Statu
     ensures gives { Gives result (rows_of table.now text.now) }
     ensures some { IfOk result (λ rows. rows ≢ []) }
     ensures fit { IfOk result (All (RowFits table.now.columns)) }
+    ensures few { IfOk result (λ rows. cell_count table.now.columns rows ≤ MAX_CELLS) }
     ensures cause { StepCausedBy result of_nothing of_nothing }
 {
     match read_rows(alloc, table, text) {
@@ -55,9 +58,9 @@ fn written_folder<R: Threads + Sync, G: Gate + Sync>(
     workers: u64,
     gate: &G,
 ) -> Result<List<FileBytes>, NoMemory>
-    requires numbers { IsNumbersTable table.now }
     requires some { rows ≢ [] }
     requires fit { All (RowFits table.now.columns) rows }
+    requires one_partition { HaveOnePartition table.now rows }
     requires few { 0 < workers }
     requires many { workers ≤ 64 }
     ensures folder { IfOk result
@@ -78,7 +81,6 @@ pub(crate) fn folder_of<R: Threads + Sync, G: Gate + Sync>(
     workers: u64,
     gate: &G,
 ) -> Result<List<FileBytes>, Status>
-    requires numbers { IsNumbersTable table.now }
     requires text { text.now ≢ [] }
     requires few { 0 < workers }
     requires many { workers ≤ 64 }
@@ -87,6 +89,7 @@ pub(crate) fn folder_of<R: Threads + Sync, G: Gate + Sync>(
     ensures cause { StepCausedBy result of_nothing of_nothing }
 {
     let rows = rows_of(alloc, table, text)?;
+    few_cells(alloc, table, rows.as_slice())?;
     one_partition(table, rows.as_slice())?;
     let Ok(folder) = written_folder(rt, alloc, table, rows, workers, gate) else {
         return Err(Status::NoMemory);

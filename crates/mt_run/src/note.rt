@@ -114,7 +114,6 @@ pub(crate) fn line_of(alloc: Global, status: &Status) -> Result<List<u8>, NoMemo
         Status::BadWords => List::of_bytes(alloc, b"mtpart: words are no command\n"),
         Status::NoTable => List::of_bytes(alloc, b"mtpart: no table\n"),
         Status::BadTable(why) => bad_table_line(alloc, *why),
-        Status::NotBuilt => List::of_bytes(alloc, b"mtpart: not built\n"),
         Status::Exists => List::of_bytes(alloc, b"mtpart: target exists\n"),
         Status::NoRows => List::of_bytes(alloc, b"mtpart: no rows\n"),
         Status::BadRows { line, why } => bad_rows_line(alloc, *line, *why),

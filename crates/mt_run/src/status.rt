@@ -32,8 +32,6 @@ pub enum Status {
     NoTable,
     /// The text is no table's, by the first rule that it breaks.
     BadTable(TableWhy),
-    /// The table is good, but the writer of its parts isn't built yet.
-    NotBuilt,
     /// A file stands at the target or below it.
     Exists,
     /// The input is empty.

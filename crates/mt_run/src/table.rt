@@ -1,14 +1,11 @@
 //! The step that reads the table, which almost every command begins with.
-ghost use Rattle.std.specs.Prelude.{◌≡◌, IfOk, IfSome, IsTrue};
+ghost use Rattle.std.specs.Prelude.{◌≡◌, IfSome, IsTrue};
 ghost use Rattle.std.specs.FinMap.{get};
-ghost use Rattle.mt_table.specs.Form.{IsNumbersTable};
 ghost use Rattle.mt_shelf.specs.Paths.{is_path};
 ghost use Rattle.mt_shelf.specs.State.{files_of};
-ghost use Rattle.mt_table.specs.TextReading.{table_reading};
-ghost use Rattle.mt_run.specs.declared.status.Status.TheVariants.{BadTable};
-ghost use Rattle.mt_run.specs.Status.{Gives, refused_by};
+ghost use Rattle.mt_run.specs.Status.{Gives};
 ghost use Rattle.mt_run.specs.Steps.{StepCausedBy, of_nothing, of_shelf};
-ghost use Rattle.mt_run.specs.Write.{built_table, table_in, table_of, table_text};
+ghost use Rattle.mt_run.specs.Write.{table_in, table_of, table_text};
 
 use crate::limits::MAX_TABLE_TEXT;
 use crate::status::{Status, What, status_of_shelf};
@@ -42,9 +39,10 @@ fn read_text<F: Shelf>(alloc: Global, shelf: &mut F, path: &str) -> Result<List<
     }
 }
 
-/// The table of a text, whatever parts it has.
-fn any_table_of(alloc: Global, text: &[u8]) -> Result<Table, Status>
-    ensures gives { Gives result (refused_by BadTable (table_reading text.now)) }
+/// The table of a text.
+#[tactic(auto, unfolding(crate::specs::Write::table_of))]
+fn table_of(alloc: Global, text: &[u8]) -> Result<Table, Status>
+    ensures gives { Gives result (table_of text.now) }
     ensures cause { StepCausedBy result of_nothing of_nothing }
 {
     match Table::read(alloc, text) {
@@ -52,30 +50,6 @@ fn any_table_of(alloc: Global, text: &[u8]) -> Result<Table, Status>
         Err(TableError::Bad(why)) => Err(Status::BadTable(why)),
         Err(TableError::NoMemory) => Err(Status::NoMemory),
     }
-}
-
-/// The table, if its parts are written.
-fn built_table(table: Table) -> Result<Table, Status>
-    ensures gives { result ≡ built_table table }
-    ensures numbers { IfOk result IsNumbersTable }
-    ensures cause { StepCausedBy result of_nothing of_nothing }
-{
-    if table.has_two_numbers() {
-        Ok(table)
-    } else {
-        Err(Status::NotBuilt)
-    }
-}
-
-/// The table of a text.
-#[tactic(auto, unfolding(crate::specs::Write::table_of))]
-fn table_of(alloc: Global, text: &[u8]) -> Result<Table, Status>
-    ensures gives { Gives result (table_of text.now) }
-    ensures numbers { IfOk result IsNumbersTable }
-    ensures cause { StepCausedBy result of_nothing of_nothing }
-{
-    let table = any_table_of(alloc, text)?;
-    built_table(table)
 }
 
 /// Reads the table of a file.
@@ -86,7 +60,6 @@ pub(crate) fn read_table<F: Shelf>(
 ) -> Result<Table, Status>
     requires { IsTrue (is_path path.now) }
     ensures gives { IfSome (files_of (F.state shelf.old)) (λ files. Gives result (table_in path.now files)) }
-    ensures numbers { IfOk result IsNumbersTable }
     ensures files { files_of (F.state shelf.new) ≡ files_of (F.state shelf.old) }
     ensures cause { StepCausedBy result (of_shelf (F.faults shelf.old)) (of_shelf (F.faults shelf.new)) }
 {

@@ -2,7 +2,6 @@
 ghost use Rattle.std.specs.Prelude.{◌≡◌, ◌<◌, ◌≤◌, map, All, IfOk, IfSome, OnOk, IsTrue};
 ghost use Rattle.std.specs.Option.{option_map};
 ghost use Rattle.std.specs.Io.KnownBytes.{IsAtEnd};
-ghost use Rattle.mt_table.specs.Form.{IsNumbersTable};
 ghost use Rattle.mt_shelf.specs.Paths.{is_path};
 ghost use Rattle.mt_shelf.specs.Files.{gained_files};
 ghost use Rattle.mt_shelf.specs.Held.{pair_of, HasName};
@@ -47,7 +46,6 @@ fn table_for<F: Shelf>(
     requires part { IsTrue (is_path part.now) }
     ensures gives { IfSome (files_of (F.state shelf.old))
         (λ files. Gives result (table_for path.now part.now files)) }
-    ensures numbers { IfOk result IsNumbersTable }
     ensures files { files_of (F.state shelf.new) ≡ files_of (F.state shelf.old) }
     ensures cause { StepCausedBy result (of_shelf (F.faults shelf.old)) (of_shelf (F.faults shelf.new)) }
 {
@@ -67,7 +65,6 @@ fn folder_for<R: Threads + Sync, S: Source, G: Gate + Sync>(
     workers: u64,
     gate: &G,
 ) -> Result<List<FileBytes>, Status>
-    requires numbers { IsNumbersTable table.now }
     requires few { 0 < workers }
     requires many { workers ≤ 64 }
     ensures gives { IfSome (S.left input.old) (λ input. Gives result (folder_for table.now input)) }

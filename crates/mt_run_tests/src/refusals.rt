@@ -63,7 +63,6 @@ fn refuses_in_order(rt: HostRuntime) -> Result<(), Fail> {
             "bad table: Syntax",
             15,
         ),
-        (&["write", "other.sql", "old", "1"], INPUT, "not built", 15),
         (&["write", "u.sql", "old", "1"], INPUT, "target exists", 15),
         (
             &["write", "u.sql", "old/k.bin", "1"],
@@ -84,6 +83,12 @@ fn refuses_in_order(rt: HostRuntime) -> Result<(), Fail> {
             "line 2: NoLineEnd",
             0,
         ),
+        (
+            &["write", "months.sql", "p", "1"],
+            "2024-01-31\n2024-01-01\n2024-02-01\n",
+            "line 3: another partition",
+            0,
+        ),
     ];
     for (words, text, note, left) in cases {
         let words = words_of(alloc, words)?;
@@ -93,8 +98,8 @@ fn refuses_in_order(rt: HostRuntime) -> Result<(), Fail> {
                 ("u.sql", TABLE),
                 ("bad.sql", "CREATE"),
                 (
-                    "other.sql",
-                    "CREATE TABLE t (k UInt8) ENGINE = MergeTree ORDER BY k",
+                    "months.sql",
+                    "CREATE TABLE t (d Date) ENGINE = MergeTree PARTITION BY toYYYYMM(d) ORDER BY d",
                 ),
                 ("old/k.bin", ""),
             ],

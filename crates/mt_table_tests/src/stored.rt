@@ -17,9 +17,9 @@ fn shown(alloc: Global, definition: &PartDef) -> Result<List<u8>, Fail> {
         text.push(b',')?;
     }
     for place in definition.sort.as_slice() {
-        text.push(b'0' + *place as u8 % 10)?;
+        text.push(b'0' + (*place % 10) as u8)?;
     }
-    text.push(b'0' + definition.primary as u8 % 10)?;
+    text.push(b'0' + (definition.primary % 10) as u8)?;
     Ok(text)
 }
 

@@ -1,8 +1,10 @@
-use Rattle.mt_codec.proofs.DecodedLemmas.{all_bytes, one_list}
+use Rattle.std.proofs.lemmas.List.{get_or_default}
+use Rattle.mt_codec.specs.Results.{bytes_of}
+use Rattle.mt_codec.proofs.DecodedLemmas.{all_slices, one_slice}
 use Rattle.mt_codec.proofs.decoding.know_lists.Goals as goal
 
 pub loop-stream-preserved : goal.loop-stream-preserved
-loop-stream-preserved c = one_list c.args.streams.now c.loop-stream.stream-index c.stream-item.result c.as_slice.result.now c.loop-stream-test.true c.stream-item.is c.as_slice.ensures c.know_bytes.ensures c.loop-stream.invariant
+loop-stream-preserved c = one_slice c.args.streams.now c.loop-stream.stream-index _ c.loop-stream-test.true (get_or_default c.args.streams.now c.loop-stream.stream-index _ _ c.loop-stream-test.true) c.know_bytes.ensures c.loop-stream.invariant
 
 pub returns : goal.returns
-returns c = all_bytes c.args.streams.now c.loop-stream.stream-index c.loop-stream-test.false c.loop-stream.invariant
+returns c = all_slices c.args.streams.now c.loop-stream.stream-index c.loop-stream-test.false c.loop-stream.invariant

@@ -1,6 +1,0 @@
-use Rattle.std.proofs.Common.{◌≡◌, ◌++◌, take}
-use Rattle.mt_defs.specs.PrimaryIndex.{key_bytes}
-use Rattle.mt_build.proofs.index.append_key.Given as goal
-
-abbrev pub invariant-loop-key : goal.invariant-loop-key
-invariant-loop-key l = l.out.items ≡ l.initial.out.items ++ key_bytes l.columns (take l.key-index l.keys) l.row

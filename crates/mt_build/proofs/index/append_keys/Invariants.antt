@@ -1,7 +1,0 @@
-use Rattle.std.proofs.Common.{◌≡◌, ◌++◌, take}
-use Rattle.std.specs.List.{flat_map}
-use Rattle.mt_defs.specs.PrimaryIndex.{key_bytes}
-use Rattle.mt_build.proofs.index.append_keys.Given as goal
-
-abbrev pub invariant-loop-row : goal.invariant-loop-row
-invariant-loop-row l = l.out.items ≡ l.initial.out.items ++ flat_map (key_bytes l.columns l.keys) (take l.row-index l.rows)

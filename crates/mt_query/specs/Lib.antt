@@ -1,0 +1,6 @@
+pub mod Columns
+pub mod Lists
+pub mod Literals
+pub mod Conditions
+pub mod Rules
+pub mod Queries

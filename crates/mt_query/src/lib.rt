@@ -1,0 +1,23 @@
+//! Queries: their conditions, items, grouping and limit.
+//!
+//! `Query::read` gives the query that a text is over a table, or the first rule that the text breaks.
+#![tactic(auto)]
+
+mod columns;
+mod cond;
+mod condition;
+mod date;
+mod group;
+mod item;
+mod judge;
+mod limits;
+mod literal;
+mod query;
+mod reading;
+mod why;
+
+pub use cond::Cond;
+pub use limits::MAX_QUERY_TEXT;
+pub use mt_query_syntax::{MAX_COND_DEPTH, Op};
+pub use query::{Item, Query};
+pub use why::{QueryError, QueryWhy};

@@ -1,0 +1,13 @@
+use Rattle.std.proofs.Common.{sym, ◌∙◌}
+use Rattle.mt_query_syntax.proofs.NumberLemmas.{no_positive_of_others, no_positive_of_large, positive_is}
+use Rattle.mt_query_syntax.proofs.number.positive_of.Goals as goal
+
+pub returns-then-not-all_digits : goal.returns-then-not-all_digits
+returns-then-not-all_digits c = no_positive_of_others c.args.digits.now (sym c.all_digits.ensures ∙ c.if-not-all_digits.true)
+
+pub returns-in_err-magnitude : goal.returns-in_err-magnitude
+returns-in_err-magnitude c =
+    rw c.from_residual.ensures (no_positive_of_large c.args.digits.now (sym c.all_digits.ensures ∙ c.if-not-all_digits.false) c.in_err-magnitude.ensures)
+
+pub returns : goal.returns
+returns c = c.positive.ensures ∙ positive_is c.args.digits.now (sym c.all_digits.ensures ∙ c.if-not-all_digits.false) c.in_ok-magnitude.magnitude c.in_ok-magnitude.ensures.1

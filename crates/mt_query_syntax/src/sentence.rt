@@ -1,0 +1,101 @@
+//! The whole sentence.
+
+ghost use Rattle.std.specs.Prelude.{[], ◌∷◌, ◌≡◌};
+ghost use Rattle.mt_tokens.specs.declared.sign.Sign.TheVariants.{Dot, Semicolon};
+ghost use Rattle.mt_tokens.specs.Tokens.{plains};
+ghost use Rattle.mt_tokens.specs.Words.{is_sign};
+ghost use Rattle.mt_syntax.specs.Answers.{Gives};
+ghost use Rattle.mt_syntax.specs.Phrases.{second_is};
+ghost use Rattle.mt_syntax.specs.Readers.{skip, skip_if};
+ghost use Rattle.mt_query_syntax.specs.Reading.{from_at, query_at, sentence_at};
+ghost use Rattle.mt_query_syntax.specs.Terminals.{is_name};
+ghost use Rattle.mt_query_syntax.specs.Trees.{query_of};
+
+use crate::clause::{Clauses, read_clauses};
+use crate::item::selected;
+use crate::lookahead::second_is_sign;
+use crate::name::any_name;
+use crate::token::{keyword, sign};
+use crate::tree::QueryText;
+use mt_syntax::{Selected, SyntaxError};
+use mt_tokens::{Sign, Token, after_sign, split_first};
+use mt_types::List;
+use std::alloc::Global;
+
+/// What follows the name of a database and its point, where they are given.
+fn skip_database<'a, 't>(tokens: &'t [Token<'a>]) -> Result<&'t [Token<'a>], SyntaxError>
+    ensures { Gives (λ x. plains x.now) result
+        (skip_if (second_is (is_sign Dot)) (is_name ∷ is_sign Dot ∷ []) (plains tokens.now)) }
+{
+    if !second_is_sign(tokens, Sign::Dot) {
+        return Ok(tokens);
+    }
+    let rest = any_name(tokens)?;
+    sign(rest, Sign::Dot)
+}
+
+/// FROM, a table's name, which is passed over, and the clauses.
+fn from<'a, 't>(
+    alloc: Global,
+    tokens: &'t [Token<'a>],
+) -> Result<(Clauses, &'t [Token<'a>]), SyntaxError>
+    ensures { Gives (λ x. ((x.0.cond, (x.0.group, x.0.limit)), plains x.1.now)) result (from_at (plains tokens.now)) }
+{
+    let rest = keyword(tokens, b"FROM")?;
+    let rest = skip_database(rest)?;
+    let rest = any_name(rest)?;
+    read_clauses(alloc, rest)
+}
+
+/// What items and clauses say.
+fn query_text(alloc: Global, items: Selected, clauses: Clauses) -> QueryText
+    ensures { result ≡ query_of (items, (clauses.cond, (clauses.group, clauses.limit))) }
+{
+    let Clauses { cond, group, limit } = clauses;
+    let group = match group {
+        Some(names) => names,
+        None => List::new(alloc),
+    };
+    QueryText {
+        items,
+        cond,
+        group,
+        limit,
+    }
+}
+
+/// SELECT, what it selects, and what follows.
+fn query<'a, 't>(
+    alloc: Global,
+    tokens: &'t [Token<'a>],
+) -> Result<(QueryText, &'t [Token<'a>]), SyntaxError>
+    ensures { Gives (λ x. (x.0, plains x.1.now)) result (query_at (plains tokens.now)) }
+{
+    let rest = keyword(tokens, b"SELECT")?;
+    let (items, rest) = selected(alloc, rest)?;
+    let (clauses, rest) = from(alloc, rest)?;
+    Ok((query_text(alloc, items, clauses), rest))
+}
+
+/// What follows `;`, where it is given.
+fn skip_semicolon<'a, 't>(tokens: &'t [Token<'a>]) -> Result<&'t [Token<'a>], SyntaxError>
+    ensures { Gives (λ x. plains x.now) result (skip (is_sign Semicolon) [] (plains tokens.now)) }
+{
+    match after_sign(tokens, Sign::Semicolon) {
+        Some(after) => Ok(after),
+        None => Ok(tokens),
+    }
+}
+
+/// The sentence that the tokens are.
+#[tactic(auto, unfolding(crate::specs::Reading::sentence_at))]
+pub(crate) fn sentence(alloc: Global, tokens: &[Token<'_>]) -> Result<QueryText, SyntaxError>
+    ensures { Gives (λ x. x) result (sentence_at (plains tokens.now)) }
+{
+    let (query, rest) = query(alloc, tokens)?;
+    let rest = skip_semicolon(rest)?;
+    match split_first(rest) {
+        None => Ok(query),
+        Some(_) => Err(SyntaxError::Bad),
+    }
+}

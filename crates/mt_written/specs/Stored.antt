@@ -1,0 +1,9 @@
+-- What a stored definition keeps, whether it is a table's own or a projection's.
+use Rattle.std.specs.Prelude.{◌≢◌, All, AllPairs, IsTrue}
+use Rattle.mt_types.specs.Profile.{is_profile}
+use Rattle.mt_table.specs.declared.definition.PartDef.{PartDef}
+
+-- the columns have different names, and types of the profile
+pub record IsStored (definition : PartDef) : Type 0 where
+  pub names : AllPairs (λ a b. a.name ≢ b.name) definition.columns
+  pub types : All (λ column. IsTrue (is_profile column.ty)) definition.columns

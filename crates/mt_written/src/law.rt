@@ -1,0 +1,53 @@
+//! Laws of the writer's folder, each the contract of a function that does nothing.
+
+ghost use Rattle.std.specs.Prelude.{◌≡◌, ◌≢◌, List, Some, All, AllPairs};
+ghost use Rattle.mt_shelf.specs.Held.{HasName};
+ghost use Rattle.mt_table.specs.declared.definition.PartDef.{PartDef};
+ghost use Rattle.mt_table.specs.declared.definition.Table.{Table};
+ghost use Rattle.mt_table.specs.declared.settings.Settings.{Settings};
+ghost use Rattle.mt_defs.specs.Folder.{folder_of};
+ghost use Rattle.mt_defs.specs.Part.{HoldsRows, StandsFor};
+ghost use Rattle.mt_defs.specs.Projections.{base_of, inner_of};
+ghost use Rattle.mt_defs.specs.Rows.{Row, ArePartRows};
+ghost use Rattle.mt_defs.specs.Writer.{IsWritable, definition_files, written_folder};
+ghost use Rattle.mt_defs.specs.WrittenGranules.{written_granules};
+ghost use Rattle.mt_written.specs.Stored.{IsStored};
+ghost use Rattle.mt_written.specs.Texts.{HoldBytes};
+
+/// What each folder of a table stores has columns of different names and of types of the profile.
+pub fn definitions_are_stored()
+    ensures base { (table : Table) → IsStored (base_of table) }
+    ensures projections { (table : Table)
+        → All (λ projection. IsStored (inner_of table projection)) table.projections }
+{}
+
+/// The writer's files of a definition's rows hold these rows, in the writer's granules.
+pub fn written_definition_holds_rows()
+    ensures { (settings : Settings) (definition : PartDef) (rows : List Row) → IsStored definition
+        → ArePartRows definition rows → HoldBytes rows
+        → HoldsRows definition (folder_of (definition_files settings definition rows)) rows
+        (written_granules settings definition.columns rows) }
+{}
+
+/// The writer's folder of writable rows, whose texts are bytes, stands for these rows: for every table.
+pub fn written_folder_stands()
+    ensures { (table : Table) (rows : List Row) → IsWritable table rows → HoldBytes rows
+        → StandsFor table (folder_of (written_folder table rows)) rows }
+{}
+
+/// No two files of the writer's folder have one name.
+pub fn written_names_differ()
+    ensures { (table : Table) (rows : List Row)
+        → AllPairs (λ f g. f.name ≢ g.name) (written_folder table rows) }
+{}
+
+/// Each file of the writer's folder is found by its name.
+pub fn written_files_are_found()
+    ensures { (table : Table) (rows : List Row) → All (λ file.
+        folder_of (written_folder table rows) file.name ≡ Some file.bytes) (written_folder table rows) }
+{}
+
+/// Each file of the writer's folder has a relative path as its name, in UTF-8.
+pub fn written_names_are_paths()
+    ensures { (table : Table) (rows : List Row) → All HasName (written_folder table rows) }
+{}
