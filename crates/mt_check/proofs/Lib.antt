@@ -1,4 +1,5 @@
 pub mod CheckLemmas
+pub mod DataLemmas
 pub mod FaultLemmas
 pub mod LoopLemmas
 pub mod RowLemmas

@@ -20,7 +20,6 @@ mod skip_entries;
 mod skip_index;
 mod skip_marks;
 mod sort_order;
-mod stubs;
 mod texts;
 
 pub use accepted::Accepted;
