@@ -1,12 +1,10 @@
 -- The rows of a folder's data: as many as its count, and each in a granule.
-use Rattle.std.proofs.Common.{◌≡◌, ℕ, ◌+◌, ◌≤◌, Bool, true, false, List, [], ◌∷◌, length, map, refl, ap, sym, ◌∙◌, subst}
+use Rattle.std.proofs.Common.{◌≡◌, ℕ, ◌≤◌, Bool, List, length, map, ap, sym, ◌∙◌, subst}
 use Rattle.std.specs.Prelude.{All, IfOk, Result, Ok, Err, sum, ◌==◌, if◌then◌else◌}
 use Rattle.std.specs.List.{enumerate_from}
 use Rattle.std.proofs.lemmas.Bool.{eqb-true}
-use Rattle.mt_types.specs.Steps.{◌>>=◌, require}
 use Rattle.mt_types.specs.declared.value.Value.{Value}
 use Rattle.mt_types.proofs.StepLemmas.{ok_then, ok_one, ok_pair, required}
-use Rattle.mt_shelf.specs.declared.fault.Fault.{Fault}
 use Rattle.mt_shelf.specs.declared.fault.Why.TheVariants as why
 use Rattle.mt_shelf.specs.declared.fault.ReadError.{ReadError}
 use Rattle.mt_shelf.specs.declared.fault.ReadError.TheVariants as read

@@ -1,6 +1,6 @@
 -- What holds where the checks of rows hold.
-use Rattle.std.proofs.Common.{◌≡◌, ◌≢◌, ℕ, suc, ◌+◌, ◌<◌, ◌≤◌, Bool, true, false, List, [], ◌∷◌, length, refl, ap, sym, subst, ◌∙◌, get_or, arith}
-use Rattle.std.specs.Prelude.{All, IsSorted, Result, Ok, Err, Option, Some, None, nat_le}
+use Rattle.std.proofs.Common.{◌≡◌, ◌≢◌, ℕ, suc, ◌+◌, ◌≤◌, Bool, true, false, List, [], length, refl, ap, ◌∙◌, get_or, arith}
+use Rattle.std.specs.Prelude.{All, IsSorted, Ok, Option, Some, None, nat_le}
 use Rattle.std.specs.Ordering.{is_lt}
 use Rattle.std.proofs.lemmas.Bool.{leb-true}
 use Rattle.mt_shelf.specs.declared.fault.Fault.{Fault}

@@ -1,6 +1,6 @@
 -- The files of a skip index, step by step.
-use Rattle.std.proofs.Common.{◌≡◌, ℕ, List, [], ◌∷◌, length, refl, ap, sym, subst, ◌∙◌}
-use Rattle.std.specs.Prelude.{Option, Some, None, Result, Ok, Err}
+use Rattle.std.proofs.Common.{◌≡◌, ℕ, List, length, refl, ap, sym, subst, ◌∙◌}
+use Rattle.std.specs.Prelude.{None, Result, Ok}
 use Rattle.mt_shelf.specs.declared.fault.Fault.{Fault}
 use Rattle.mt_shelf.specs.declared.fault.ReadError.{ReadError}
 use Rattle.mt_types.specs.Steps.{◌>>=◌}

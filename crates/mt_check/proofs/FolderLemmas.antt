@@ -1,5 +1,5 @@
 -- A part's files, step by step.
-use Rattle.std.proofs.Common.{◌≡◌, ℕ, suc, ◌+◌, ◌<◌, ◌≤◌, List, [], ◌∷◌, ◌++◌, length, map, drop, refl, ap, sym, subst, ◌∙◌, get_or, arith}
+use Rattle.std.proofs.Common.{◌≡◌, ℕ, ◌+◌, ◌<◌, ◌≤◌, List, [], ◌∷◌, ◌++◌, length, map, drop, refl, ap, sym, subst, ◌∙◌, get_or, arith}
 use Rattle.std.specs.Prelude.{Result, Ok, Err}
 use Rattle.mt_shelf.specs.declared.file.FileBytes.{FileBytes}
 use Rattle.mt_shelf.specs.declared.fault.Fault.{Fault}
@@ -12,14 +12,13 @@ use Rattle.mt_table.specs.declared.projection.Projection.{Projection}
 use Rattle.mt_table.specs.Stored.{no_projection, projection_at}
 use Rattle.mt_defs.specs.Folder.{Folder, folder_of}
 use Rattle.mt_defs.specs.Projections.{base_of, inner_of, projection_prefix, IsProjectionOf}
-use Rattle.mt_defs.specs.Rows.{Row}
 use Rattle.mt_check.specs.declared.accepted.Accepted.{Accepted}
 use Rattle.mt_check.specs.Checks.{Checks, ◌>>=◌, gives, holds, each}
 use Rattle.mt_check.specs.DefinitionReading.{definition_reading}
 use Rattle.mt_check.specs.Faults.{fault_of, named_below}
 use Rattle.mt_check.specs.FolderChecks.{files_checks, projection_checks, projection_folder, projections_checks, skip_checks}
 use Rattle.mt_check.specs.PartitionReading.{partition_reading}
-use Rattle.mt_check.specs.Results.{Answers, FailsAs, Gives, IsBelow, IsFault}
+use Rattle.mt_check.specs.Results.{Answers, FailsAs, IsBelow, IsFault}
 use Rattle.mt_check.proofs.CheckLemmas.{first_error, next_answer, gives_error, holds_not}
 use Rattle.mt_check.proofs.FaultLemmas.{fault_gives}
 use Rattle.mt_check.proofs.LoopLemmas.{at_index, at_end, same_default}

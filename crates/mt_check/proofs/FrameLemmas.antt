@@ -1,7 +1,6 @@
 -- The payload of a file, frame by frame.
 use Rattle.std.proofs.Common.{◌≡◌, ℕ, zero, suc, ◌+◌, ◌<◌, ◌≤◌, List, [], ◌∷◌, ◌++◌, length, take, drop, refl, ap, sym, subst, ◌∙◌, get_or, arith}
-use Rattle.std.specs.Prelude.{All, Ok}
-use Rattle.std.specs.List.{flat_map}
+use Rattle.std.specs.Prelude.{Ok}
 use Rattle.std.proofs.lemmas.List.{append-nil, take_more, take_all, length-take-le, length-drop}
 use Rattle.std.proofs.lemmas.List.Concat.{flat_map-append, flat_map-cons}
 use Rattle.std.proofs.lemmas.List.Elements.{All-get_or}
@@ -9,7 +8,7 @@ use Rattle.mt_defs.specs.declared.frame.Frame.{Frame}
 use Rattle.mt_defs.specs.Frames.{Block, IsBlock, IsFileOf, block_bytes, file_of, payload_of}
 use Rattle.mt_frame.specs.FrameReading.{frames_reading, layout, layout_from, u32_at}
 use Rattle.mt_frame.proofs.BlockLemmas.{frame_complete, frames_complete, header_facts}
-use Rattle.mt_check.proofs.LoopLemmas.{at_index, at_end, drop_drop, same_default}
+use Rattle.mt_check.proofs.LoopLemmas.{at_index, drop_drop, same_default}
 
 -- a frame at the front is cut off by its payload's length
 pub record IsCut (bytes : List ℕ) (block : Block) (rest : List ℕ) : Type 0 where

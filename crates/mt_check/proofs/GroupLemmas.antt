@@ -1,30 +1,29 @@
 -- Groups of granules, and the entries over them.
-use Rattle.std.proofs.Common.{◌≡◌, ℕ, zero, suc, ◌+◌, ◌*◌, ◌<◌, ◌≤◌, ◌^◌, Bool, true, false, List, [], ◌∷◌, ◌++◌, length, map, take, drop, refl, ap, sym, subst, ◌∙◌, arith, min, get_or, inl, inr}
-use Rattle.std.specs.Prelude.{sum, All, Result, Ok, Err, Option, Some, None, IsTrue, ◌↔◌, ◌==◌}
+use Rattle.std.proofs.Common.{◌≡◌, ℕ, zero, suc, ◌+◌, ◌*◌, ◌<◌, ◌≤◌, ◌^◌, Bool, true, false, List, [], ◌∷◌, ◌++◌, length, take, drop, refl, ap, sym, subst, ◌∙◌, arith, min, get_or, inl, inr}
+use Rattle.std.specs.Prelude.{sum, All, Result, Ok, Err, ◌==◌}
 use Rattle.std.specs.List.{flat_map}
 use Rattle.std.proofs.Math.Nat.{mul-le-mul}
 use Rattle.std.proofs.Math.Seq.{drop-nil, take-add}
 use Rattle.std.proofs.lemmas.Bool.Decides.{leb_tells}
-use Rattle.std.proofs.lemmas.List.{append_assoc, length-drop, length-take-le, take_all, drop_all, take-map, drop-map}
+use Rattle.std.proofs.lemmas.List.{append_assoc, length-drop, take_all, drop_all, take-map, drop-map}
 use Rattle.std.proofs.lemmas.List.Concat.{flat_map-cons}
-use Rattle.std.proofs.lemmas.List.Elements.{All-nil, All-cons, All-head, All-tail, All-take, All-drop, All-map, All-weaker}
+use Rattle.std.proofs.lemmas.List.Elements.{All-head, All-tail, All-take, All-drop, All-map, All-weaker}
 use Rattle.std.proofs.lemmas.List.Sums.{sum_by-cons, sum_by-take-drop}
 use Rattle.mt_types.specs.declared.ty.Ty.{Ty}
-use Rattle.mt_types.specs.declared.value.Value.{Value}
 use Rattle.mt_types.specs.Fits.{fits_of}
 use Rattle.mt_shelf.specs.declared.fault.ReadError.{ReadError}
 use Rattle.mt_shelf.specs.declared.fault.Why.TheVariants as why
 use Rattle.mt_table.specs.declared.column.Column.{Column}
 use Rattle.mt_table.specs.declared.skip.Skip.{Skip}
-use Rattle.mt_defs.specs.Granules.{AreGranules, granule_rows}
+use Rattle.mt_defs.specs.Granules.{granule_rows}
 use Rattle.mt_defs.specs.Rows.{Row, RowFits, cell, column_values}
-use Rattle.mt_defs.specs.SkipIndexes.{Summarizes, entry_groups, entry_rows, skip_data_name}
-use Rattle.mt_check.specs.Checks.{Checks, ◌>>=◌, gives, holds, each}
+use Rattle.mt_defs.specs.SkipIndexes.{Summarizes, entry_groups, skip_data_name}
+use Rattle.mt_check.specs.Checks.{Checks, ◌>>=◌, holds, each}
 use Rattle.mt_check.specs.Faults.{fault_in}
 use Rattle.mt_check.specs.FolderChecks.{entries_checks}
 use Rattle.mt_check.specs.Results.{Answers, IsFault}
 use Rattle.mt_check.specs.RowGroups.{group_sizes}
-use Rattle.mt_check.specs.SkipMarks.{pieces_at, IsFirstEntry}
+use Rattle.mt_check.specs.SkipMarks.{pieces_at}
 use Rattle.mt_check.proofs.CheckLemmas.{first_error, next_answer, holds_not}
 use Rattle.mt_check.proofs.KeyLemmas.{cell_fits}
 use Rattle.mt_check.proofs.LoopLemmas.{at_index, at_end}

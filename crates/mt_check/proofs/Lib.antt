@@ -2,6 +2,7 @@ pub mod CheckLemmas
 pub mod DataLemmas
 pub mod FaultLemmas
 pub mod LoopLemmas
+pub mod OneLemmas
 pub mod RowLemmas
 pub mod FileLemmas
 pub mod OrderLemmas

@@ -1,5 +1,5 @@
 -- Orders of columns.
-use Rattle.std.proofs.Common.{◌≡◌, ℕ, zero, suc, ◌+◌, ◌<◌, ◌≤◌, List, [], ◌∷◌, ◌++◌, length, map, take, drop, refl, ap, sym, ◌∙◌, get_or, arith}
+use Rattle.std.proofs.Common.{◌≡◌, ℕ, zero, suc, ◌+◌, ◌<◌, List, [], ◌∷◌, ◌++◌, length, map, take, drop, refl, ap, sym, ◌∙◌, get_or, arith}
 use Rattle.std.specs.Prelude.{slice_set}
 use Rattle.mt_defs.specs.Rows.{Row}
 use Rattle.std.specs.List.{range_with_len}

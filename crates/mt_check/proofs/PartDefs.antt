@@ -1,5 +1,5 @@
 -- What the rules of a table say of what is stored.
-use Rattle.std.specs.Prelude.{◌≡◌, ℕ, ◌≤◌, List, length, All, IsTrue}
+use Rattle.std.specs.Prelude.{◌≤◌, List, length, All, IsTrue}
 use Rattle.mt_types.specs.Profile.{is_profile}
 use Rattle.mt_table.specs.declared.column.Column.{Column}
 use Rattle.mt_table.specs.declared.definition.PartDef.{PartDef}

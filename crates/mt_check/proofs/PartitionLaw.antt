@@ -1,6 +1,6 @@
 -- The partition's checks hold exactly where the rows are of one partition and the folder has its files.
-use Rattle.std.proofs.Common.{◌≡◌, ℕ, Bool, true, false, not, List, [], ◌∷◌, ◌++◌, length, take, map, refl, sym, ap, ◌∙◌, subst, arith, get_or, inl, inr}
-use Rattle.std.specs.Prelude.{All, Contains, Some, None, Option, Result, Ok, Err, ◌==◌, ◌↔◌, if◌then◌else◌}
+use Rattle.std.proofs.Common.{◌≡◌, ℕ, Bool, true, false, not, List, [], ◌∷◌, length, take, map, refl, sym, ap, ◌∙◌, subst, arith, get_or, inl, inr}
+use Rattle.std.specs.Prelude.{All, Some, None, Option, Result, Ok, ◌==◌, if◌then◌else◌}
 use Rattle.std.specs.List.{flat_map}
 use Rattle.std.specs.Str.{bytes_eq}
 use Rattle.std.proofs.lemmas.Bool.{cases_Bool}
@@ -9,7 +9,6 @@ use Rattle.std.proofs.lemmas.List.Elements.{All-nil, All-cons, All-head, All-tai
 use Rattle.std.proofs.lemmas.Slice.Eq.{bytes_eq-Decides}
 use Rattle.mt_shelf.specs.declared.file.FileBytes.{FileBytes}
 use Rattle.mt_shelf.specs.declared.fault.Fault.{Fault}
-use Rattle.mt_shelf.specs.declared.fault.Why.{Why}
 use Rattle.mt_shelf.specs.declared.fault.Why.TheVariants.{Partition, Value, Missing}
 use Rattle.mt_types.specs.Steps.{◌>>=◌, require, ok_or}
 use Rattle.mt_types.proofs.StepLemmas.{ok_then, required, then_of, passed}
@@ -24,7 +23,7 @@ use Rattle.mt_defs.specs.WrittenPartition.{minmax_file, partition_files}
 use Rattle.mt_check.specs.declared.accepted.Accepted.{Accepted}
 use Rattle.mt_check.specs.Faults.{fault_of, fault_in, file_reading, none_found}
 use Rattle.mt_check.specs.PartitionReading.{files_reading, first_value, is_other, other_partition, partition_reading}
-use Rattle.mt_check.specs.RowsReading.{first_index, granule_of}
+use Rattle.mt_check.specs.RowsReading.{granule_of}
 use Rattle.mt_check.proofs.LoopLemmas.{is_none, same_default}
 use Rattle.mt_check.proofs.RowLemmas.{none_passes, none_found_of}
 

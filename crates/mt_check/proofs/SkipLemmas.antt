@@ -1,5 +1,5 @@
 -- A skip index: its groups, and then its entries.
-use Rattle.std.proofs.Common.{◌≡◌, ℕ, ◌*◌, ◌<◌, ◌≤◌, ◌^◌, Bool, List, length, refl, ap, sym, subst, ◌∙◌, arith, get_or}
+use Rattle.std.proofs.Common.{◌≡◌, ℕ, ◌*◌, ◌<◌, ◌≤◌, ◌^◌, Bool, List, length, ap, sym, subst, ◌∙◌, arith, get_or}
 use Rattle.std.specs.Prelude.{sum, Result, Ok, Err}
 use Rattle.mt_types.specs.declared.ty.Ty.{Ty}
 use Rattle.mt_shelf.specs.declared.fault.ReadError.{ReadError}
@@ -13,7 +13,7 @@ use Rattle.mt_defs.specs.Part.{is_compact, marks_ending}
 use Rattle.mt_defs.specs.Rows.{Row}
 use Rattle.mt_defs.specs.SkipIndexes.{entry_rows}
 use Rattle.mt_check.specs.declared.accepted.Accepted.{Accepted}
-use Rattle.mt_check.specs.Checks.{Checks, ◌>>=◌, gives}
+use Rattle.mt_check.specs.Checks.{Checks, gives}
 use Rattle.mt_check.specs.FolderChecks.{entries_checks, skip_checks}
 use Rattle.mt_check.specs.Results.{Answers, FailsAs}
 use Rattle.mt_check.specs.RowGroups.{group_sizes}

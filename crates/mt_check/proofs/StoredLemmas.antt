@@ -1,8 +1,8 @@
 -- A definition's folder, step by step.
-use Rattle.std.proofs.Common.{◌≡◌, ◌≢◌, ℕ, zero, suc, ◌+◌, ◌*◌, ◌<◌, ◌≤◌, Bool, true, false, List, [], ◌∷◌, length, map, refl, ap, sym, subst, ◌∙◌, get_or, arith, inl, inr, eqb}
-use Rattle.std.specs.Prelude.{All, Contains, IsPermutation, IsSorted, IsTrue, Result, Ok, Err, Option, Some, None, nat_le, sum, ◌==◌, if◌then◌else◌}
+use Rattle.std.proofs.Common.{◌≡◌, ℕ, zero, suc, ◌+◌, ◌<◌, Bool, true, false, List, [], ◌∷◌, length, map, refl, ap, sym, subst, ◌∙◌, get_or, arith, inl, inr, eqb}
+use Rattle.std.specs.Prelude.{All, Contains, IsPermutation, IsTrue, Result, Ok, ◌==◌, if◌then◌else◌}
 use Rattle.std.specs.List.{range_with_len, IsDistinct, AllByRecursion}
-use Rattle.std.proofs.lemmas.Bool.{cases_Bool, eqb-true, eq-eqb, leb-true}
+use Rattle.std.proofs.lemmas.Bool.{cases_Bool, eqb-true, eq-eqb}
 use Rattle.std.proofs.lemmas.List.{length-map, get_or-map}
 use Rattle.std.proofs.lemmas.List.FromFn.{length-range_with_len, get_or-range_with_len}
 use Rattle.std.proofs.lemmas.List.Elements.{All-head, All-tail, All-map, All-weaker, All-get_or}
@@ -12,14 +12,13 @@ use Rattle.mt_types.specs.declared.value.Value.{Value}
 use Rattle.mt_types.specs.declared.value.Value.TheVariants.{Null}
 use Rattle.mt_types.specs.Fits.{fits_of}
 use Rattle.mt_types.specs.Profile.{is_profile}
-use Rattle.mt_types.specs.Steps.{◌>>=◌, require}
+use Rattle.mt_types.specs.Steps.{◌>>=◌}
 use Rattle.mt_types.proofs.StepLemmas.{then_of}
 use Rattle.mt_shelf.specs.declared.fault.Fault.{Fault}
 use Rattle.mt_shelf.specs.declared.fault.ReadError.{ReadError}
 use Rattle.mt_table.specs.declared.column.Column.{Column}
 use Rattle.mt_table.specs.declared.definition.PartDef.{PartDef}
 use Rattle.mt_defs.specs.Folder.{Folder}
-use Rattle.mt_defs.specs.Granules.{AreGranules}
 use Rattle.mt_defs.specs.Lists.{Pointwise}
 use Rattle.mt_defs.specs.Metadata.{column_at, no_column}
 use Rattle.mt_defs.specs.Projections.{index_in}
@@ -28,10 +27,9 @@ use Rattle.mt_check.specs.declared.accepted.Accepted.{Accepted}
 use Rattle.mt_check.specs.DataReading.{data_reading}
 use Rattle.mt_check.specs.DefinitionReading.{cells_reading, definition_reading, in_definition_order, index_reading, order_reading, rows_reading, sorted_reading, stored_reading}
 use Rattle.mt_check.specs.Orders.{IsOrder}
-use Rattle.mt_check.specs.Results.{Gives, FailsAs}
+use Rattle.mt_check.specs.Results.{FailsAs}
 use Rattle.mt_check.specs.RowsReading.{places_in}
 use Rattle.mt_check.proofs.FaultLemmas.{fails_then}
-use Rattle.mt_check.proofs.LoopLemmas.{same_default}
 
 -- ---- orders
 

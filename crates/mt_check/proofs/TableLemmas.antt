@@ -1,7 +1,7 @@
 -- What the rules of a table give its checks.
-use Rattle.std.proofs.Common.{◌≡◌, ℕ, ◌<◌, ◌≤◌, Bool, true, false, List, length, map, get_or, refl, ap, sym, ◌∙◌, subst, arith}
-use Rattle.std.specs.Prelude.{All, IsTrue, nat_le, ◌&&◌}
-use Rattle.std.specs.List.{list_all, filter_map, range_with_len}
+use Rattle.std.proofs.Common.{◌≡◌, ◌≤◌, true, List, length, refl, sym, ◌∙◌, arith}
+use Rattle.std.specs.Prelude.{nat_le, ◌&&◌}
+use Rattle.std.specs.List.{list_all, filter_map}
 use Rattle.std.proofs.lemmas.Bool.{leb-true}
 use Rattle.std.proofs.lemmas.List.{length-map}
 use Rattle.std.proofs.lemmas.List.FromFn.{length-range_with_len}
@@ -22,7 +22,7 @@ use Rattle.mt_table.specs.declared.projection.Projection.{Projection}
 use Rattle.mt_table.specs.declared.projection.Projection.TheVariants.{Normal, Grouped}
 use Rattle.mt_table.specs.declared.skip.Skip.{Skip}
 use Rattle.mt_table.specs.ColumnTypes.{is_date_at, is_date_type, is_key_type, place_has}
-use Rattle.mt_table.specs.Kept.{is_one_of, keeps_expression, keeps_grouped, keeps_key, keeps_kind, keeps_normal, keeps_partition, keeps_projection, keeps_skip, keeps_skips, month_place, plain_place}
+use Rattle.mt_table.specs.Kept.{is_one_of, keeps_expression, keeps_grouped, keeps_key, keeps_kind, keeps_normal, keeps_projection, keeps_skip, month_place, plain_place}
 use Rattle.mt_table.specs.Names.{places_differ}
 use Rattle.mt_table.specs.Tables.{fields_of_table}
 use Rattle.mt_table.proofs.KeptLemmas.{each_of, key_length}

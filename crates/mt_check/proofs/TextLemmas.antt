@@ -1,7 +1,6 @@
 -- What columns.txt and count.txt say, once they are read.
-use Rattle.std.proofs.Common.{◌≡◌, ℕ, List, length, refl, ap, sym, subst, ◌∙◌}
+use Rattle.std.proofs.Common.{◌≡◌, ℕ, List, length, ap, sym, ◌∙◌}
 use Rattle.std.specs.Prelude.{IfOk, Result, Ok, Err}
-use Rattle.mt_shelf.specs.declared.fault.Fault.{Fault}
 use Rattle.mt_shelf.specs.declared.fault.ReadError.{ReadError}
 use Rattle.mt_shelf.specs.declared.fault.Why.{Why}
 use Rattle.mt_table.specs.declared.column.Column.{Column}

@@ -11,6 +11,7 @@ mod definition;
 mod fault;
 mod files;
 mod folder;
+mod law;
 mod names;
 mod own_names;
 mod partition;
@@ -24,3 +25,4 @@ mod texts;
 
 pub use accepted::Accepted;
 pub use folder::{PartFiles, check_files};
+pub use law::folders_have_one_answer;

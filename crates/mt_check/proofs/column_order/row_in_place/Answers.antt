@@ -1,4 +1,4 @@
-use Rattle.std.proofs.Common.{◌≡◌, ◌∙◌, arith, length, sym, ap}
+use Rattle.std.proofs.Common.{◌∙◌, arith}
 use Rattle.mt_check.proofs.StoredLemmas.{placed_row}
 use Rattle.mt_check.proofs.column_order.row_in_place.Goals as goal
 

@@ -1,4 +1,4 @@
-use Rattle.std.proofs.Common.{◌≡◌, ◌∙◌, arith, length, ap, get_or}
+use Rattle.std.proofs.Common.{◌∙◌, arith, length, ap}
 use Rattle.mt_defs.specs.Rows.{key_of}
 use Rattle.mt_check.specs.RowsReading.{places_in}
 use Rattle.mt_check.proofs.OrderLemmas.{moves_on, still_there}

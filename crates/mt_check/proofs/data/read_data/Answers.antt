@@ -1,4 +1,4 @@
-use Rattle.std.proofs.Common.{◌≡◌, ◌∙◌, sym, true, false}
+use Rattle.std.proofs.Common.{◌∙◌, sym, true, false}
 use Rattle.mt_defs.specs.Folder.{folder_of}
 use Rattle.mt_compact.specs.CompactReading.{compact_reading}
 use Rattle.mt_wide.specs.WideReading.{wide_reading}

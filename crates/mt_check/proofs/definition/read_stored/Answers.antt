@@ -5,7 +5,7 @@ use Rattle.mt_types.specs.Profile.{is_profile}
 use Rattle.mt_table.specs.declared.column.Column.{Column}
 use Rattle.mt_defs.specs.Folder.{folder_of}
 use Rattle.mt_defs.specs.Metadata.{column_at}
-use Rattle.mt_defs.specs.Rows.{Row, RowFits, key_of}
+use Rattle.mt_defs.specs.Rows.{RowFits, key_of}
 use Rattle.mt_check.specs.RowsReading.{places_in}
 use Rattle.mt_check.proofs.StoredLemmas.{order_fails, count_fails, data_fails, ordered_profile, rows_fit, rows_long, stored_read}
 use Rattle.mt_check.proofs.definition.read_stored.Goals as goal

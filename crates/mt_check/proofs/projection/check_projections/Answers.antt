@@ -1,6 +1,5 @@
-use Rattle.std.proofs.Common.{◌≡◌}
 use Rattle.std.proofs.lemmas.Result.{err_from_is_err_and}
-use Rattle.mt_check.proofs.FolderLemmas.{projection_fails, projection_holds, projections_done}
+use Rattle.mt_check.proofs.FolderLemmas.{projection_fails, projection_holds}
 use Rattle.mt_check.proofs.projection.check_projections.Goals as goal
 
 pub returns-in_err-check_projection : goal.returns-in_err-check_projection

@@ -1,4 +1,4 @@
-use Rattle.std.proofs.Common.{◌≡◌, sym, ap, ◌∙◌, arith, take, drop, length, get_or, List, ℕ}
+use Rattle.std.proofs.Common.{ap, ◌∙◌, arith, take, drop, length, get_or, List, ℕ}
 use Rattle.mt_check.proofs.FrameLemmas.{next_frame, payload_more, payload_whole}
 use Rattle.mt_check.proofs.skip_entries.payload_of.Goals as goal
 

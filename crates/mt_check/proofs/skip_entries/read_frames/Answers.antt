@@ -1,4 +1,4 @@
-use Rattle.std.proofs.Common.{◌≡◌, ap}
+use Rattle.std.proofs.Common.{ap}
 use Rattle.mt_check.specs.SkipMarks.{in_frames}
 use Rattle.mt_check.proofs.FrameLemmas.{read_of_file}
 use Rattle.mt_check.proofs.skip_entries.read_frames.Goals as goal

@@ -1,4 +1,4 @@
-use Rattle.std.proofs.Common.{◌≡◌, List, ◌∷◌, sym, ap, ◌∙◌, subst, get_or, ℕ}
+use Rattle.std.proofs.Common.{◌≡◌, List, ◌∷◌, sym, ◌∙◌, subst, get_or, ℕ}
 use Rattle.mt_check.specs.SkipMarks.{pieces_at}
 use Rattle.mt_check.proofs.GroupLemmas.{no_entry, no_group, entry_differs, entry_agrees, cut_next, values_taken, values_left}
 use Rattle.mt_check.proofs.LoopLemmas.{same_default}

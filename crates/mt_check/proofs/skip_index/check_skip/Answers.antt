@@ -1,9 +1,7 @@
-use Rattle.std.proofs.Common.{◌≡◌, ◌*◌, ◌<◌, ◌^◌, ℕ, List, length, sym, ap, ◌∙◌, subst, arith}
+use Rattle.std.proofs.Common.{length, sym, ap, ◌∙◌}
 use Rattle.std.proofs.lemmas.Result.{err_from_is_err_and}
 use Rattle.std.specs.Prelude.{sum}
-use Rattle.mt_table.specs.declared.column.Column.{Column}
 use Rattle.mt_defs.specs.Folder.{folder_of}
-use Rattle.mt_defs.specs.Rows.{Row, column_values}
 use Rattle.mt_check.proofs.GroupLemmas.{values_fit}
 use Rattle.mt_check.proofs.SkipLemmas.{few_entries, entries_fail, entries_left, sum_of, type_at}
 use Rattle.mt_check.proofs.skip_index.check_skip.Goals as goal

@@ -1,4 +1,3 @@
-use Rattle.std.proofs.Common.{◌≡◌}
 use Rattle.std.proofs.lemmas.Result.{err_from_is_err_and}
 use Rattle.mt_defs.specs.Folder.{folder_of}
 use Rattle.mt_check.specs.FolderChecks.{skip_checks}

@@ -1,4 +1,4 @@
-use Rattle.std.proofs.Common.{◌≡◌, sym, ap, ◌∙◌, get_or}
+use Rattle.std.proofs.Common.{sym, ◌∙◌, get_or}
 use Rattle.mt_defs.specs.declared.mark.Mark.{Mark}
 use Rattle.mt_check.proofs.LoopLemmas.{same_default}
 use Rattle.mt_check.proofs.PositionLemmas.{mark_fails, mark_holds, marks_done}

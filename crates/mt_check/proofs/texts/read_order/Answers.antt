@@ -1,4 +1,3 @@
-use Rattle.std.proofs.Common.{◌≡◌, ◌∙◌, length}
 use Rattle.mt_check.proofs.TextLemmas.{order_read, order_long}
 use Rattle.mt_check.proofs.texts.read_order.Goals as goal
 

@@ -1,4 +1,4 @@
-use Rattle.std.proofs.Common.{◌≡◌, ◌∙◌, sym}
+use Rattle.std.proofs.Common.{◌∙◌, sym}
 use Rattle.mt_check.proofs.texts.read_row_count.Goals as goal
 
 pub returns-in-Ok-clause-some : goal.returns-in-Ok-clause-some
