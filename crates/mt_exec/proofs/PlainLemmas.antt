@@ -31,6 +31,7 @@ seen_lines columns items (row ∷ rows) = ap (λ text. row_text columns (values_
 pub plain_answers : (t : Table) (q : Query) (R : List Row) (columns : List Column) (items : List Item) (kept sorted first : List (Bor Row)) → is_grouped q ≡ false → items ≡ q.items → columns ≡ item_columns t items
     → rows_in kept ≡ kept_rows q R → rows_in sorted ≡ sorted_by (items_cmp items) (rows_in kept) → rows_in first ≡ limited q.limit (rows_in sorted)
     → flat_map (λ (row : Bor Row). row_text columns (values_of items row.now)) first ≡ answer_text t q R
+unfolding answer_text
 plain_answers t q R columns items kept sorted first plain items-is columns-is kept-is sorted-is first-is =
     let rows = kept_rows q R in
     let f : Row → Row = values_of items in

@@ -12,6 +12,7 @@ use Rattle.std.proofs.lemmas.Map.Views.{any-filter_same}
 use Rattle.mt_types.specs.declared.value.AggState.{AggState}
 use Rattle.mt_types.specs.declared.value.Value.{Value}
 use Rattle.mt_types.specs.Order.{values_cmp}
+use Rattle.mt_table.specs.declared.column.Column.{Column}
 use Rattle.mt_table.specs.declared.definition.Table.{Table}
 use Rattle.mt_defs.specs.Lists.{distinct_by}
 use Rattle.mt_defs.specs.Rows.{Row, key_of}
@@ -19,8 +20,9 @@ use Rattle.mt_defs.specs.Projections.{is_same_key, with_key}
 use Rattle.mt_proj.proofs.OrderLemmas.{one_key, sorted_same, IsPermutation-sorted_by}
 use Rattle.mt_proj.proofs.RunLemmas.{same_keys}
 use Rattle.mt_proj.proofs.GroupLemmas.{any_map}
+use Rattle.mt_tsv.specs.Printing.{rows_text}
 use Rattle.mt_query.specs.declared.query.Query.{Query}
-use Rattle.mt_fold.specs.Answer.{aggregates, is_empty, is_grouped, kept_rows, group_keys, group_row, plain_row, ordered, limited, answer_rows}
+use Rattle.mt_fold.specs.Answer.{aggregates, is_empty, is_grouped, kept_rows, group_keys, group_row, plain_row, ordered, limited, item_columns, answer_rows, answer_text}
 use Rattle.mt_fold.specs.Gathered.{Group, folds_of, has_group, AreGroups, GathersBy}
 use Rattle.mt_fold.specs.Steps.{row_of_states}
 use Rattle.mt_fold.proofs.StateLemmas.{folds_row, length-row_of_states}
@@ -220,3 +222,10 @@ All-first P (Some n) rows all = All-take P n (ordered rows) (All-permutation P r
 pub all_whole : (t : Table) (q : Query) (groups : List Group) → All (λ (row : Row). length row ≡ length q.items) (map (states_row t q) groups)
 all_whole t q [] = All-nil (λ (row : Row). length row ≡ length q.items)
 all_whole t q (g ∷ gs) = All-cons (λ (row : Row). length row ≡ length q.items) (states_row t q g) (map (states_row t q) gs) (length-row_of_states t q.keys g.0 q.items g.1) (all_whole t q gs)
+
+-- ---- the text
+
+-- the lines of the answer's rows are its text
+pub lines_are_text : (t : Table) (q : Query) (R : List Row) (text : List ℕ) (columns : List Column) (rows : List Row) → text ≡ rows_text columns rows → columns ≡ item_columns t q.items → rows ≡ answer_rows t q R → text ≡ answer_text t q R
+unfolding answer_text
+lines_are_text t q R text columns rows is columns-is rows-is = is ∙ ap (λ cs. rows_text cs rows) columns-is ∙ ap (rows_text (item_columns t q.items)) rows-is

@@ -143,5 +143,5 @@ abbrev pub item_columns : Table → List Item → List Column
 item_columns table items = map (λ item. record { name = codes ""; ty = item_type table item }) items
 
 -- the text of a query's answer over rows
-abbrev pub answer_text : Table → Query → List Row → List ℕ
+unfoldable pub answer_text : Table → Query → List Row → List ℕ
 answer_text table query rows = rows_text (item_columns table query.items) (answer_rows table query rows)

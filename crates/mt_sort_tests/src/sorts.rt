@@ -68,7 +68,17 @@ const IN_ORDER: Case = Case {
     order: &[0, 1, 2],
 };
 
-const CASES: [Case; 9] = [UNSIGNED, SIGNED, DATES, TEXTS, FIXED, TWO_COLUMNS, IN_ORDER];
+const CASES: [Case; 9] = [
+    UNSIGNED,
+    SIGNED,
+    DATES,
+    TEXTS,
+    FIXED,
+    TWO_COLUMNS,
+    TWO_NUMBERS,
+    THREE_COLUMNS,
+    IN_ORDER,
+];
 
 #[test]
 fn every_key_type_has_its_order(rt: HostRuntime) -> Result<(), Fail> {
