@@ -213,7 +213,7 @@ next_by : (skip : Skip) (ty : Ty) (sizes payload : List ℕ) (i size : ℕ) (res
     → Answers r (entries_checks skip ty (i * skip.granularity) (granule_rows (drop i sizes) rest) (pieces_at payload ahead))
 next_by skip ty sizes payload i size rest group after ahead later entry r inside at front back first answers =
     let groups : granule_rows (drop i sizes) rest ≡ group ∷ granule_rows (drop (i + 1) sizes) after =
-        ap (λ (some : List ℕ). granule_rows some rest) (at_index sizes i size inside at) ∙ ap (λ (g : List Row). g ∷ granule_rows (drop (i + 1) sizes) (drop size rest)) (sym front) ∙ ap (λ (a : List Row). group ∷ granule_rows (drop (i + 1) sizes) a) (sym back) in
+    ap (λ (some : List ℕ). granule_rows some rest) (at_index sizes i size inside at) ∙ ap (λ (g : List Row). g ∷ granule_rows (drop (i + 1) sizes) (drop size rest)) (sym front) ∙ ap (λ (a : List Row). group ∷ granule_rows (drop (i + 1) sizes) a) (sym back) in
     subst (λ (some : List (List Row)). Answers r (entries_checks skip ty (i * skip.granularity) some (pieces_at payload ahead))) (sym groups)
     (subst (λ (some : List (List ℕ)). Answers r (entries_checks skip ty (i * skip.granularity) (group ∷ granule_rows (drop (i + 1) sizes) after) some)) (sym first)
     (entries_next skip ty (i * skip.granularity) group (granule_rows (drop (i + 1) sizes) after) entry (pieces_at payload later) r answers))

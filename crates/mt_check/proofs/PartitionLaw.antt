@@ -83,7 +83,7 @@ no_other table row rows one =
     none_found_of (is_other table (row ∷ rows)) (row ∷ rows)
     (λ i d inside.
     let same : partition_bytes table (get_or (row ∷ rows) i d) ≡ first_value table (row ∷ rows) =
-        one (get_or (row ∷ rows) i d) row (i, inside, same_default (row ∷ rows) i (get_or (row ∷ rows) i d) d inside) (0, omega arith, refl) ∙ sym (append-nil (partition_bytes table row)) in
+    one (get_or (row ∷ rows) i d) row (i, inside, same_default (row ∷ rows) i (get_or (row ∷ rows) i d) d inside) (0, omega arith, refl) ∙ sym (append-nil (partition_bytes table row)) in
     ap not ((bytes_eq-Decides (partition_bytes table (get_or (row ∷ rows) i d)) (first_value table (row ∷ rows))).1 same))
 
 -- ---- the checks

@@ -126,9 +126,9 @@ pub partition_rest : (table : Table) (folder : Folder) (accepted : Accepted) (by
     → None ≡ other_partition table accepted.rows → written ≡ partition_files table accepted.rows → Gives r (files_reading folder written) → Gives r (partition_reading table folder accepted)
 partition_rest table folder accepted bytes written r some is none are gives =
     let whole : files_reading folder written ≡ partition_reading table folder accepted =
-        sym (partition_is table folder accepted some ∙ then_of (file_reading folder partition_name) bytes (λ _. rest table folder accepted) is
-        ∙ ap (λ (o : Option ℕ). none_found o (λ row. fault_in partition_name (granule_of accepted.granules row) Partition) >>= λ _. files_reading folder (partition_files table accepted.rows)) (sym none)
-        ∙ ap (files_reading folder) (sym are)) in
+    sym (partition_is table folder accepted some ∙ then_of (file_reading folder partition_name) bytes (λ _. rest table folder accepted) is
+    ∙ ap (λ (o : Option ℕ). none_found o (λ row. fault_in partition_name (granule_of accepted.granules row) Partition) >>= λ _. files_reading folder (partition_files table accepted.rows)) (sym none)
+    ∙ ap (files_reading folder) (sym are)) in
     subst (Gives r) whole gives
 
 -- ---- the names

@@ -128,7 +128,7 @@ rises_on sort rows (suc n) row before some ahead inside at at_before o order bel
     let less : suc n - 1 ≡ n = omega arith in
     let former : before ≡ get_or rows n before = at_before ∙ ap (λ k. get_or rows k before) less in
     let rises : is_lt (key_cmp sort (get_or rows (suc n) row) (get_or rows n before)) ≡ false =
-        ap (λ (r : Row). is_lt (key_cmp sort r (get_or rows n before))) (sym at) ∙ ap (λ (b : Row). is_lt (key_cmp sort row b)) (sym former) ∙ ap is_lt (sym order) ∙ sym tested ∙ fails in
+    ap (λ (r : Row). is_lt (key_cmp sort r (get_or rows n before))) (sym at) ∙ ap (λ (b : Row). is_lt (key_cmp sort row b)) (sym former) ∙ ap is_lt (sym order) ∙ sym tested ∙ fails in
     ahead ∙ ap (λ k. later_by k (first_fall sort (drop k rows))) less ∙ fall_step sort rows n row before inside rises ∙ ap (λ k. later_by k (first_fall sort (drop k rows))) (let e : suc n ≡ suc n + 1 - 1 = omega arith in e)
 
 pub falls_nowhere : (sort : List ℕ) (rows : List Row) (i : ℕ) → 1 ≤ i → first_fall sort rows ≡ later_by (i - 1) (first_fall sort (drop (i - 1) rows)) → length rows ≤ i → None ≡ first_fall sort rows

@@ -104,8 +104,8 @@ pub order_is : (n : ℕ) (order : List ℕ) → IsPermutation (range_with_len 0 
 order_is n order permuted =
     let long : length order ≡ n = length_permutation (range_with_len 0 n) order permuted ∙ length-range_with_len 0 n in
     let stands : (place : ℕ) → place < length order → StandsAt order place (index_in order place) = λ place inside.
-        let listed = Contains-permutation (range_with_len 0 n) order place permuted (place_listed n place (omega (arith, inside, long))) in
-        found_in order place listed.0 place listed.1 listed.2 in (
+    let listed = Contains-permutation (range_with_len 0 n) order place permuted (place_listed n place (omega (arith, inside, long))) in
+    found_in order place listed.0 place listed.1 listed.2 in (
       record {
         known = subst (λ m. All (λ place. place < m) order) (sym long) (All-permutation (λ place. place < n) (range_with_len 0 n) order permuted (range_below n));
         once = λ i inside. index_once order i (IsDistinct-IsPermutation eqb eqb_flips (range_with_len 0 n) order permuted (range_distinct n)) inside;
@@ -164,7 +164,7 @@ row_fits columns order row is long fits =
     let there : i < length order = omega (arith, inside, long) in
     let within : k < length order = is.within i there in
     let here : Fits (get_or (map (column_at columns) order) k no_column) (get_or row k Null) =
-        Pointwise-at Fits (map (column_at columns) order) row k no_column Null fits (let size = length-map order (column_at columns) in omega (arith, within, size)) in
+    Pointwise-at Fits (map (column_at columns) order) row k no_column Null fits (let size = length-map order (column_at columns) in omega (arith, within, size)) in
     let column : get_or (map (column_at columns) order) k no_column ≡ get_or columns i no_column = get_or-map (column_at columns) order k 0 no_column within ∙ ap (column_at columns) (is.each i there) in
     subst (λ (v : Value). Fits (get_or columns i no_column) v) (sym (placed_at order row i there)) (subst (λ (c : Column). Fits c (cell row k)) column here))
 
@@ -202,8 +202,8 @@ in_place_rows order [] is in_place long = refl
 in_place_rows order (row ∷ rows) is in_place long =
     let first : length row ≡ length order = All-head (λ row. length row ≡ length order) row rows long in
     let same : row ≡ key_of (places_in order) row = placed_row order row row is first first (λ k inside.
-        let at : get_or order k 0 ≡ k = ap (λ (o : List ℕ). get_or o k 0) in_place ∙ (let e = get_or-range_with_len 0 (length order) k 0 inside in let e : get_or (range_with_len 0 (length order)) k 0 ≡ k = omega (arith, e) in e) in
-        ap (λ i. get_or row i Null) at) in
+    let at : get_or order k 0 ≡ k = ap (λ (o : List ℕ). get_or o k 0) in_place ∙ (let e = get_or-range_with_len 0 (length order) k 0 inside in let e : get_or (range_with_len 0 (length order)) k 0 ≡ k = omega (arith, e) in e) in
+    ap (λ i. get_or row i Null) at) in
     ap (λ (r : Row). r ∷ rows) same ∙ ap (λ (rs : List Row). key_of (places_in order) row ∷ rs) (in_place_rows order rows is in_place (All-tail (λ row. length row ≡ length order) row rows long))
 
 -- ---- columns.txt, count.txt and the data

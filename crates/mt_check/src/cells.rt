@@ -27,7 +27,11 @@ pub(crate) fn check_cells(
     ensures { Gives result (cells_reading definition.now accepted.now) }
 {
     let rows = accepted.rows.as_slice();
-    match room_after_rows(rows, MAX_CELLS as usize, rows.len() * definition.columns.len()) {
+    match room_after_rows(
+        rows,
+        MAX_CELLS as usize,
+        rows.len() * definition.columns.len(),
+    ) {
         Some(_) => Ok(()),
         None => Err(fault_of(alloc, COUNT_FILE, Why::TooLong)),
     }

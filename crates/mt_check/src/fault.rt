@@ -29,13 +29,7 @@ pub(crate) fn fault_at(alloc: Global, file: &[u8], offset: u64, why: Why) -> Rea
     fault(alloc, file, None, Some(offset), why)
 }
 
-fn fault(
-    alloc: Global,
-    file: &[u8],
-    granule: Option<u64>,
-    at: Option<u64>,
-    why: Why,
-) -> ReadError
+fn fault(alloc: Global, file: &[u8], granule: Option<u64>, at: Option<u64>, why: Why) -> ReadError
     ensures { IsFault (record { file = file.now; granule = granule; at = at; why = why }) result }
 {
     match List::of_bytes(alloc, file) {

@@ -62,11 +62,7 @@ fn other_partition(table: &Table, rows: &[Row]) -> Option<usize>
 }
 
 /// That the folder has these files, byte by byte.
-fn check_files(
-    alloc: Global,
-    files: &[FileBytes],
-    written: &[FileBytes],
-) -> Result<(), ReadError>
+fn check_files(alloc: Global, files: &[FileBytes], written: &[FileBytes]) -> Result<(), ReadError>
     ensures { Gives result (files_reading (folder_of files.now) written.now) }
 {
     for file in written {

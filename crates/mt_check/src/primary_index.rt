@@ -38,11 +38,24 @@ pub(crate) fn check_index(
     ensures { Gives result (index_reading definition.now (folder_of files.now) accepted.now) }
 {
     let bytes = bytes_of(alloc, files, INDEX_FILE)?;
-    let (key, _) = definition.sort.as_slice().split_at(definition.primary as usize);
-    let Ok(rows) = index_rows(alloc, accepted.rows.as_slice(), accepted.granules.as_slice()) else {
+    let (key, _) = definition
+        .sort
+        .as_slice()
+        .split_at(definition.primary as usize);
+    let Ok(rows) = index_rows(
+        alloc,
+        accepted.rows.as_slice(),
+        accepted.granules.as_slice(),
+    ) else {
         return Err(ReadError::NoMemory);
     };
-    check_keys(alloc, definition.columns.as_slice(), key, rows.as_slice(), bytes)
+    check_keys(
+        alloc,
+        definition.columns.as_slice(),
+        key,
+        rows.as_slice(),
+        bytes,
+    )
 }
 
 /// The first row of each granule, and the last row.
@@ -97,12 +110,7 @@ fn check_keys(
 }
 
 /// A row's values of the key's columns, one item after another.
-fn key_of(
-    alloc: Global,
-    columns: &[Column],
-    key: &[u32],
-    row: &Row,
-) -> Result<List<u8>, NoMemory>
+fn key_of(alloc: Global, columns: &[Column], key: &[u32], row: &Row) -> Result<List<u8>, NoMemory>
     requires keys { AreKeys columns.now key.now }
     requires fits { RowFits columns.now row.now }
     ensures { IfOk result (λ bytes. bytes ≡ key_bytes columns.now key.now row.now) }

@@ -69,7 +69,14 @@ fn check_skip(
     };
     let entries = read_entries(alloc, files, compact, skip, sizes.len())?;
     let ty = &table.columns.as_slice()[skip.column as usize].ty;
-    check_entries(alloc, skip, ty, sizes.as_slice(), accepted.rows.as_slice(), &entries)
+    check_entries(
+        alloc,
+        skip,
+        ty,
+        sizes.as_slice(),
+        accepted.rows.as_slice(),
+        &entries,
+    )
 }
 
 /// How many rows each entry is over.

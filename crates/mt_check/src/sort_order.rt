@@ -46,11 +46,7 @@ pub(crate) fn check_order(
 }
 
 /// The file that is named where rows aren't in order.
-fn sort_file(
-    alloc: Global,
-    definition: &PartDef,
-    files: &[FileBytes],
-) -> Result<List<u8>, NoMemory>
+fn sort_file(alloc: Global, definition: &PartDef, files: &[FileBytes]) -> Result<List<u8>, NoMemory>
     requires { IsDefinition definition.now }
     ensures { IfOk result (λ file. file ≡ sort_file definition.now (folder_of files.now)) }
 {

@@ -31,7 +31,11 @@ pub fn text_of(
         return Err(Fail::new("a table of several projections"));
     }
     let files = PartFiles { base, projections };
-    written(alloc, table.columns.as_slice(), check_files(alloc, &table, &files))
+    written(
+        alloc,
+        table.columns.as_slice(),
+        check_files(alloc, &table, &files),
+    )
 }
 
 fn projections_of(

@@ -23,5 +23,5 @@ loop-index-preserved c =
     let ends = c.len-count.ensures in
     let size = c.loop-index.invariant.long in
     let moves = moves_on (key_of (places_in c.args.order.now)) c.args.rows c.loop-index.placed.items c.loop-index.index c.replace-row.result c.in_ok-placed.field-0 c.replace-row.new.dest c.index_mut.result.now c.loop-index.invariant.done
-        c.loop-index.invariant.left c.loop-index.invariant.long (omega (arith, inside, ends, size)) at c.in_ok-placed.ensures in
+    c.loop-index.invariant.left c.loop-index.invariant.long (omega (arith, inside, ends, size)) at c.in_ok-placed.ensures in
     record { done = moves.done; left = moves.left; long = moves.long }

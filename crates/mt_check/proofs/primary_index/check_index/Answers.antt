@@ -31,7 +31,7 @@ returns c =
     let rows = ap rows_in c.as_slice-5.ensures.value ∙ c.in-Ok.ensures ∙ ap (λ (rs : List Row). index_rows rs c.as_slice-3.result.now) c.as_slice-2.ensures ∙ ap (index_rows c.args.accepted.now.rows) c.as_slice-3.ensures in
     let key = c.split_at.ensures.front ∙ ap (take def.primary) c.as_slice.ensures in
     let keys : map (key_bytes c.as_slice-4.result.now c.split_at.result.0.now) (rows_in c.as_slice-5.result.now) ≡ index_keys def c.args.accepted.now =
-        ap (λ (columns : List Column). map (key_bytes columns c.split_at.result.0.now) (rows_in c.as_slice-5.result.now)) c.as_slice-4.ensures
-        ∙ ap (λ some. map (key_bytes def.columns some) (rows_in c.as_slice-5.result.now)) key ∙ ap (map (key_bytes def.columns (take def.primary def.sort))) rows in
+    ap (λ (columns : List Column). map (key_bytes columns c.split_at.result.0.now) (rows_in c.as_slice-5.result.now)) c.as_slice-4.ensures
+    ∙ ap (λ some. map (key_bytes def.columns some) (rows_in c.as_slice-5.result.now)) key ∙ ap (map (key_bytes def.columns (take def.primary def.sort))) rows in
     gives_then c.in_ok-bytes.bytes.now c.check_keys.result (file_reading (folder_of c.args.files.now) index_name) (keys_reading 0 (index_keys def c.args.accepted.now)) c.in_ok-bytes.ensures
     (subst (λ some. Gives c.check_keys.result (keys_reading 0 some c.in_ok-bytes.bytes.now)) keys c.check_keys.ensures)

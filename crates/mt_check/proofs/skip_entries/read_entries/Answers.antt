@@ -30,7 +30,7 @@ returns-in_err-marks c =
     let p = err_from_is_err_and c.from_residual-in_err-marks.result c.from_residual-in_err-marks.ensures.1 in
     let (blocks, reads, is, laid, ends) = c.in_ok-frames.ensures in
     let ahead = behind_bytes (folder_of c.args.files.now) (marks_ending c.args.compact) c.args.skip.now c.args.count c.as_slice.result.now c.as_slice-2.result.now c.in_ok-data.data.now c.as_slice-3.result.now c.in_ok-bytes.bytes.now blocks
-        (c.as_slice.ensures ∙ c.in-Ok-Ok.ensures) c.in_ok-data.ensures (c.as_slice-2.ensures ∙ c.in-Ok-Ok.ensures) reads (c.as_slice-3.ensures ∙ c.in-Ok-Ok.ensures') c.in_ok-bytes.ensures in
+    (c.as_slice.ensures ∙ c.in-Ok-Ok.ensures) c.in_ok-data.ensures (c.as_slice-2.ensures ∙ c.in-Ok-Ok.ensures) reads (c.as_slice-3.ensures ∙ c.in-Ok-Ok.ensures') c.in_ok-bytes.ensures in
     rw (p.1, p.2)
     (marks_fail (folder_of c.args.files.now) (marks_ending c.args.compact) c.args.skip.now c.args.count c.in_ok-bytes.bytes.now c.as_slice-4.result.now blocks c.in_err-marks.field-0.0 ahead (c.as_slice-4.ensures ∙ c.in-Ok-Ok.ensures')
     c.in_err-marks.ensures)
@@ -40,9 +40,9 @@ returns-in_err-positions c =
     let p = err_from_is_err_and c.from_residual-in_err-positions.result c.from_residual-in_err-positions.ensures.1 in
     let (blocks, reads, is, laid, ends) = c.in_ok-frames.ensures in
     let ahead = behind_bytes (folder_of c.args.files.now) (marks_ending c.args.compact) c.args.skip.now c.args.count c.as_slice.result.now c.as_slice-2.result.now c.in_ok-data.data.now c.as_slice-3.result.now c.in_ok-bytes.bytes.now blocks
-        (c.as_slice.ensures ∙ c.in-Ok-Ok.ensures) c.in_ok-data.ensures (c.as_slice-2.ensures ∙ c.in-Ok-Ok.ensures) reads (c.as_slice-3.ensures ∙ c.in-Ok-Ok.ensures') c.in_ok-bytes.ensures in
+    (c.as_slice.ensures ∙ c.in-Ok-Ok.ensures) c.in_ok-data.ensures (c.as_slice-2.ensures ∙ c.in-Ok-Ok.ensures) reads (c.as_slice-3.ensures ∙ c.in-Ok-Ok.ensures') c.in_ok-bytes.ensures in
     let later = behind_marks (folder_of c.args.files.now) (marks_ending c.args.compact) c.args.skip.now c.args.count c.in_ok-bytes.bytes.now c.as_slice-4.result.now blocks c.in_ok-marks.marks ahead (c.as_slice-4.ensures ∙ c.in-Ok-Ok.ensures')
-        c.in_ok-marks.ensures in
+    c.in_ok-marks.ensures in
     rw (p.1, p.2)
     (positions_fail (folder_of c.args.files.now) (marks_ending c.args.compact) c.args.skip.now c.args.count c.as_slice-5.result.now c.in_ok-data.data.now c.in_ok-frames.frames.end c.in_ok-frames.frames.list blocks c.in_ok-marks.marks
     c.as_slice-6.result.now c.in_err-positions.field-0.0 later (c.as_slice-5.ensures ∙ c.in-Ok-Ok.ensures') is laid ends c.as_slice-6.ensures c.in_err-positions.ensures)
@@ -51,8 +51,8 @@ pub returns-in-Ok : goal.returns-in-Ok
 returns-in-Ok c =
     let (blocks, reads, is, laid, ends) = c.in_ok-frames.ensures in
     let ahead = behind_bytes (folder_of c.args.files.now) (marks_ending c.args.compact) c.args.skip.now c.args.count c.as_slice.result.now c.as_slice-2.result.now c.in_ok-data.data.now c.as_slice-3.result.now c.in_ok-bytes.bytes.now blocks
-        (c.as_slice.ensures ∙ c.in-Ok-Ok.ensures) c.in_ok-data.ensures (c.as_slice-2.ensures ∙ c.in-Ok-Ok.ensures) reads (c.as_slice-3.ensures ∙ c.in-Ok-Ok.ensures') c.in_ok-bytes.ensures in
+    (c.as_slice.ensures ∙ c.in-Ok-Ok.ensures) c.in_ok-data.ensures (c.as_slice-2.ensures ∙ c.in-Ok-Ok.ensures) reads (c.as_slice-3.ensures ∙ c.in-Ok-Ok.ensures') c.in_ok-bytes.ensures in
     let later = behind_marks (folder_of c.args.files.now) (marks_ending c.args.compact) c.args.skip.now c.args.count c.in_ok-bytes.bytes.now c.as_slice-4.result.now blocks c.in_ok-marks.marks ahead (c.as_slice-4.ensures ∙ c.in-Ok-Ok.ensures')
-        c.in_ok-marks.ensures in
+    c.in_ok-marks.ensures in
     entries_read (folder_of c.args.files.now) (marks_ending c.args.compact) c.args.skip.now c.args.count c.as_slice-5.result.now c.in_ok-data.data.now c.in-Ok.payload c.in_ok-frames.frames.end c.in_ok-frames.frames.list blocks c.in_ok-marks.marks
     c.as_slice-6.result.now c.in_ok-positions.positions later (c.as_slice-5.ensures ∙ c.in-Ok-Ok.ensures') is laid ends c.as_slice-6.ensures c.in_ok-positions.ensures (c.in-Ok.ensures blocks is laid)
