@@ -1,6 +1,6 @@
 -- The partition's checks hold exactly where the rows are of one partition and the folder has its files.
-use Rattle.std.proofs.Common.{◌≡◌, ℕ, Bool, true, false, not, List, [], ◌∷◌, length, take, map, refl, sym, ap, ◌∙◌, subst, arith, get_or, inl, inr}
-use Rattle.std.specs.Prelude.{All, Some, None, Option, Result, Ok, ◌==◌, if◌then◌else◌}
+use Rattle.std.proofs.Common.{◌≡◌, ◌≢◌, ℕ, Bool, true, false, not, List, [], ◌∷◌, length, take, map, refl, sym, ap, ◌∙◌, subst, arith, get_or, inl, inr}
+use Rattle.std.specs.Prelude.{All, ◌↔◌, Some, None, Option, Result, Ok, ◌==◌, if◌then◌else◌}
 use Rattle.std.specs.List.{flat_map}
 use Rattle.std.specs.Str.{bytes_eq}
 use Rattle.std.proofs.lemmas.Bool.{cases_Bool}
@@ -17,7 +17,8 @@ use Rattle.mt_table.specs.declared.partition.PartExpr.{PartExpr}
 use Rattle.mt_defs.specs.Folder.{Folder}
 use Rattle.mt_defs.specs.Rows.{Row}
 use Rattle.mt_defs.specs.Lists.{distinct_by}
-use Rattle.mt_defs.specs.Partition.{HaveOnePartition, partition_bytes, partition_name, expression_bytes, expression_column}
+use Rattle.mt_meta.specs.PartitionReading.{HasPartitionFiles}
+use Rattle.mt_defs.specs.Partition.{HasPartition, HaveOnePartition, partition_bytes, partition_name, expression_bytes, expression_column}
 use Rattle.mt_defs.specs.WrittenColumns.{file}
 use Rattle.mt_defs.specs.WrittenPartition.{minmax_file, partition_files}
 use Rattle.mt_check.specs.declared.accepted.Accepted.{Accepted}
@@ -125,3 +126,35 @@ partition_holds table folder accepted e =
       | inl empty ↦ no_key table folder accepted.rows (is_none table.partition empty)
       | inr some ↦ some_key table folder accepted (sym (ap (λ (b : Bool). if b then (let r : Result Unit Fault = Ok tt in r) else (file_reading folder partition_name >>= behind_file table folder accepted)) some) ∙ e)
     ]
+
+-- ---- and the other way
+
+pub partition_passes : (table : Table) (folder : Folder) (accepted : Accepted) (row : Row) (rest : List Row) → accepted.rows ≡ row ∷ rest → HaveOnePartition table accepted.rows → All (HasFile folder) (partition_files table accepted.rows)
+    → partition_reading table folder accepted ≡ Ok tt
+unfolding partition_reading
+partition_passes table folder accepted row rest is one files =
+    let checks : Bool → Result Unit Fault = λ b. if b then (let r : Result Unit Fault = Ok tt in r) else (file_reading folder partition_name >>= behind_file table folder accepted) in
+    elim (cases_Bool (length table.partition == 0)) [
+      | inl empty ↦ ap checks empty
+      | inr some ↦
+        let all : All (HasFile folder) (files_by table accepted.rows false) = subst (All (HasFile folder)) (ap (files_by table accepted.rows) some) files in
+        let first = flat_map (partition_bytes table) (take 1 accepted.rows) in
+        let there = All-head (HasFile folder) (file partition_name first) (map (minmax_file table accepted.rows) (distinct_by (λ i j. i == j) (map expression_column table.partition))) all in
+        let no : other_partition table accepted.rows ≡ None = subst (λ (rows : List Row). other_partition table rows ≡ None) (sym is) (no_other table row rest (subst (HaveOnePartition table) is one)) in
+        let fault : ℕ → Fault = λ row. fault_in partition_name (granule_of accepted.granules row) Partition in
+        ap checks some
+        ∙ then_of (file_reading folder partition_name) first (behind_file table folder accepted) (file_there folder partition_name first there)
+        ∙ then_of (none_found (other_partition table accepted.rows) fault) tt (behind_rows table folder accepted) (ap (λ (o : Option ℕ). none_found o fault) no)
+        ∙ files_are_read folder (partition_files table accepted.rows) files
+    ]
+
+-- the checks pass exactly where the folder has the partition of the rows
+pub partition_step : (table : Table) (folder : Folder) (accepted : Accepted) → (HasPartition table accepted.rows folder ↔ HasPartitionFiles table accepted.rows folder) → accepted.rows ≢ [] → (table.partition ≡ [] → folder partition_name ≡ None)
+    → (partition_reading table folder accepted ≡ Ok tt) ↔ (HaveOnePartition table accepted.rows × HasPartition table accepted.rows folder)
+partition_step table folder accepted compared some none =
+    ((λ e. let h = partition_holds table folder accepted e in (h.one, compared.1 (record { files = h.files; none = none }))),
+    (λ has. by accepted.rows refl has.0 (compared.0 has.1).files))
+  where
+    by : (rows : List Row) → accepted.rows ≡ rows → HaveOnePartition table accepted.rows → All (HasFile folder) (partition_files table accepted.rows) → partition_reading table folder accepted ≡ Ok tt
+    by [] is one files = absurd (some is)
+    by (row ∷ rest) is one files = partition_passes table folder accepted row rest is one files

@@ -25,4 +25,4 @@ mod texts;
 
 pub use accepted::Accepted;
 pub use folder::{PartFiles, check_files};
-pub use law::folders_have_one_answer;
+pub use law::{folders_have_one_answer, partitions_are_checked};
