@@ -1,12 +1,9 @@
 -- What the rules of a table give the writer: its base part and its projections are definitions.
-use Rattle.std.proofs.Common.{◌≡◌, ℕ, zero, suc, ◌+◌, ◌<◌, ◌≤◌, Bool, true, false, List, [], ◌∷◌, ◌++◌, length, map, get_or, refl, ap, sym, ◌∙◌, subst, arith, inl, inr, eqb}
-use Rattle.std.specs.Prelude.{All, IsTrue, nat_le, nat_lt, nat_eq, ◌&&◌, ◌==◌, Option, Some, None, slice_get, cond}
-use Rattle.std.specs.List.{list_all, list_any, filter, range_with_len}
-use Rattle.std.proofs.lemmas.Bool.{cases_Bool, leb-true, ltb-true, eqb-true}
-use Rattle.std.proofs.lemmas.List.{length-map, length-append}
-use Rattle.std.proofs.lemmas.List.Elements.{All-nil, All-cons, All-map, All-append, All-get_or, All-weaker, filter_passes, All-filter, Contains-get_or, All-contains}
-use Rattle.mt_types.specs.declared.ty.Agg.{Agg}
-use Rattle.mt_types.specs.declared.ty.Agg.TheVariants.{Sum, Min, Max}
+use Rattle.std.proofs.Common.{◌≡◌, ℕ, zero, suc, ◌<◌, Bool, true, List, [], ◌∷◌, length, refl, arith}
+use Rattle.std.specs.Prelude.{All, IsTrue, nat_le, ◌&&◌}
+use Rattle.std.specs.List.{list_all}
+use Rattle.std.proofs.lemmas.Bool.{leb-true}
+use Rattle.std.proofs.lemmas.List.Elements.{All-nil, All-cons, All-weaker}
 use Rattle.mt_types.specs.declared.ty.Ty.{Ty, out-Ty}
 use Rattle.mt_types.specs.declared.ty.Ty.TheOpen.{Ty-F}
 use Rattle.mt_types.specs.Profile.{is_profile}
@@ -15,11 +12,11 @@ use Rattle.mt_item.specs.ItemTypes.{is_scalar, is_scalar_at}
 use Rattle.mt_table.specs.declared.column.Column.{Column}
 use Rattle.mt_table.specs.declared.definition.Table.{Table}
 use Rattle.mt_table.specs.declared.limits.TheConstants.{MAX_COLUMNS, MAX_KEY}
-use Rattle.mt_table.specs.ColumnTypes.{is_column_type, is_key_type, is_key_at, is_state_type, place_has, column_has}
-use Rattle.mt_table.specs.Kept.{is_column, keeps_columns, keeps_key, keeps_primary, keeps_rules}
+use Rattle.mt_table.specs.ColumnTypes.{is_column_type, is_key_type, is_key_at, place_has}
+use Rattle.mt_table.specs.Kept.{is_column, keeps_columns, keeps_key}
 use Rattle.mt_table.specs.Tables.{fields_of_table}
-use Rattle.mt_table.proofs.KeptLemmas.{Each, each_of, key_length, primary_within}
-use Rattle.mt_defs.specs.Metadata.{column_at, no_column}
+use Rattle.mt_table.proofs.KeptLemmas.{each_of, primary_within}
+use Rattle.mt_defs.specs.Metadata.{column_at}
 use Rattle.mt_defs.specs.Projections.{base_of}
 use Rattle.mt_meta.specs.Keys.{AreKeys}
 use Rattle.mt_build.specs.Definitions.{AreColumns, IsDefinition}

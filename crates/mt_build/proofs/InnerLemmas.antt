@@ -2,17 +2,17 @@
 use Rattle.std.proofs.Common.{◌≡◌, ℕ, zero, suc, ◌+◌, ◌<◌, ◌≤◌, Bool, true, false, List, [], ◌∷◌, ◌++◌, length, map, get_or, refl, ap, sym, ◌∙◌, subst, arith, inl, inr, eqb, ◌⊎◌, lit≤}
 use Rattle.std.specs.Prelude.{All, IsTrue, nat_le, nat_eq, ◌&&◌, ◌||◌, ◌==◌, cond}
 use Rattle.std.specs.List.{list_all, list_any, filter, range_with_len}
-use Rattle.std.proofs.lemmas.Bool.{cases_Bool, cases_order, leb-true, ltb-true, eq-eqb, eqb-true, eqb-false}
+use Rattle.std.proofs.lemmas.Bool.{cases_Bool, cases_order, leb-true, eq-eqb, eqb-true, eqb-false}
 use Rattle.std.proofs.lemmas.List.{length-map, length-append, get_or-map, get_or_append_left}
 use Rattle.std.proofs.lemmas.List.FromFn.{length-range_with_len, get_or-range_with_len}
 use Rattle.std.proofs.lemmas.List.Sums.{length-filter, count_by-le-length}
-use Rattle.std.proofs.lemmas.List.Elements.{All-nil, All-cons, All-map, All-append, All-get_or, All-weaker, All-filter}
+use Rattle.std.proofs.lemmas.List.Elements.{All-map, All-append, All-get_or, All-weaker, All-filter}
 use Rattle.mt_types.specs.declared.ty.Agg.{Agg}
 use Rattle.mt_types.specs.declared.ty.Agg.TheVariants.{Sum, Min, Max}
 use Rattle.mt_types.specs.declared.ty.Ty.{Ty, out-Ty}
 use Rattle.mt_types.specs.declared.ty.Ty.TheOpen.{Ty-F}
-use Rattle.mt_types.specs.declared.ty.Ty.TheVariants.{CountState, State as StateOf}
-use Rattle.mt_types.specs.Profile.{Kind, Whole, Day, kind_of, kind_step, state_kind, is_known, is_profile}
+use Rattle.mt_types.specs.declared.ty.Ty.TheVariants.{State as StateOf}
+use Rattle.mt_types.specs.Profile.{Kind, Whole, Day, kind_of, state_kind, is_known, is_profile}
 use Rattle.mt_types.proofs.Levels.{kind_at, kind-State, kind-CountState}
 use Rattle.mt_types.proofs.StepLemmas.{both_true}
 use Rattle.mt_item.specs.ItemTypes.{is_scalar}
@@ -24,12 +24,11 @@ use Rattle.mt_table.specs.declared.projection.Aggregate.TheVariants.{Count, Of}
 use Rattle.mt_table.specs.declared.projection.Projection.{Projection}
 use Rattle.mt_table.specs.declared.projection.Projection.TheVariants.{Normal, Grouped}
 use Rattle.mt_table.specs.ColumnTypes.{is_integer_at, is_integer_type, is_number_at, is_number_type, is_key_type}
-use Rattle.mt_table.specs.Kept.{is_one_of, is_place, keeps_aggregate, keeps_grouped, keeps_key, keeps_normal, keeps_projection, keeps_projections}
+use Rattle.mt_table.specs.Kept.{is_one_of, keeps_aggregate, keeps_grouped, keeps_key, keeps_normal, keeps_projection}
 use Rattle.mt_table.specs.Tables.{fields_of_table}
 use Rattle.mt_table.proofs.KeptLemmas.{each_of, key_length}
 use Rattle.mt_defs.specs.Metadata.{column_at, no_column}
 use Rattle.mt_defs.specs.Projections.{inner_of, index_in, state_column, stored_columns}
-use Rattle.mt_meta.specs.Keys.{AreKeys}
 use Rattle.mt_build.specs.Definitions.{AreColumns, IsDefinition}
 use Rattle.mt_build.proofs.DefinitionLemmas.{HasColumn, all_pass, columns_are, has_column, key_columns, key_scalar}
 

@@ -1,5 +1,5 @@
 -- The rows that the writer stores in a projection fit what the projection stores.
-use Rattle.std.proofs.Common.{◌≡◌, ℕ, ℤ, zero, suc, ◌+◌, ◌<◌, ◌≤◌, ◌%◌, ◌^◌, Bool, true, false, List, [], ◌∷◌, ◌++◌, length, map, get_or, refl, ap, sym, ◌∙◌, subst, arith}
+use Rattle.std.proofs.Common.{◌≡◌, ℕ, ℤ, zero, suc, ◌<◌, ◌%◌, ◌^◌, Bool, true, false, List, [], ◌∷◌, ◌++◌, length, map, get_or, refl, ap, sym, ◌∙◌, arith}
 use Rattle.std.specs.Prelude.{All, IsTrue, int_lt, cond, not, Option, Some, None}
 use Rattle.std.specs.List.{filter}
 use Rattle.std.proofs.Math.Nat.{mod-lt}
@@ -9,7 +9,6 @@ use Rattle.mt_types.specs.declared.ty.Agg.{Agg}
 use Rattle.mt_types.specs.declared.ty.Agg.TheVariants.{Sum, Min, Max}
 use Rattle.mt_types.specs.declared.ty.Ty.{Ty, out-Ty}
 use Rattle.mt_types.specs.declared.ty.Ty.TheOpen.{Ty-F}
-use Rattle.mt_types.specs.declared.value.AggState.TheVariants as state
 use Rattle.mt_types.specs.declared.value.Value.{Value, out-Value}
 use Rattle.mt_types.specs.declared.value.Value.TheOpen.{Value-F}
 use Rattle.mt_types.specs.declared.value.Value.TheVariants.{Null, Num, State, outs-Num}
@@ -22,7 +21,7 @@ use Rattle.mt_table.specs.declared.projection.Aggregate.{Aggregate}
 use Rattle.mt_table.specs.declared.projection.Aggregate.TheVariants.{Count, Of}
 use Rattle.mt_table.specs.declared.projection.Projection.{Projection}
 use Rattle.mt_table.specs.declared.projection.Projection.TheVariants.{Normal, Grouped}
-use Rattle.mt_table.specs.ColumnTypes.{is_key_type, is_number_at, is_number_type, is_integer_type}
+use Rattle.mt_table.specs.ColumnTypes.{is_key_type, is_number_at, is_number_type}
 use Rattle.mt_table.specs.Kept.{keeps_aggregate, keeps_grouped, keeps_projection}
 use Rattle.mt_defs.specs.Folds.{fold_of, greater, greatest, least, lesser, number_at, number_of, wrapped_sum}
 use Rattle.mt_defs.specs.Lists.{Pointwise, distinct_by}

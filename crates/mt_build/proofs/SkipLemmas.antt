@@ -1,6 +1,6 @@
 -- What the rules of a table give the writer of skip indexes and partition files, and the marks of an index.
-use Rattle.std.proofs.Common.{◌≡◌, ℕ, ◌<◌, ◌≤◌, Bool, true, false, List, [], ◌∷◌, ◌++◌, length, map, get_or, refl, ap, sym, ◌∙◌, subst, arith}
-use Rattle.std.specs.Prelude.{All, IsTrue, nat_le, ◌&&◌}
+use Rattle.std.proofs.Common.{◌≡◌, ℕ, ◌<◌, true, List, [], ◌∷◌, ◌++◌, length, map, get_or, refl, ap, sym, ◌∙◌, subst}
+use Rattle.std.specs.Prelude.{All, nat_le}
 use Rattle.std.specs.List.{list_all, filter_map, flat_map, concat}
 use Rattle.std.proofs.lemmas.Bool.{leb-true}
 use Rattle.std.proofs.lemmas.List.{append_assoc, get_or_default}
@@ -18,7 +18,7 @@ use Rattle.mt_table.specs.declared.skip.Skip.{Skip}
 use Rattle.mt_table.specs.ColumnTypes.{is_date_at, is_date_type, is_key_type, place_has}
 use Rattle.mt_table.specs.declared.limits.TheConstants.{MAX_PARTITION, MAX_SKIPS}
 use Rattle.mt_table.specs.Names.{places_differ}
-use Rattle.mt_table.specs.Kept.{keeps_expression, keeps_partition, keeps_skip, keeps_skips, month_place, plain_place}
+use Rattle.mt_table.specs.Kept.{keeps_expression, keeps_skip, month_place, plain_place}
 use Rattle.mt_tokens.specs.Words.{is_name}
 use Rattle.mt_table.specs.Tables.{fields_of_table}
 use Rattle.mt_table.proofs.KeptLemmas.{each_of}

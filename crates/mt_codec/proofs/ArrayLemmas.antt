@@ -1,5 +1,5 @@
 -- Sizes and their sum.
-use Rattle.std.proofs.Common.{◌≡◌, ℕ, zero, suc, ◌+◌, ◌<◌, List, [], ◌∷◌, length, take, get_or, sum, ap, sym, ◌∙◌, arith, add-one}
+use Rattle.std.proofs.Common.{◌≡◌, ℕ, zero, suc, ◌+◌, ◌<◌, List, [], ◌∷◌, length, take, get_or, sum, ◌∙◌, arith, add-one}
 use Rattle.std.proofs.lemmas.List.Sums.{sum_by-cons}
 
 -- `sum` adds from the left

@@ -1,7 +1,7 @@
 -- The substreams that are left after one of them.
-use Rattle.std.proofs.Common.{◌≡◌, ◌≢◌, ℕ, suc, ◌<◌, Bool, true, false, List, [], ◌∷◌, length, Result, Ok, Err, refl, ap, sym, ◌∙◌, subst, arith, Bor}
+use Rattle.std.proofs.Common.{◌≡◌, ◌≢◌, ℕ, suc, true, false, List, [], ◌∷◌, length, Result, Ok, Err, refl, ap, sym, ◌∙◌, arith, Bor}
 use Rattle.std.specs.Prelude.{◌==◌}
-use Rattle.std.proofs.lemmas.Bool.{eqb-true, eq-eqb, both_ways}
+use Rattle.std.proofs.lemmas.Bool.{eqb-true}
 use Rattle.mt_item.specs.declared.fault.CodecWhy.TheVariants.{Over}
 use Rattle.mt_codec.specs.declared.streams.Streams.{Streams}
 use Rattle.mt_codec.specs.declared.streams.Streams.TheVariants.{Apart, Joined}

@@ -1,5 +1,5 @@
 -- What `decode` and `decode_front` return.
-use Rattle.std.proofs.Common.{◌≡◌, ℕ, zero, suc, ◌+◌, ◌-◌, ◌<◌, ◌≤◌, true, get_or, List, [], ◌∷◌, ◌++◌, length, take, drop, Result, Ok, Err, refl, ap, sym, ◌∙◌, subst, arith, ◌⊎◌, inl, inr, Bor}
+use Rattle.std.proofs.Common.{◌≡◌, ℕ, ◌+◌, ◌-◌, ◌<◌, ◌≤◌, true, get_or, List, [], ◌∷◌, ◌++◌, length, drop, Result, Ok, Err, refl, ap, sym, ◌∙◌, subst, arith, ◌⊎◌, inl, inr, Bor}
 use Rattle.std.specs.Prelude.{All}
 use Rattle.std.specs.List.{flat_map}
 use Rattle.std.proofs.lemmas.List.{get_or_default, get_or-map, length-map}
@@ -14,12 +14,11 @@ use Rattle.mt_types.specs.declared.value.Value.{Value}
 use Rattle.mt_types.specs.Profile.{is_profile}
 use Rattle.mt_types.specs.Steps.{◌>>=◌}
 use Rattle.mt_types.proofs.StepLemmas.{ok_pair, ok_one}
-use Rattle.mt_defs.specs.Encoding.{Encodes}
 use Rattle.mt_item.proofs.LengthLemmas.{Small}
 use Rattle.mt_codec.specs.declared.fault.CodecError.{CodecError}
 use Rattle.mt_codec.specs.declared.fault.CodecError.TheVariants.{At, NoMemory}
-use Rattle.mt_codec.specs.ColumnReading.{Read, decode_reading, front_reading}
-use Rattle.mt_codec.specs.Results.{FailsAs, bytes_of, Gives, GivesFront, AreValues, AreFirstValues, Returns}
+use Rattle.mt_codec.specs.ColumnReading.{Read, front_reading}
+use Rattle.mt_codec.specs.Results.{FailsAs, bytes_of, Gives, GivesFront, AreFirstValues, Returns}
 use Rattle.mt_item.specs.declared.fault.CodecWhy.TheVariants.{Over}
 use Rattle.mt_codec.proofs.NotOverLemmas.{front_not_over}
 use Rattle.mt_codec.proofs.TypeLemmas.{front_encodes, encoded_front}

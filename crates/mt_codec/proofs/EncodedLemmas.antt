@@ -1,6 +1,6 @@
 -- The writer's substreams encode their values.
-use Rattle.std.proofs.Common.{◌≡◌, ℕ, zero, suc, ◌+◌, ◌<◌, ◌≤◌, Bool, true, false, List, [], ◌∷◌, ◌++◌, length, map, refl, ap, sym, ◌∙◌, subst, arith}
-use Rattle.std.specs.Prelude.{◌&&◌, nat_le, IsTrue, if◌then◌else◌}
+use Rattle.std.proofs.Common.{◌≡◌, ℕ, zero, suc, ◌≤◌, Bool, true, List, [], ◌∷◌, length, map, refl, ap, sym, ◌∙◌, subst, arith}
+use Rattle.std.specs.Prelude.{◌&&◌, nat_le, if◌then◌else◌}
 use Rattle.std.specs.List.{flat_map, list_all}
 use Rattle.std.proofs.lemmas.List.Folds.{flat_map-map}
 use Rattle.std.proofs.lemmas.Bool.{and_parts, and_from}
@@ -19,13 +19,13 @@ use Rattle.mt_types.specs.Items.{item_bytes}
 use Rattle.mt_types.specs.Profile.{is_profile}
 use Rattle.mt_types.proofs.Levels.{same_level}
 use Rattle.mt_defs.specs.Lists.{Pointwise}
-use Rattle.mt_defs.specs.Encoding.{Encodes, EncodesAs, EncodesNullable, EncodesArray, EncodesItems, Encoding, IsItemFor, encoding_step, is_null, null_byte, size_bytes}
+use Rattle.mt_defs.specs.Encoding.{Encodes, EncodesAs, EncodesNullable, EncodesArray, EncodesItems, Encoding, IsItemFor, encoding_step, null_byte, size_bytes}
 use Rattle.mt_defs.specs.WrittenStreams.{written_streams, or_default, arrays_of, elements_at}
 use Rattle.mt_defs.proofs.Encoders.{EncodesAs_out}
 use Rattle.mt_agg.proofs.StateLemmas.{fits_at}
 use Rattle.mt_codec.specs.Runs.{fits_or_null}
 use Rattle.mt_codec.specs.StreamOrder.{array_levels}
-use Rattle.mt_codec.proofs.WrittenLemmas.{IsSingle, IsSingleLevel, single_at, nullable_single, written_Nullable, written_Array, default_fits_too, array_inside, nullable_fit, array_fit, nullable_level}
+use Rattle.mt_codec.proofs.WrittenLemmas.{IsSingleLevel, single_at, written_Nullable, written_Array, default_fits_too, array_inside, nullable_fit, array_fit, nullable_level}
 
 -- what substreams of a type of this level say
 pub encodes_at : (t : Ty) (level : Ty-F Ty) → out-Ty t ≡ level → EncodesAs t ≡ encoding_step Ty (λ u. u) EncodesAs level

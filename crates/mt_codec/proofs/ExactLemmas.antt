@@ -1,9 +1,9 @@
 -- Reading a column is exact: what is read is what the substreams serialize, and what they serialize is read.
-use Rattle.std.proofs.Common.{◌≡◌, ℕ, zero, suc, ◌+◌, ◌<◌, ◌≤◌, Bool, true, false, List, [], ◌∷◌, ◌++◌, length, map, take, drop, get_or, sum, Result, Ok, Err, refl, ap, sym, ◌∙◌, subst, arith, append_assoc, append-nil, lit<}
-use Rattle.std.specs.Prelude.{◌&&◌, ◌||◌, ◌==◌, nat_le, nat_lt, ◌^◌, if◌then◌else◌, IsTrue}
+use Rattle.std.proofs.Common.{◌≡◌, ℕ, zero, suc, ◌+◌, ◌<◌, ◌≤◌, Bool, true, false, List, [], ◌∷◌, ◌++◌, length, map, take, drop, sum, Ok, refl, ap, sym, ◌∙◌, subst, arith, append_assoc, append-nil, lit<}
+use Rattle.std.specs.Prelude.{◌&&◌, ◌||◌, ◌==◌, nat_le, ◌^◌, if◌then◌else◌}
 use Rattle.std.specs.List.{flat_map, list_all}
 use Rattle.std.specs.Int.{w64, to_le_bytes}
-use Rattle.std.proofs.lemmas.Bool.{leb-true, le-leb, lt-ltb, ltb-true, and_parts, and_from, or_left, or_right, both_ways, eq-eqb}
+use Rattle.std.proofs.lemmas.Bool.{leb-true, lt-ltb, and_parts, and_from, or_left, or_right, both_ways}
 use Rattle.std.proofs.lemmas.List.{length-append, length-take, length-drop, length-map, take-append-drop}
 use Rattle.std.proofs.lemmas.List.Folds.{list_all-append}
 use Rattle.std.proofs.Math.Seq.{take-append_seam, drop-append_seam}
@@ -15,18 +15,17 @@ use Rattle.mt_types.specs.declared.value.Value.TheViews.{roll-out-Value}
 use Rattle.mt_types.specs.declared.value.Value.TheVariants.{Null, outs-Null, List as Items, outs-List as outs-Items}
 use Rattle.mt_types.specs.Fits.{list_at, null_at}
 use Rattle.mt_types.specs.Steps.{◌>>=◌, require, at}
-use Rattle.mt_types.proofs.StepLemmas.{ok_then, at_ok_then, ok_pair, ok_one, required, passed}
+use Rattle.mt_types.proofs.StepLemmas.{ok_then, at_ok_then, ok_pair, ok_one, required}
 use Rattle.mt_defs.specs.Lists.{Pointwise}
 use Rattle.mt_defs.specs.Encoding.{Encoding, EncodesItems, EncodesNullable, EncodesArray, IsItemFor, is_null, is_null_at, null_byte, size_bytes}
-use Rattle.mt_item.specs.declared.fault.CodecWhy.{CodecWhy}
-use Rattle.mt_item.specs.declared.fault.CodecWhy.TheVariants.{Short, Over, NullByte, TooLong}
+use Rattle.mt_item.specs.declared.fault.CodecWhy.TheVariants.{NullByte, TooLong}
 use Rattle.mt_item.specs.ItemReading.{First, whole_front}
 use Rattle.mt_item.proofs.LengthLemmas.{Small}
 use Rattle.mt_item.proofs.ExactLemmas.{IsExact}
 use Rattle.mt_item.proofs.NumberLemmas.{whole_exact}
 use Rattle.mt_codec.specs.ColumnReading.{Read, Column, items_from, after_items, stream_from, null_front, size_front, nullable_from, array_from, nulled, arrays_from}
 use Rattle.mt_codec.proofs.LoopLemmas.{items_none, items_next, ReadItems}
-use Rattle.mt_codec.proofs.StreamLemmas.{stream_none, stream_next, after_none, after_joined, null_none, null_read, null_wrong, size_read}
+use Rattle.mt_codec.proofs.StreamLemmas.{stream_none, stream_next, after_none, after_joined, null_read, size_read}
 use Rattle.mt_codec.proofs.ColumnLemmas.{nullable_next, array_next}
 use Rattle.mt_codec.proofs.ArrayLemmas.{sum_cons}
 

@@ -1,5 +1,5 @@
 -- The loop over a null map, and NULL in the place of values.
-use Rattle.std.proofs.Common.{◌≡◌, ◌≢◌, ℕ, zero, suc, ◌+◌, ◌-◌, ◌<◌, ◌≤◌, Bool, true, false, List, [], ◌∷◌, ◌++◌, length, take, drop, get_or, set, Result, Ok, Err, refl, ap, sym, ◌∙◌, subst, arith, add-one}
+use Rattle.std.proofs.Common.{◌≡◌, ◌≢◌, ℕ, zero, suc, ◌+◌, ◌<◌, ◌≤◌, List, [], ◌∷◌, ◌++◌, length, take, drop, get_or, set, Result, Ok, Err, refl, ap, sym, ◌∙◌, subst, arith, add-one}
 use Rattle.std.specs.Prelude.{◌==◌, if◌then◌else◌}
 use Rattle.std.proofs.lemmas.Bool.{eq-eqb, ne_eqb}
 use Rattle.std.proofs.lemmas.List.{length-take-le, drop_more, drop_all}
@@ -8,7 +8,7 @@ use Rattle.mt_types.specs.declared.value.Value.{Value}
 use Rattle.mt_types.specs.declared.value.Value.TheVariants.{Null}
 use Rattle.mt_types.specs.Steps.{at}
 use Rattle.mt_item.specs.declared.fault.CodecWhy.TheVariants.{Short, NullByte}
-use Rattle.mt_codec.specs.ColumnReading.{Read, items_from, null_front, nulled}
+use Rattle.mt_codec.specs.ColumnReading.{items_from, null_front, nulled}
 use Rattle.mt_codec.proofs.LoopLemmas.{Comes, goes, ends, fails}
 use Rattle.mt_codec.proofs.StreamLemmas.{null_none, null_read, null_wrong, at_fault, at_found}
 

@@ -1,9 +1,8 @@
 -- Each type is read exactly.
-use Rattle.std.proofs.Common.{◌≡◌, ℕ, zero, suc, ◌+◌, ◌≤◌, Bool, true, false, List, [], ◌∷◌, ◌++◌, length, drop, take, get_or, Result, Ok, Err, refl, ap, sym, ◌∙◌, subst, arith, append-nil, append_assoc, lit<, ◌⊎◌, inl, inr}
+use Rattle.std.proofs.Common.{◌≡◌, ℕ, zero, suc, ◌+◌, ◌≤◌, Bool, true, false, List, [], ◌∷◌, ◌++◌, length, Ok, refl, ap, sym, ◌∙◌, subst, arith, append-nil, append_assoc}
 use Rattle.std.specs.Prelude.{◌||◌}
-use Rattle.std.specs.List.{flat_map, list_all}
+use Rattle.std.specs.List.{flat_map}
 use Rattle.std.proofs.lemmas.List.{length-append}
-use Rattle.std.proofs.Math.Seq.{drop-append_seam}
 use Rattle.mt_types.specs.declared.ty.Ty.{Ty, map-Ty, out-Ty}
 use Rattle.mt_types.specs.declared.ty.Ty.TheOpen.{Ty-F}
 use Rattle.mt_types.specs.declared.ty.Ty.TheFolds.{fold_out-Ty}
@@ -27,7 +26,7 @@ use Rattle.mt_codec.specs.StreamOrder.{order_step, streams_from, streams_of, arr
 use Rattle.mt_codec.proofs.WrittenLemmas.{IsSingleLevel, single_at, nullable_level, nullable_inside, array_inside, level_items}
 use Rattle.mt_codec.proofs.EncodedLemmas.{encodes_at, single_encodes}
 use Rattle.mt_codec.proofs.ColumnLemmas.{column_Nullable, column_Array, column_single}
-use Rattle.mt_codec.proofs.ExactLemmas.{IsExactColumn, AreSmall, before, before_all, IsOpen, single_exact, nullable_exact, array_exact, array_fits}
+use Rattle.mt_codec.proofs.ExactLemmas.{IsExactColumn, AreSmall, before, before_all, single_exact, nullable_exact, array_exact, array_fits}
 
 -- ---- how many substreams a type has
 

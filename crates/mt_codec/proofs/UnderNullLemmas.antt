@@ -1,5 +1,5 @@
 -- Two serializations of the same values differ only under NULL.
-use Rattle.std.proofs.Common.{◌≡◌, ℕ, zero, suc, ◌≤◌, Bool, true, false, List, [], ◌∷◌, length, map, refl, ap, sym, ◌∙◌, subst, arith}
+use Rattle.std.proofs.Common.{◌≡◌, ℕ, zero, suc, ◌≤◌, Bool, true, false, List, [], ◌∷◌, map, refl, ap, sym, ◌∙◌, subst, arith}
 use Rattle.std.specs.Prelude.{if◌then◌else◌}
 use Rattle.std.specs.List.{flat_map}
 use Rattle.mt_types.specs.declared.ty.Ty.{Ty, map-Ty, out-Ty}
@@ -15,7 +15,7 @@ use Rattle.mt_types.specs.Fits.{fits_of}
 use Rattle.mt_types.specs.Profile.{is_profile}
 use Rattle.mt_types.proofs.Levels.{same_level}
 use Rattle.mt_defs.specs.Lists.{Pointwise}
-use Rattle.mt_defs.specs.Encoding.{Encoding, Encodes, EncodesAs, EncodesItems, EncodesNullable, EncodesArray, IsItemFor, is_null, null_byte, size_bytes}
+use Rattle.mt_defs.specs.Encoding.{Encoding, Encodes, EncodesAs, EncodesNullable, EncodesArray, IsItemFor, is_null, null_byte, size_bytes}
 use Rattle.mt_codec.specs.UnderNull.{Alike, AgreeUnder, AlikeNullable, AlikeArray, DifferUnderNull, alike_step}
 use Rattle.mt_codec.specs.StreamOrder.{array_levels}
 use Rattle.mt_codec.proofs.WrittenLemmas.{IsSingleLevel, array_inside}

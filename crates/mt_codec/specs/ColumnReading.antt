@@ -1,6 +1,6 @@
 -- The values that substreams serialize, or the first fault: docs/FORMAT.md, "Substreams"
 -- (ClickHouse: ISerialization::deserializeBinaryBulkWithMultipleStreams).
-use Rattle.std.specs.Prelude.{ℕ, zero, suc, ◌+◌, nat_le, ◌==◌, if◌then◌else◌, Bool, true, false, List, [], ◌∷◌, map, take, drop, sum, Result, Ok, Err}
+use Rattle.std.specs.Prelude.{ℕ, zero, suc, ◌+◌, nat_le, ◌==◌, if◌then◌else◌, Bool, true, false, List, [], ◌∷◌, take, drop, sum, Result, Ok, Err}
 use Rattle.std.specs.Int.{w64}
 use Rattle.mt_types.specs.declared.limits.TheConstants.{MAX_ELEMENTS}
 use Rattle.mt_types.specs.declared.ty.Ty.{Ty, map-Ty, roll-Ty}

@@ -1,7 +1,6 @@
 -- The substreams that are still to be read, and what the readers of one substream give.
 use denote.Ref.{Bor}
 use Rattle.std.specs.Prelude.{◌≡◌, ℕ, Bool, true, false, List, [], ◌∷◌, Result, Ok, Err}
-use Rattle.mt_types.specs.declared.value.Value.{Value}
 use Rattle.mt_item.specs.declared.fault.ItemError.{ItemError}
 use Rattle.mt_item.specs.declared.fault.ItemError.TheVariants.{Bad, NoMemory}
 use Rattle.mt_codec.specs.declared.fault.CodecError.{CodecError}

@@ -1,1 +1,2 @@
 pub mod CompactReading
+pub mod HeldRows

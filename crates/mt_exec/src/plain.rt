@@ -1,4 +1,4 @@
-//! Answers without groups. References to rows are filtered and sorted, and a row is made only where it is printed.
+//! Answers without groups: references to rows are sorted, and only rows that are printed are made.
 
 ghost use Rattle.std.specs.Prelude.{◌≡◌, ◌++◌, false, filter, length, map, IfOk, OnOk};
 ghost use Rattle.std.specs.Borrow.{Bor};

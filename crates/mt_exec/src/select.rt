@@ -11,8 +11,8 @@ use mt_table::Table;
 use mt_types::{List, NoMemory, Row};
 use std::alloc::Global;
 
-/// The text of a query's answer over all rows (docs/LANGUAGE.md, "Queries"). It goes over the rows once, and copies none
-/// that isn't printed.
+/// The text of a query's answer over all rows (docs/LANGUAGE.md, "Answers"). It goes over the rows
+/// once, and copies none that isn't printed.
 pub fn select_rows(
     alloc: Global,
     table: &Table,

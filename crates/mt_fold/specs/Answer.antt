@@ -1,4 +1,4 @@
--- The answer of a query over rows: docs/LANGUAGE.md, "Queries" (ClickHouse: SELECT). There are no granules, marks, ranges
+-- The answer of a query over rows: docs/LANGUAGE.md, "Answers" (ClickHouse: SELECT). There are no granules, marks, ranges
 -- or projections in it.
 use Rattle.std.specs.Prelude.{ℕ, Bool, true, false, not, ◌||◌, if◌then◌else◌, List, [], ◌∷◌, map, take, filter, codes, Option, Some, None, option_map, slice_get, unwrap_or}
 use Rattle.std.specs.List.{flat_map}

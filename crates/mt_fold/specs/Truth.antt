@@ -1,4 +1,4 @@
--- The value of a condition on a row, true, false or NULL: docs/LANGUAGE.md, "Queries" (ClickHouse: an expression of WHERE).
+-- The value of a condition on a row, true, false or NULL: docs/LANGUAGE.md, "Answers" (ClickHouse: an expression of WHERE).
 use Rattle.std.specs.Prelude.{ℕ, Bool, true, false, not, if◌then◌else◌, List, length, take, Option, Some, None}
 use Rattle.std.specs.List.{list_any}
 use Rattle.std.specs.Str.{bytes_eq}

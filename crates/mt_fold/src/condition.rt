@@ -10,7 +10,7 @@ use crate::value::{compared, has, null_is, one_of, starts};
 use mt_look::Look;
 use mt_query::Cond;
 
-/// The value of a condition on a row (docs/LANGUAGE.md, "Queries"); None is NULL. It takes no memory.
+/// The value of a condition on a row (docs/LANGUAGE.md, "Answers"); None is NULL. It takes no memory.
 pub fn truth<L: Look>(cond: &Cond, from: &L, row: u64) -> Option<bool>
     requires shown { IsTrue (cond_passes (L.shows from.now) cond.now) }
     requires there { row < length (L.rows_of from.now) }

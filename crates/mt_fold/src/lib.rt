@@ -1,6 +1,6 @@
 //! Queries over rows: conditions, groups, and the text of an answer.
 //!
-//! A `Partial` gathers rows one by one, and its text is exactly the query's answer over those that it has gathered.
+//! A `Partial` gathers rows one by one, and its text is exactly the query's answer over those rows.
 #![tactic(auto)]
 
 mod aggregate;

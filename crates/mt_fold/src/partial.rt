@@ -26,7 +26,7 @@ use std::alloc::Global;
 pub struct Partial {
     /// The result rows, where the answer isn't by groups.
     pub rows: List<Row>,
-    /// The groups: a state per aggregate of the query, in its order, by the values of the GROUP BY columns.
+    /// The groups, by the values of the GROUP BY columns: a state per aggregate, in the query's order.
     pub groups: IndexMap<Row, List<AggState>>,
 }
 

@@ -2,7 +2,6 @@
 
 ghost use Rattle.std.specs.Prelude.{◌≡◌, ◌<◌, map, length, IsTrue, IfOk};
 ghost use Rattle.std.specs.List.{list_all};
-ghost use Rattle.mt_types.specs.Order.{};
 ghost use Rattle.mt_table.specs.Stored as stored;
 ghost use Rattle.mt_defs.specs.Rows as rows;
 ghost use Rattle.mt_look.specs.Seen.{row_at};

@@ -13,3 +13,10 @@ pub mod MarkLemmas
 pub mod MarksFileLemmas
 pub mod PayloadLemmas
 pub mod StepLemmas
+pub mod CutLemmas
+pub mod MarksBytesLemmas
+pub mod EntriesLemmas
+pub mod PayloadsHeldLemmas
+pub mod KeptRulesLemmas
+pub mod PayloadsReadLemmas
+pub mod IndexLemmas

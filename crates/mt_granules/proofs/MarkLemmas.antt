@@ -1,10 +1,9 @@
 -- Where the payload of a mark stands in its data file.
-use Rattle.std.proofs.Common.{◌≡◌, ℕ, zero, suc, ◌+◌, ◌-◌, ◌*◌, ◌<◌, ◌≤◌, Bool, true, false, List, [], ◌∷◌, ◌++◌, length, map, take, drop, get_or, refl, ap, sym, ◌∙◌, subst, arith, append_assoc, length-append, Option, Some, None, ◌⊎◌, inl, inr}
-use Rattle.std.specs.Prelude.{Result, Ok, Err, unwrap_or}
-use Rattle.std.proofs.lemmas.List.{length-map, length-take-le, length-drop, take-append-drop, take_at, drop_at, drop-drop}
+use Rattle.std.proofs.Common.{◌≡◌, ℕ, zero, suc, ◌+◌, ◌-◌, ◌*◌, ◌<◌, ◌≤◌, Bool, true, false, List, [], ◌∷◌, ◌++◌, length, map, take, drop, get_or, refl, ap, sym, ◌∙◌, subst, arith, length-append, Option, Some, None, ◌⊎◌, inl, inr}
+use Rattle.std.specs.Prelude.{Result, Ok, unwrap_or}
+use Rattle.std.proofs.lemmas.List.{length-take-le, length-drop, take-append-drop, drop_at, drop-drop}
 use Rattle.std.proofs.lemmas.List.Concat.{flat_map-append}
-use Rattle.std.proofs.lemmas.List.Elements.{All-head, All-tail}
-use Rattle.std.proofs.Math.Seq.{drop-append-add}
+use Rattle.std.proofs.lemmas.List.Elements.{All-tail}
 use Rattle.std.specs.Prelude.{All}
 use Rattle.mt_types.specs.Steps.{◌>>=◌}
 use Rattle.mt_types.specs.Steps.{ok_or}
@@ -14,7 +13,7 @@ use Rattle.mt_table.specs.Rows.{Pointwise}
 use Rattle.mt_defs.specs.Lists.{AreBytes}
 use Rattle.mt_defs.specs.declared.frame.Frame.{Frame}
 use Rattle.mt_defs.specs.declared.mark.Mark.{Mark}
-use Rattle.mt_defs.specs.Frames.{Block, IsBlock, IsFileOf, IsFramed, file_of, payload_of}
+use Rattle.mt_defs.specs.Frames.{Block, IsBlock, IsFileOf, file_of, payload_of}
 use Rattle.mt_defs.specs.Marks.{MarksPosition, MarksFrame, MarksEnd}
 use Rattle.mt_frame.specs.declared.fault.FrameWhy.{FrameWhy}
 use Rattle.mt_frame.specs.declared.frames.Frames.{Frames}
@@ -29,11 +28,10 @@ use Rattle.mt_marks.specs.Positions.{position_of}
 use Rattle.mt_marks.proofs.DenotedLemmas.{position_denotes}
 use Rattle.mt_marks.proofs.RawLemmas.{all_marks}
 use Rattle.mt_marks.proofs.RecutLemmas.{marked_within}
-use Rattle.mt_granules.specs.PayloadReading.{frames_in, frames_where, granules_of, mark_count, payload_in, payload_read, payloads_of, pieces, positions_of}
+use Rattle.mt_granules.specs.PayloadReading.{frames_in, frames_where, mark_count, payload_in, payload_read, payloads_of, pieces, positions_of}
 use Rattle.mt_granules.specs.Walking.{HasPayload}
 use Rattle.mt_granules.proofs.RuleLemmas.{Climb, Rises, all_entries, climb_all, joined}
 use Rattle.mt_granules.proofs.PieceLemmas.{piece_at}
-use Rattle.mt_granules.proofs.WalkLemmas.{drop_within}
 
 -- ---- the frames
 

@@ -1,17 +1,16 @@
 -- What the reading of a marks file fixes of its marks.
-use Rattle.std.proofs.Common.{◌≡◌, ℕ, zero, suc, ◌+◌, ◌*◌, ◌/◌, ◌%◌, ◌≤◌, Bool, true, false, List, [], ◌∷◌, ◌++◌, length, map, take, drop, refl, ap, sym, ◌∙◌, subst, arith, Option, Some, None}
+use Rattle.std.proofs.Common.{◌≡◌, ℕ, zero, suc, ◌*◌, ◌/◌, ◌%◌, ◌≤◌, Bool, true, false, List, [], ◌∷◌, ◌++◌, length, drop, refl, ap, sym, ◌∙◌, subst, arith, Option, Some, None}
 use Rattle.std.specs.Prelude.{Result, Ok, Err, if◌then◌else◌, ◌==◌, nat_le}
 use Rattle.std.proofs.lemmas.Bool.{leb-true, eqb-true}
 use Rattle.std.proofs.lemmas.List.{take_at, drop_at, length-append}
 use Rattle.mt_shelf.specs.declared.fault.Why.{Why}
 use Rattle.mt_shelf.specs.declared.fault.Why.TheVariants as why
-use Rattle.mt_types.specs.Steps.{◌>>=◌, require}
 use Rattle.mt_types.proofs.StepLemmas.{ok_then, ok_one, required}
 use Rattle.mt_defs.specs.declared.mark.Mark.{Mark}
 use Rattle.mt_frame.specs.declared.frames.Frames.{Frames}
 use Rattle.mt_marks.specs.declared.marks.Marks.{Marks}
 use Rattle.mt_marks.specs.Entries.{Entry, entries_in, entries_of}
-use Rattle.mt_marks.specs.MarkReading.{marks_from, entries_from, entries_reading, marks_of, entry_len, marks_reading, rules_reading, in_granule, ok_or, u64_at}
+use Rattle.mt_marks.specs.MarkReading.{entries_from, entries_reading, marks_of, entry_len, marks_reading, rules_reading, in_granule, ok_or}
 use Rattle.mt_marks.proofs.RawLemmas.{all_marks, all_rows, length-marks_from, entries_none, entries_next}
 
 -- each entry has so many marks
@@ -54,7 +53,7 @@ in_granule_ok : (r : Result (Unit {0}) (ℕ × Why)) (u : Unit {0}) → in_granu
 in_granule_ok (Ok t) u e = refl
 in_granule_ok (Err (g, w)) u e = cc
 
-entries_are : (per : ℕ) (bytes : List ℕ) (es : List Entry) → entries_reading per bytes ≡ Some es → (es ≡ entries_from per (length bytes / entry_len per) bytes) × (length bytes % entry_len per ≡ 0)
+pub entries_are : (per : ℕ) (bytes : List ℕ) (es : List Entry) → entries_reading per bytes ≡ Some es → (es ≡ entries_from per (length bytes / entry_len per) bytes) × (length bytes % entry_len per ≡ 0)
 entries_are per bytes es e = by (length bytes % entry_len per == 0) refl e
   where
     by : (b : Bool) → (length bytes % entry_len per == 0) ≡ b → (if b then Some (entries_from per (length bytes / entry_len per) bytes) else None) ≡ Some es

@@ -5,7 +5,7 @@ use Rattle.std.specs.List.{enumerate_from}
 use Rattle.std.proofs.lemmas.List.FromFn.{length-enumerate_from, get_or-enumerate_from}
 use Rattle.std.proofs.lemmas.List.{take_all, take_more, drop_more, take-append-drop}
 use Rattle.mt_table.specs.Rows.{Pointwise}
-use Rattle.mt_types.specs.Steps.{◌>>=◌, onto}
+use Rattle.mt_types.specs.Steps.{onto}
 use Rattle.mt_types.proofs.StepLemmas.{ok_then, onto_ok, ok_one, then_of, then_bad}
 use Rattle.mt_granules.specs.FileFaults.{in_order}
 

@@ -2,10 +2,10 @@
 use Rattle.std.proofs.Common.{◌≡◌, ℕ, zero, suc, ◌+◌, ◌-◌, ◌<◌, ◌≤◌, List, [], ◌∷◌, ◌++◌, length, take, drop, refl, ap, sym, ◌∙◌, subst, append_assoc, append-nil, arith, length-append}
 use Rattle.std.specs.Prelude.{min, nat_le, Bool, true, false}
 use Rattle.std.proofs.lemmas.Bool.{leb-true, leb-false}
-use Rattle.std.proofs.lemmas.List.{take_at, drop_at, length-take, length-drop, take_all}
+use Rattle.std.proofs.lemmas.List.{length-drop, take_all}
 use Rattle.std.proofs.lemmas.List.Elements.{All-head, All-tail}
 use Rattle.mt_defs.specs.Frames.{Block, IsBlock, IsFileOf, block_bytes, file_of, payload_of}
-use Rattle.mt_frame.proofs.BlockLemmas.{IsHeaderOf, header_facts, frame_complete, frame_len}
+use Rattle.mt_frame.proofs.BlockLemmas.{IsHeaderOf, header_facts, frame_complete}
 use Rattle.mt_frame.proofs.LawLemmas.{one_file}
 use Rattle.mt_granules.specs.Walking.{HasPayload, StartsWithFrame}
 

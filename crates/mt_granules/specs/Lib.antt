@@ -8,3 +8,4 @@ pub mod PayloadReading
 pub mod PayloadView
 pub mod Walking
 pub mod ColumnRows
+pub mod ByteFiles

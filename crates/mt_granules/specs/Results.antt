@@ -1,5 +1,5 @@
 -- What the readers of files give.
-use Rattle.std.specs.Prelude.{◌≡◌, List, Result, Ok, Err}
+use Rattle.std.specs.Prelude.{◌≡◌, Result, Ok, Err}
 use Rattle.mt_shelf.specs.declared.fault.Fault.{Fault}
 use Rattle.mt_shelf.specs.declared.fault.ReadError.{ReadError}
 use Rattle.mt_shelf.specs.declared.fault.ReadError.TheVariants as read

@@ -1,11 +1,11 @@
 -- The writer's granules, one row at a time.
-use Rattle.std.proofs.Common.{◌≡◌, ℕ, zero, suc, ◌+◌, ◌-◌, ◌<◌, ◌≤◌, ◌^◌, min, Bool, true, false, List, [], ◌∷◌, ◌++◌, length, take, drop, get_or, refl, ap, sym, ◌∙◌, arith, inl, inr, append_assoc, append-nil, length-append}
-use Rattle.std.specs.Prelude.{nat_le, nat_lt, ◌||◌, if◌then◌else◌}
+use Rattle.std.proofs.Common.{◌≡◌, ℕ, ◌+◌, ◌-◌, ◌<◌, ◌^◌, min, Bool, true, false, List, [], ◌∷◌, ◌++◌, length, take, drop, get_or, refl, ap, sym, ◌∙◌, arith, append_assoc, length-append}
+use Rattle.std.specs.Prelude.{nat_le, ◌||◌, if◌then◌else◌}
 use Rattle.std.proofs.lemmas.List.{drop_more, take_more}
 use Rattle.mt_table.specs.declared.column.Column.{Column}
 use Rattle.mt_table.specs.declared.settings.Settings.{Settings}
 use Rattle.mt_defs.specs.Rows.{Row}
-use Rattle.mt_defs.specs.WrittenGranules.{granules_from, is_full, last_granule, payload_size, written_granules}
+use Rattle.mt_defs.specs.WrittenGranules.{granules_from, is_full, payload_size, written_granules}
 use Rattle.mt_layout.specs.Sizes.{row_size, saturated}
 use Rattle.mt_layout.proofs.PayloadLemmas.{payload_size-push, payload_size-none}
 

@@ -1,18 +1,14 @@
 -- The sizes of items, by the type.
-use Rattle.std.proofs.Common.{◌≡◌, ℕ, ℤ, pos, List, [], ◌∷◌, ◌++◌, length, replicate, refl, ap, sym, ◌∙◌, arith}
+use Rattle.std.proofs.Common.{◌≡◌, ℕ, ℤ, List, [], ◌++◌, length, replicate, ap, sym, ◌∙◌, arith}
 use Rattle.std.specs.Int.{w16}
 use Rattle.std.proofs.lemmas.List.{length-replicate}
 use Rattle.mt_types.specs.declared.ty.Width.{Width}
-use Rattle.mt_types.specs.declared.ty.Agg.{Agg}
 use Rattle.mt_types.specs.declared.ty.Ty.{Ty, map-Ty, out-Ty}
 use Rattle.mt_types.specs.declared.ty.Ty.TheOpen.{Ty-F}
 use Rattle.mt_types.specs.declared.ty.Ty.TheVariants.{UInt, Int, Date, FixedString, Str, outs-UInt, outs-Int, outs-Date, outs-FixedString, outs-Str}
-use Rattle.mt_types.specs.declared.value.Value.{Value, out-Value}
-use Rattle.mt_types.specs.declared.value.Value.TheOpen.{Value-F}
+use Rattle.mt_types.specs.declared.value.Value.{Value}
 use Rattle.mt_types.specs.declared.value.Value.TheVariants.{Num, Text, outs-Num, outs-Text}
-use Rattle.mt_types.specs.Defaults.{default_of, default_at}
 use Rattle.mt_types.specs.Items.{item_bytes, item_step, whole, whole_at, fixed_at, text_at, state_at, width}
-use Rattle.mt_types.specs.Leb128.{leb128}
 use Rattle.mt_types.proofs.Leb128Lemmas.{leb128_small}
 use Rattle.mt_types.proofs.Levels.{same_level}
 use Rattle.mt_agg.proofs.StateLemmas.{item_at}

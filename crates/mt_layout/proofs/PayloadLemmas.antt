@@ -1,14 +1,13 @@
 -- The payload bytes of rows are the sum of those of each row.
-use Rattle.std.proofs.Common.{◌≡◌, ℕ, zero, suc, ◌+◌, ◌-◌, ◌<◌, ◌≤◌, ◌^◌, min, List, [], ◌∷◌, ◌++◌, length, map, take, get_or, refl, ap, sym, ◌∙◌, arith}
+use Rattle.std.proofs.Common.{◌≡◌, ℕ, suc, ◌+◌, ◌-◌, ◌<◌, ◌≤◌, ◌^◌, min, List, [], ◌∷◌, ◌++◌, length, map, take, get_or, refl, ap, sym, ◌∙◌, arith}
 use Rattle.std.specs.List.{sum, sum_by, enumerate_from}
 use Rattle.std.proofs.lemmas.List.{map-append, take_more, take_all, length-take-le}
 use Rattle.std.proofs.lemmas.List.Sums.{sum_by-cons, sum-map}
-use Rattle.mt_types.specs.declared.value.Value.{Value}
 use Rattle.mt_table.specs.declared.column.Column.{Column}
 use Rattle.mt_defs.specs.Rows.{Row, cell, column_values}
 use Rattle.mt_defs.specs.WrittenGranules.{column_size, payload_size}
 use Rattle.mt_layout.specs.Sizes.{value_size, row_size, saturated}
-use Rattle.mt_layout.proofs.StreamLemmas.{streams_size, additive, streams_size_none}
+use Rattle.mt_layout.proofs.StreamLemmas.{streams_size, additive}
 
 -- the payload bytes of columns from an index on
 abbrev pub columns_size : ℕ → List Column → List Row → ℕ

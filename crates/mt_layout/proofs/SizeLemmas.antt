@@ -1,9 +1,8 @@
 -- The size of a value, by the outermost level of its type.
-use Rattle.std.proofs.Common.{◌≡◌, ℕ, ℤ, ◌+◌, ◌-◌, ◌<◌, ◌^◌, min, Bool, true, false, List, [], ◌∷◌, ◌++◌, length, map, replicate, refl, ap, sym, ◌∙◌, arith, append-nil}
+use Rattle.std.proofs.Common.{◌≡◌, ℕ, ◌+◌, ◌-◌, ◌<◌, ◌^◌, min, List, [], ◌∷◌, ◌++◌, length, map, replicate, refl, ap, sym, ◌∙◌, arith, append-nil}
 use Rattle.std.specs.Prelude.{if◌then◌else◌}
-use Rattle.std.specs.List.{flat_map, sum, sum_by}
-use Rattle.mt_types.specs.declared.ty.Agg.{Agg}
-use Rattle.mt_types.specs.declared.ty.Ty.{Ty, map-Ty, out-Ty}
+use Rattle.std.specs.List.{sum, sum_by}
+use Rattle.mt_types.specs.declared.ty.Ty.{Ty, out-Ty}
 use Rattle.mt_types.specs.declared.ty.Ty.TheOpen.{Ty-F}
 use Rattle.mt_types.specs.declared.ty.Ty.TheVariants.{Nullable, Array, FixedString, Str, outs-Nullable, outs-Array, outs-FixedString, outs-Str}
 use Rattle.mt_types.specs.declared.value.Value.{Value, out-Value, roll-Value}

@@ -1,12 +1,11 @@
 -- What the writer stores in a projection of rows within the limits is what a part of it may hold.
-use Rattle.std.proofs.Common.{◌≡◌, ◌≢◌, ℕ, zero, suc, ◌+◌, ◌*◌, ◌<◌, ◌≤◌, Bool, true, false, not, cond, List, [], ◌∷◌, ◌++◌, length, map, get_or, All, refl, ap, sym, ◌∙◌, subst, arith, inl, inr}
-use Rattle.std.specs.Prelude.{IsTrue, nat_lt}
-use Rattle.std.specs.List.{filter, list_any, range_with_len}
+use Rattle.std.proofs.Common.{◌≡◌, ◌≢◌, ℕ, zero, suc, ◌+◌, ◌*◌, ◌<◌, ◌≤◌, Bool, true, false, not, cond, List, [], ◌∷◌, ◌++◌, length, map, get_or, All, refl, ap, sym, ◌∙◌, subst, arith}
+use Rattle.std.specs.List.{filter, range_with_len}
 use Rattle.std.specs.List.Sorted.{IsPermutation, IsSorted}
 use Rattle.std.specs.Ordering.{is_gt, is_lt, ordering_reverse}
 use Rattle.std.specs.declared.cmp.Ordering.{Ordering}
 use Rattle.std.specs.declared.cmp.Ordering.TheVariants.{Less, Equal, Greater}
-use Rattle.std.proofs.lemmas.Bool.{ltb-false, or_cases}
+use Rattle.std.proofs.lemmas.Bool.{ltb-false}
 use Rattle.std.proofs.lemmas.List.{same_lists, get_or_append_left, get_or_default, length-map}
 use Rattle.std.proofs.lemmas.List.Elements.{All-head, All-tail, All-map, All-weaker}
 use Rattle.std.proofs.lemmas.List.Sorted.{IsPermutation-map, IsPermutation-sym}
@@ -27,7 +26,7 @@ use Rattle.mt_defs.specs.Folds.{fold_of}
 use Rattle.mt_defs.specs.Lists.{distinct_by}
 use Rattle.mt_defs.specs.Projections.{inner_of, is_same_key, stored_columns, with_key}
 use Rattle.mt_defs.specs.Rows.{Row, RowFits, ArePartRows, cell, key_cmp, key_of}
-use Rattle.mt_defs.specs.Sorting.{sorted_by, sorted_rows}
+use Rattle.mt_defs.specs.Sorting.{sorted_rows}
 use Rattle.mt_defs.specs.Writer.{folded_row, projection_rows}
 use Rattle.mt_defs.proofs.Sorted.{IsSorted-sorted_rows, length-sorted_rows, some_sorted_rows}
 use Rattle.mt_proj.proofs.OrderLemmas.{IsPermutation-sorted_by, map-sorted_by, sorted_same}

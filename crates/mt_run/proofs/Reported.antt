@@ -1,12 +1,12 @@
 -- What stays true as the answer of a command is reported.
-use Rattle.std.proofs.Common.{◌≡◌, ◌⊎◌, inl, inr, ℕ, List, [], ◌++◌, length, take, Option, Some, None, IfSome, IsSome, refl, ap, sym, ◌∙◌, subst}
+use Rattle.std.proofs.Common.{◌≡◌, ◌⊎◌, inl, inr, ℕ, List, [], length, Option, Some, None, IfSome, IsSome, refl, ap, sym, ◌∙◌, subst}
 use Rattle.std.proofs.lemmas.List.{append-nil}
 use Rattle.std.proofs.Math.Seq.{take-length}
 use Rattle.std.specs.Io.KnownBytes.{append_known}
 use Rattle.mt_shelf.specs.Streams.{GrowsByPrefix}
 use Rattle.mt_shelf.specs.Causes.{Rose}
 use Rattle.mt_run.specs.Notes.{Noted, IsReported, line_of}
-use Rattle.mt_run.specs.Plans.{Plan, World, Meets, Leaves, CausedBy, Performs, Gains, PrintsPrefix, Answers, refusal_of}
+use Rattle.mt_run.specs.Plans.{Plan, World, Leaves, CausedBy, Performs, PrintsPrefix, Answers, refusal_of}
 use Rattle.mt_run.specs.declared.status.Status.{Status}
 use Rattle.mt_run.specs.declared.status.Status.TheVariants.{Done, BadWords, NoTable, BadTable, Exists, NoRows, BadRows, ManyPartitions, TooMuch, SourceFault, ShelfFault, SinkFault, NoMemory}
 

@@ -1,14 +1,11 @@
 -- What `write` publishes is the folder of writable rows, and so stands for them.
-use Rattle.std.proofs.Common.{◌≡◌, ◌≢◌, ℕ, Bool, true, false, List, [], ◌∷◌, ◌||◌, ◌≤◌, length, get_or, All, Result, Ok, Err, refl, ap, sym, ◌∙◌, subst, arith, inl, inr}
-use Rattle.std.specs.Prelude.{IsTrue, nat_lt, if◌then◌else◌}
+use Rattle.std.proofs.Common.{◌≡◌, ◌≢◌, ℕ, Bool, true, false, List, [], ◌∷◌, ◌||◌, ◌≤◌, get_or, All, Result, Ok, Err, refl, ap, sym, subst, arith}
+use Rattle.std.specs.Prelude.{IsTrue, nat_lt}
 use Rattle.std.specs.List.{list_all, list_any}
 use Rattle.std.proofs.lemmas.List.Elements.{All-nil, All-cons}
-use Rattle.mt_types.proofs.StepLemmas.{both_true}
 use Rattle.mt_shelf.specs.declared.file.FileBytes.{FileBytes}
 use Rattle.mt_table.specs.declared.definition.Table.{Table}
-use Rattle.mt_table.specs.declared.limits.TheConstants.{MAX_CELLS, MAX_ROWS}
-use Rattle.mt_table.specs.declared.projection.Projection.{Projection}
-use Rattle.mt_table.specs.Kept.{keeps_projection}
+use Rattle.mt_table.specs.declared.limits.TheConstants.{MAX_CELLS}
 use Rattle.mt_table.specs.Rows.{cell_count}
 use Rattle.mt_tsv.specs.declared.fault.RowError.{RowError}
 use Rattle.mt_tsv.specs.Reading.{rows_reading}
@@ -16,10 +13,9 @@ use Rattle.mt_tsv.proofs.RowLimits as limits
 use Rattle.mt_tsv.proofs.RowsFit.{rows_fit}
 use Rattle.mt_defs.specs.Folder as folders
 use Rattle.mt_defs.specs.Part.{StandsFor}
-use Rattle.mt_defs.specs.Projections.{inner_of}
-use Rattle.mt_defs.specs.Rows.{Row, RowFits, ArePartRows}
+use Rattle.mt_defs.specs.Rows.{Row, RowFits}
 use Rattle.mt_defs.specs.Sorting.{sorted_rows}
-use Rattle.mt_defs.specs.Writer.{IsWritable, projection_rows, written_folder}
+use Rattle.mt_defs.specs.Writer.{IsWritable, written_folder}
 use Rattle.mt_defs.proofs.Sorted.{IsSorted-sorted_rows, All-sorted_rows, cell_count-sorted_rows, length-sorted_rows, some_sorted_rows}
 use Rattle.mt_written.specs.Texts.{HoldBytes, holds_bytes}
 use Rattle.mt_written.proofs.StandLemmas.{written_stands}

@@ -1,5 +1,5 @@
 -- The steps of a command: each uses one object, or none.
-use Rattle.std.specs.Prelude.{◌≡◌, ◌⊎◌, ℕ, List, Option, Result, Ok, Err}
+use Rattle.std.specs.Prelude.{◌≡◌, ◌⊎◌, ℕ, Option, Result, Ok, Err}
 use Rattle.mt_shelf.specs.Causes.{Rose}
 use Rattle.mt_shelf.specs.Files.{Files}
 use Rattle.mt_run.specs.declared.status.Status.{Status}

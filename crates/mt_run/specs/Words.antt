@@ -1,5 +1,5 @@
 -- The words of a call, and the command that they are: docs/CLI.md.
-use Rattle.std.specs.Prelude.{◌≡◌, ℕ, ◌+◌, ◌-◌, ◌*◌, nat_le, Bool, false, ◌&&◌, List, [], ◌∷◌, Option, None, Some, is_some, if◌then◌else◌, codes}
+use Rattle.std.specs.Prelude.{ℕ, ◌+◌, ◌-◌, ◌*◌, nat_le, Bool, ◌&&◌, List, [], ◌∷◌, Option, None, Some, is_some, if◌then◌else◌, codes}
 use Rattle.std.specs.Str.{bytes_eq}
 use Rattle.mt_shelf.specs.Paths.{is_path}
 use Rattle.mt_run.specs.Plans.{Plan}

@@ -1,9 +1,9 @@
 -- A column has as many file names as substreams.
-use Rattle.std.proofs.Common.{◌≡◌, ℕ, suc, ◌+◌, List, ◌++◌, length, map, refl, ap, sym, ◌∙◌, subst}
+use Rattle.std.proofs.Common.{◌≡◌, ℕ, suc, ◌+◌, List, ◌++◌, length, refl, ap, sym, ◌∙◌, subst}
 use Rattle.std.proofs.lemmas.List.{length-map}
-use Rattle.mt_types.specs.declared.ty.Ty.{Ty, map-Ty, roll-Ty}
+use Rattle.mt_types.specs.declared.ty.Ty.{Ty, map-Ty}
 use Rattle.mt_types.specs.declared.ty.Ty.TheOpen.{Ty-F}
-use Rattle.mt_types.specs.declared.ty.Ty.TheFolds.{fold-Ty, fold-roll-Ty, ind-Ty}
+use Rattle.mt_types.specs.declared.ty.Ty.TheFolds.{fold-roll-Ty, ind-Ty}
 use Rattle.mt_table.specs.declared.column.Column.{Column}
 use Rattle.mt_codec.specs.declared.stream.Stream.{Stream}
 use Rattle.mt_codec.specs.StreamOrder.{order_step, streams_from, streams_of}

@@ -1,13 +1,11 @@
 -- Reading the columns of a Wide part one after another.
-use Rattle.std.proofs.Common.{◌≡◌, ℕ, ◌+◌, ◌*◌, ◌<◌, ◌≤◌, suc, List, [], ◌∷◌, ◌++◌, length, map, take, drop, get_or, refl, ap, sym, ◌∙◌, subst, arith, Bor}
-use Rattle.std.specs.Prelude.{Result, Ok, Err, All, sum, slice_index_or}
-use Rattle.std.specs.List.{enumerate_from}
-use Rattle.std.proofs.lemmas.List.{length-map, map-append, take_more, get_or_default}
+use Rattle.std.proofs.Common.{◌≡◌, ℕ, ◌+◌, ◌<◌, ◌≤◌, suc, List, [], ◌∷◌, ◌++◌, length, map, take, get_or, refl, ap, sym, ◌∙◌, subst, Bor}
+use Rattle.std.specs.Prelude.{Result, Ok, All, sum, slice_index_or}
+use Rattle.std.proofs.lemmas.List.{length-map, map-append, take_more}
 use Rattle.std.proofs.lemmas.List.Elements.{All-append, All-cons, All-nil}
 use Rattle.mt_types.specs.declared.value.Value.{Value}
 use Rattle.mt_types.specs.Steps.{◌>>=◌}
 use Rattle.mt_types.proofs.StepLemmas.{then_of}
-use Rattle.mt_shelf.specs.declared.fault.Fault.{Fault}
 use Rattle.mt_table.specs.Rows.{Pointwise}
 use Rattle.mt_table.specs.declared.column.Column.{Column}
 use Rattle.mt_defs.specs.Folder.{Folder}
@@ -15,12 +13,10 @@ use Rattle.mt_defs.specs.Rows.{Row}
 use Rattle.mt_codec.specs.StreamOrder.{streams_of}
 use Rattle.mt_codec.specs.Results.{bytes_of as slice_bytes}
 use Rattle.mt_defs.specs.FileNames.{stream_names}
-use Rattle.mt_granules.specs.declared.fault.FileError.{FileError}
 use Rattle.mt_granules.specs.declared.payloads.Payloads.{Payloads}
 use Rattle.mt_granules.specs.declared.payloads.Payload.{Payload}
 use Rattle.mt_granules.specs.FileFaults.{Judged, in_order}
 use Rattle.mt_granules.specs.PayloadView.{bytes_of, payloads_in}
-use Rattle.mt_granules.specs.Results.{FailsAs}
 use Rattle.mt_granules.specs.ColumnRows.{all_values, rows_of, with_column}
 use Rattle.mt_granules.proofs.OrderLemmas.{order_continues, order_each, order_ends}
 use Rattle.mt_granules.proofs.RowLemmas.{column_added, length-all_values, length-rows_of}

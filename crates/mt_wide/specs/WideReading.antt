@@ -1,9 +1,9 @@
 -- The rows of the files of a Wide part, or their first fault: docs/FORMAT.md, "Wide parts" and "The first fault"
 -- (ClickHouse: MergeTreeReaderWide).
-use Rattle.std.specs.Prelude.{ℕ, ◌+◌, ◌==◌, List, [], ◌∷◌, length, map, slice_index_or, Result, Ok, Err}
+use Rattle.std.specs.Prelude.{ℕ, ◌+◌, ◌==◌, List, [], ◌∷◌, length, map, slice_index_or, Ok}
 use Rattle.std.specs.List.{enumerate_from}
 use Rattle.mt_types.specs.declared.value.Value.{Value}
-use Rattle.mt_types.specs.Steps.{◌>>=◌, require, onto}
+use Rattle.mt_types.specs.Steps.{◌>>=◌, require}
 use Rattle.mt_table.specs.declared.column.Column.{Column}
 use Rattle.mt_item.specs.declared.fault.CodecWhy.{CodecWhy}
 use Rattle.mt_shelf.specs.declared.fault.Fault.{Fault}

@@ -5,7 +5,7 @@ use crate::parts::Part;
 
 /// Three rows in two granules, as the writer has them but for the checksums.
 pub const WRITTEN: Part = Part {
-    columns: "k UInt32, s String",
+    columns: [("k", "UInt32"), ("s", "String")],
     count: 3,
     files: &[
         ("k.bin", Frames(&[b"\x01\0\0\0\x02\0\0\0", b"\x03\0\0\0"])),
@@ -17,7 +17,7 @@ pub const WRITTEN: Part = Part {
 
 /// The same with all of the key in one frame, and the texts in frames of one, two and three bytes.
 pub const RECUT: Part = Part {
-    columns: "k UInt32, s String",
+    columns: [("k", "UInt32"), ("s", "String")],
     count: 3,
     files: &[
         ("s.mrk2", Numbers(&[0, 0, 2, 53, 1, 1, 81, 0, 0])),
@@ -29,7 +29,7 @@ pub const RECUT: Part = Part {
 
 /// The worked example of arrays, NULL and texts: a granule a row.
 pub const NESTED: Part = Part {
-    columns: "k UInt8, a Array(Nullable(String))",
+    columns: [("k", "UInt8"), ("a", "Array(Nullable(String))")],
     count: 2,
     files: &[
         ("k.bin", Frames(&[b"\x01", b"\x02"])),
@@ -48,7 +48,7 @@ pub const NESTED: Part = Part {
 
 /// The three rows in the two files of a Compact part.
 pub const COMPACT: Part = Part {
-    columns: "k UInt32, s String",
+    columns: [("k", "UInt32"), ("s", "String")],
     count: 3,
     files: &[
         (
@@ -69,7 +69,7 @@ pub const COMPACT: Part = Part {
 
 /// A key, and values or NULL, in one granule; any item stands under NULL.
 pub const NULLABLE: Part = Part {
-    columns: "k UInt8, n Nullable(UInt8)",
+    columns: [("k", "UInt8"), ("n", "Nullable(UInt8)")],
     count: 3,
     files: &[
         ("k.bin", Frames(&[b"\x01\x02\x03"])),

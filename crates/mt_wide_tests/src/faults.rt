@@ -2,8 +2,8 @@
 
 use crate::examples::{COMPACT, NESTED, NULLABLE, WRITTEN};
 use crate::files::Content::{Absent, Bytes, Frames, Numbers};
-use crate::files::File;
-use crate::parts::{Part, compact_text, wide_text};
+use crate::files::{Content, File};
+use crate::parts::{compact_text, wide_text};
 use std::test::Fail;
 
 /// Files that are changed, and the fault that is named.
@@ -191,44 +191,62 @@ fn first_faults_of_compact_parts_are_named(rt: HostRuntime) -> Result<(), Fail> 
     Ok(())
 }
 
-/// All files of a column are judged before its values, and in a granule its substreams in their order.
+/// Sizes of arrays, of which the second is above the limit.
+const LONG: Content = Frames(&[b"\0\0\0\0\0\0\0\0", b"\x02\0\0\0\0\0\x10\0"]);
+
+/// Of the arrays of texts: all files of a column are judged before its values, and in a granule its substreams in
+/// their order.
+const ARRAYS: [Case; 3] = [
+    (
+        &[("a.size0.bin", LONG), ("a.null.bin", Absent)],
+        "a.null.bin: Missing",
+    ),
+    (
+        &[("a.size0.bin", LONG), ("a.null.bin", Frames(&[b"\0\x02"]))],
+        "a.size0.bin granule 1: TooLong",
+    ),
+    (
+        &[
+            ("a.null.bin", Frames(&[b"\0\x02"])),
+            ("a.bin", Frames(&[b"\x03a'b\x09"])),
+        ],
+        "a.null.bin granule 1: NullByte",
+    ),
+];
+
+/// Of the numbers and NULL, in one granule.
+const NULLS: [Case; 2] = [
+    (
+        &[
+            ("n.bin", Frames(&[b"\x01\x07"])),
+            ("n.mrk2", Numbers(&[0, 0, 3, 27, 0, 0])),
+        ],
+        "n.bin granule 0: Short",
+    ),
+    (
+        &[
+            ("n.null.bin", Frames(&[b"\0\x01\0\0"])),
+            ("n.null.mrk2", Numbers(&[0, 0, 3, 29, 0, 0])),
+        ],
+        "n.null.bin granule 0: Over",
+    ),
+];
+
 #[test]
-fn faults_of_substreams_are_named_in_order(rt: HostRuntime) -> Result<(), Fail> {
+fn faults_of_arrays_are_named_in_order(rt: HostRuntime) -> Result<(), Fail> {
     let alloc = rt.alloc();
-    let sizes = (
-        "a.size0.bin",
-        Frames(&[b"\0\0\0\0\0\0\0\0", b"\x02\0\0\0\0\0\x10\0"]),
-    );
-    let cases: [(Part, &[File], &str); 4] = [
-        (
-            NESTED,
-            &[sizes, ("a.null.bin", Absent)],
-            "a.null.bin: Missing",
-        ),
-        (
-            NESTED,
-            &[sizes, ("a.null.bin", Frames(&[b"\0\x02"]))],
-            "a.size0.bin granule 1: TooLong",
-        ),
-        (
-            NESTED,
-            &[
-                ("a.null.bin", Frames(&[b"\0\x02"])),
-                ("a.bin", Frames(&[b"\x03a'b\x09"])),
-            ],
-            "a.null.bin granule 1: NullByte",
-        ),
-        (
-            NULLABLE,
-            &[
-                ("n.bin", Frames(&[b"\x01\x07"])),
-                ("n.mrk2", Numbers(&[0, 0, 3, 27, 0, 0])),
-            ],
-            "n.bin granule 0: Short",
-        ),
-    ];
-    for (part, changed, fault) in cases {
-        let read = wide_text(alloc, &part, changed)?;
+    for (changed, fault) in ARRAYS {
+        let read = wide_text(alloc, &NESTED, changed)?;
+        assert_eq!(rt; read.as_slice(), fault.as_bytes(), "at {fault}");
+    }
+    Ok(())
+}
+
+#[test]
+fn faults_of_null_maps_are_named_in_order(rt: HostRuntime) -> Result<(), Fail> {
+    let alloc = rt.alloc();
+    for (changed, fault) in NULLS {
+        let read = wide_text(alloc, &NULLABLE, changed)?;
         assert_eq!(rt; read.as_slice(), fault.as_bytes(), "at {fault}");
     }
     Ok(())

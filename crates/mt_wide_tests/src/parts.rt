@@ -1,11 +1,14 @@
 //! What parts are read as, in words.
 
+ghost use Rattle.std.specs.Prelude.{IfOk, IsTrue};
+ghost use Rattle.mt_types.specs.Profile.{is_profile};
+
 use crate::files::{File, files_of};
 use mt_compact::read_compact;
 use mt_shelf::ReadError;
-use mt_table::{Column, Table};
+use mt_table::Column;
 use mt_tsv::write_row;
-use mt_types::{List, Row};
+use mt_types::{List, Row, Ty};
 use mt_wide::read_wide;
 use std::alloc::Global;
 use std::test::Fail;
@@ -13,10 +16,13 @@ use std::test::Fail;
 /// What is read of files: the lines of the rows and the rows of each granule, or an error.
 type Read = Result<(List<Row>, List<u64>), ReadError>;
 
-/// A part: its columns, the rows that it must have, and its files.
+/// A column's name and the name of its type.
+pub type Named = (&'static str, &'static str);
+
+/// A part: its two columns, the rows that it must have, and its files.
 #[derive(Clone, Copy)]
 pub struct Part {
-    pub columns: &'static str,
+    pub columns: [Named; 2],
     pub count: u64,
     pub files: &'static [File],
 }
@@ -24,40 +30,43 @@ pub struct Part {
 /// The most rows of a part here.
 const MOST_ROWS: u64 = 100;
 
-/// A table of these columns, whose key is `k`.
-pub fn table_of(alloc: Global, columns: &str) -> Result<Table, Fail> {
-    let text = format!(in alloc; "CREATE TABLE t ({columns}) ENGINE = MergeTree ORDER BY k")?;
-    Ok(Table::read(alloc, text.as_bytes())?)
+/// A column.
+fn column_of(alloc: Global, name: &str, ty: &str) -> Result<Column, Fail>
+    ensures { IfOk result (λ column. IsTrue (is_profile column.ty)) }
+{
+    let name = List::of_bytes(alloc, name.as_bytes())?;
+    let ty = Ty::read_name(alloc, ty.as_bytes())?;
+    Ok(Column { name, ty })
 }
 
 /// What a Wide part is read as, some of its files changed.
 pub fn wide_text(alloc: Global, part: &Part, changed: &[File]) -> Result<List<u8>, Fail> {
-    let table = table_of(alloc, part.columns)?;
     let files = files_of(alloc, part.files, changed)?;
-    let columns = table.columns.as_slice();
+    let [(key, key_type), (value, value_type)] = part.columns;
+    let columns = [
+        column_of(alloc, key, key_type)?,
+        column_of(alloc, value, value_type)?,
+    ];
     if part.count == 0 || part.count > MOST_ROWS {
         return Err(Fail::new("a part with too many rows"));
     }
-    text_of(
-        alloc,
-        columns,
-        read_wide(alloc, columns, part.count, files.as_slice()),
-    )
+    let read = read_wide(alloc, &columns, part.count, files.as_slice());
+    text_of(alloc, &columns, read)
 }
 
 /// What a Compact part is read as, some of its files changed.
 pub fn compact_text(alloc: Global, part: &Part, changed: &[File]) -> Result<List<u8>, Fail> {
-    let table = table_of(alloc, part.columns)?;
     let files = files_of(alloc, part.files, changed)?;
-    let columns = table.columns.as_slice();
+    let [(key, key_type), (value, value_type)] = part.columns;
+    let columns = [
+        column_of(alloc, key, key_type)?,
+        column_of(alloc, value, value_type)?,
+    ];
     if part.count == 0 || part.count > MOST_ROWS {
         return Err(Fail::new("a part with too many rows"));
     }
-    text_of(
-        alloc,
-        columns,
-        read_compact(alloc, columns, part.count, files.as_slice()),
-    )
+    let read = read_compact(alloc, &columns, part.count, files.as_slice());
+    text_of(alloc, &columns, read)
 }
 
 /// The lines of the rows, and then the rows of each granule; or the fault.

@@ -1,6 +1,6 @@
 -- The worked example's folder stands for its rows.
-use Rattle.std.proofs.Common.{◌≡◌, ℕ, ◌≤◌, Bool, true, List, [], ◌∷◌, refl, ap, sym, ◌∙◌, subst, lit<, lit≤, arith, get_or}
-use Rattle.std.specs.Prelude.{All, IsTrue, codes, pos}
+use Rattle.std.proofs.Common.{◌≡◌, ℕ, ◌≤◌, Bool, true, [], ◌∷◌, refl, ap, sym, ◌∙◌, subst, lit≤}
+use Rattle.std.specs.Prelude.{All, IsTrue, pos}
 use Rattle.std.specs.List.Sorted.{IsSorted}
 use Rattle.std.specs.List.{list_all}
 use Rattle.std.proofs.lemmas.Bool.{and_from}

@@ -1,11 +1,11 @@
 -- What rows must be, for which a folder of the worked example's table stands.
-use Rattle.std.proofs.Common.{◌≡◌, ◌⊎◌, ℕ, zero, suc, ◌+◌, ◌-◌, ◌*◌, ◌<◌, ◌≤◌, Bool, true, false, List, [], ◌∷◌, ◌++◌, length, map, take, drop, get_or, refl, ap, sym, ◌∙◌, subst, arith, lit<, inl, inr}
+use Rattle.std.proofs.Common.{◌≡◌, ◌⊎◌, ℕ, zero, suc, ◌+◌, ◌-◌, true, false, List, [], ◌∷◌, ◌++◌, length, map, take, drop, get_or, refl, ap, sym, ◌∙◌, subst, arith, lit<, inl, inr}
 use Rattle.std.specs.Prelude.{All, IsTrue, Option, Some, None, is_some, Contains, codes, sum}
 use Rattle.std.specs.List.{flat_map, concat, enumerate_from, range_with_len}
 use Rattle.std.specs.List.Sorted.{IsPermutation, IsSorted}
 use Rattle.std.specs.Fmt.{digits}
 use Rattle.std.proofs.lemmas.Option.{same_Some}
-use Rattle.std.proofs.lemmas.List.{take-append-drop, map-append, length-map, length-append, length-drop}
+use Rattle.std.proofs.lemmas.List.{take-append-drop, map-append, length-map, length-drop}
 use Rattle.std.proofs.lemmas.List.Concat.{flat_map-append}
 use Rattle.std.proofs.lemmas.List.Elements.{All-head, All-weaker}
 use Rattle.std.proofs.lemmas.List.Sorted.{length_permutation, Contains-permutation}
@@ -26,11 +26,11 @@ use Rattle.mt_defs.specs.FileNames.{data_name, marks_name, stream_names}
 use Rattle.mt_defs.specs.Frames.{IsFramed}
 use Rattle.mt_defs.specs.Marks.{IsMarksFile}
 use Rattle.mt_defs.specs.Wide.{HasColumn, HasStream, IsWide, stream_payloads}
-use Rattle.mt_defs.specs.Compact.{IsCompact, compact_marks_name}
+use Rattle.mt_defs.specs.Compact.{compact_marks_name}
 use Rattle.mt_defs.specs.Metadata.{column_at, columns_name, columns_text}
 use Rattle.mt_defs.specs.PrimaryIndex.{index_name, primary_index_of}
 use Rattle.mt_defs.specs.Projections.{base_of}
-use Rattle.mt_defs.specs.Part.{StandsFor, HasColumns, is_compact}
+use Rattle.mt_defs.specs.Part.{StandsFor, HasColumns}
 use Rattle.mt_defs.specs.WorkedExample.{table, u64_column}
 use Rattle.mt_defs.proofs.Numbers.{stream_suffixes_UInt}
 use Rattle.mt_worked.specs.NumberColumns.{HasNumbers}

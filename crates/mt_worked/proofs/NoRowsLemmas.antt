@@ -1,6 +1,6 @@
 -- Folders near the worked example that stand for no rows.
-use Rattle.std.proofs.Common.{◌≡◌, ◌⊎◌, ℕ, zero, suc, ◌+◌, ◌-◌, ◌*◌, ◌%◌, ◌<◌, ◌≤◌, ◌^◌, min, Bool, true, false, List, [], ◌∷◌, ◌++◌, length, map, take, drop, get_or, refl, ap, sym, ◌∙◌, subst, arith, lit<, inl, inr}
-use Rattle.std.specs.Prelude.{All, IsTrue, Option, Some, None, Contains, Result, Ok, Err, codes, sum, replicate, pos}
+use Rattle.std.proofs.Common.{◌≡◌, ◌⊎◌, ℕ, ◌+◌, ◌-◌, ◌*◌, ◌%◌, ◌<◌, ◌≤◌, ◌^◌, min, true, false, List, [], ◌∷◌, ◌++◌, length, map, take, drop, get_or, refl, ap, sym, ◌∙◌, subst, arith, inl, inr}
+use Rattle.std.specs.Prelude.{All, IsTrue, Contains, Result, Ok, codes, sum, replicate, pos}
 use Rattle.std.specs.List.{flat_map, list_any}
 use Rattle.std.specs.List.Sorted.{IsSorted}
 use Rattle.std.specs.Int.{w64, to_le_bytes, from_le_bytes}
@@ -13,7 +13,6 @@ use Rattle.std.proofs.lemmas.List.Folds.{list_any_at}
 use Rattle.std.proofs.lemmas.List.Sums.{sum_by-cons}
 use Rattle.mt_types.specs.declared.ty.Ty.TheVariants.{UInt}
 use Rattle.mt_types.specs.declared.ty.Width.TheVariants.{W64}
-use Rattle.mt_types.specs.declared.value.Value.{Value}
 use Rattle.mt_types.specs.declared.value.Value.TheVariants.{Num}
 use Rattle.mt_types.specs.Fits.{fits_of}
 use Rattle.mt_types.specs.Items.{item_bytes}
@@ -24,12 +23,12 @@ use Rattle.mt_defs.specs.Folder.{Folder, folder_of, is_name}
 use Rattle.mt_defs.specs.Rows.{Row, cell, column_values, key_cmp}
 use Rattle.mt_defs.specs.Granules.{AreGranules, granule_rows}
 use Rattle.mt_defs.specs.FileNames.{data_name, marks_name, stream_names}
-use Rattle.mt_defs.specs.Frames.{Block, IsBlock, IsFileOf, IsFramed, block_bytes, file_of, payload_of}
-use Rattle.mt_defs.specs.Marks.{MarksPosition, MarksFrame, MarksEnd, marks_bytes, granule_starts, IsMarksFile}
+use Rattle.mt_defs.specs.Frames.{Block, IsFileOf, IsFramed, file_of, payload_of}
+use Rattle.mt_defs.specs.Marks.{MarksPosition, marks_bytes, granule_starts}
 use Rattle.mt_defs.specs.Metadata.{columns_name, count_name}
-use Rattle.mt_defs.specs.PrimaryIndex.{index_name, key_bytes, index_rows, primary_index_of}
+use Rattle.mt_defs.specs.PrimaryIndex.{index_name, key_bytes, primary_index_of}
 use Rattle.mt_defs.specs.Projections.{base_of}
-use Rattle.mt_defs.specs.Part.{StandsFor, known_names, side_names}
+use Rattle.mt_defs.specs.Part.{StandsFor, side_names}
 use Rattle.mt_defs.specs.WorkedExample.{table, u64_column, eight, data_of, seven_files}
 use Rattle.mt_defs.specs.WorkedExample as example
 use Rattle.mt_defs.proofs.Examples.{value_order}
@@ -38,7 +37,7 @@ use Rattle.mt_frame.specs.declared.fault.FrameWhy.{FrameWhy}
 use Rattle.mt_frame.specs.FrameReading.{frames_reading, frames_from, frame_reading}
 use Rattle.mt_frame.proofs.BlockLemmas.{frames_complete}
 use Rattle.mt_worked.specs.NumberColumns.{HasNumbers}
-use Rattle.mt_worked.specs.WrongFolders.{example_with, example_index, with_stray_file, with_short_index, with_sizes_that_disagree, with_rows_out_of_order, with_mark_off_by_one, wrong_header}
+use Rattle.mt_worked.specs.WrongFolders.{with_stray_file, with_short_index, with_sizes_that_disagree, with_rows_out_of_order, with_mark_off_by_one, wrong_header}
 use Rattle.mt_worked.proofs.ItemLemmas.{number_fits, fitting_is_number, number_item}
 use Rattle.mt_worked.proofs.NumberLemmas.{items_length}
 use Rattle.mt_written.proofs.LookupLemmas.{same_name}

@@ -1,7 +1,7 @@
 -- The writer's frames have their payload.
-use Rattle.std.proofs.Common.{◌≡◌, ℕ, zero, suc, ◌+◌, ◌-◌, ◌<◌, ◌≤◌, min, Bool, true, false, List, [], ◌∷◌, ◌++◌, length, take, drop, refl, ap, sym, ◌∙◌, arith, lit≤, lit<}
-use Rattle.std.specs.Prelude.{All, replicate, if◌then◌else◌}
-use Rattle.std.proofs.lemmas.List.{length-append, length-drop, length-take, take-append-drop}
+use Rattle.std.proofs.Common.{◌≡◌, ℕ, zero, suc, ◌-◌, ◌<◌, ◌≤◌, min, List, [], ◌∷◌, ◌++◌, length, take, drop, refl, ap, sym, ◌∙◌, arith, lit≤, lit<}
+use Rattle.std.specs.Prelude.{All, replicate}
+use Rattle.std.proofs.lemmas.List.{length-drop, length-take, take-append-drop}
 use Rattle.std.proofs.lemmas.List.Elements.{All-nil, All-cons, All-take, All-drop, All-replicate}
 use Rattle.mt_defs.specs.declared.frame.TheConstants.{CHECKSUM_BYTES, FRAME_PAYLOAD, MAX_PAYLOAD}
 use Rattle.mt_defs.specs.Frames.{Block, IsBlock, IsFramed, block_bytes, file_of, payload_of}

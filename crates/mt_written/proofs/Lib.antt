@@ -8,6 +8,7 @@ pub mod CompactLemmas
 pub mod DefinitionLemmas
 pub mod NameLemmas
 pub mod ApartLemmas
+pub mod PlainLemmas
 pub mod SuffixLemmas
 pub mod DataNames
 pub mod RuleLemmas
@@ -23,3 +24,5 @@ pub mod KnownLemmas
 pub mod OrderLemmas
 pub mod StandLemmas
 pub mod TextLemmas
+pub mod PlainPaths
+pub mod PathLemmas

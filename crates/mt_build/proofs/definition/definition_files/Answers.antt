@@ -1,6 +1,5 @@
-use Rattle.std.proofs.Common.{sym, subst, ap, ◌∙◌}
+use Rattle.std.proofs.Common.{sym, subst}
 use Rattle.mt_defs.specs.Granules.{AreGranules}
-use Rattle.mt_defs.specs.WrittenGranules.{written_granules}
 use Rattle.mt_layout.proofs.HoldLemmas.{granules_hold}
 use Rattle.mt_build.proofs.definition.definition_files.Goals as goal
 

@@ -1,4 +1,4 @@
-use Rattle.std.proofs.Common.{◌≡◌, ◌++◌, get_or, map, sym, subst, ap, ◌∙◌, All}
+use Rattle.std.proofs.Common.{◌++◌, get_or, map, sym, subst, ap, ◌∙◌, All}
 use Rattle.std.proofs.lemmas.List.{get_or_default}
 use Rattle.mt_table.specs.declared.definition.PartDef.{PartDef}
 use Rattle.mt_table.specs.Stored.{no_projection, projection_at}

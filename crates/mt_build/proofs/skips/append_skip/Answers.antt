@@ -1,4 +1,4 @@
-use Rattle.std.proofs.Common.{◌≡◌, ◌++◌, sym, subst, ap, ◌∙◌, map, length}
+use Rattle.std.proofs.Common.{◌++◌, sym, subst, ap, ◌∙◌, map, length}
 use Rattle.std.specs.Prelude.{codes}
 use Rattle.std.specs.List.{concat, flat_map}
 use Rattle.mt_granules.specs.declared.data_file.DataFile.{DataFile}

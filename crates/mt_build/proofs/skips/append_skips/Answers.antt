@@ -1,7 +1,4 @@
-use Rattle.std.proofs.Common.{◌≡◌, ap, sym, subst, ◌∙◌, get_or}
-use Rattle.mt_table.specs.declared.skip.Skip.{Skip}
 use Rattle.mt_defs.specs.WrittenSkips.{skip_files}
-use Rattle.mt_build.specs.SkipFiles.{IsSkip}
 use Rattle.mt_build.proofs.AppendLemmas.{files_step}
 use Rattle.mt_build.proofs.SkipLemmas.{skip_at}
 use Rattle.mt_build.proofs.skips.append_skips.Goals as goal

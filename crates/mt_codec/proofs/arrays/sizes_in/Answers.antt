@@ -1,4 +1,4 @@
-use Rattle.std.proofs.Common.{List, length, ◌<◌, Result, Err, ℕ, ◌∙◌, ap, sym, subst, arith}
+use Rattle.std.proofs.Common.{List, length, ◌<◌, Err, ℕ, ◌∙◌, ap, sym, subst, arith}
 use Rattle.mt_codec.specs.ColumnReading.{items_from, size_front}
 use Rattle.mt_codec.proofs.LoopLemmas.{ReadItems, Comes, goes, ends, fails}
 use Rattle.mt_codec.proofs.StreamLemmas.{at_found, at_fault}

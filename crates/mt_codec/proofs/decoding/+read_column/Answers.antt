@@ -1,4 +1,4 @@
-use Rattle.std.proofs.Common.{Bool, List, ℕ, Ok, Err, ◌≡◌, ◌+◌, sum, ap, sym, subst, ◌∙◌}
+use Rattle.std.proofs.Common.{Bool, List, ℕ, Ok, ◌≡◌, ◌+◌, sum, ap, sym, subst, ◌∙◌}
 use Rattle.std.proofs.lemmas.Result.{err_from_is_err_and}
 use Rattle.mt_types.specs.declared.ty.Ty.TheVariants.{Array}
 use Rattle.mt_types.specs.declared.value.Value.{Value}

@@ -1,4 +1,4 @@
-use Rattle.std.proofs.Common.{◌≡◌, true, List, ℕ, Ok, Err, ap, subst, ◌∙◌}
+use Rattle.std.proofs.Common.{true, List, ℕ, Ok, Err, ap, ◌∙◌}
 use Rattle.std.proofs.lemmas.List.{length-map}
 use Rattle.std.proofs.lemmas.Result.{err_from_is_err_and}
 use Rattle.mt_types.specs.declared.value.Value.{Value}

@@ -1,4 +1,4 @@
-use Rattle.std.proofs.Common.{◌≡◌, ◌≤◌, ◌-◌, List, ℕ, [], ◌∷◌, length, drop, Result, Ok, Err, false, ap, sym, subst, ◌∙◌, arith}
+use Rattle.std.proofs.Common.{◌≤◌, ◌-◌, List, ℕ, [], ◌∷◌, length, Result, Ok, Err, false, ap, sym, ◌∙◌, arith}
 use Rattle.std.proofs.lemmas.Result.{err_from_is_err_and}
 use Rattle.mt_types.specs.declared.value.Value.{Value}
 use Rattle.mt_types.specs.Steps.{◌>>=◌}

@@ -1,5 +1,4 @@
 use Rattle.std.proofs.lemmas.List.{get_or_default}
-use Rattle.mt_codec.specs.Results.{bytes_of}
 use Rattle.mt_codec.proofs.DecodedLemmas.{all_slices, one_slice}
 use Rattle.mt_codec.proofs.decoding.know_lists.Goals as goal
 

@@ -3,7 +3,7 @@ use Rattle.std.proofs.lemmas.Result.{err_from_is_err_and}
 use Rattle.mt_types.specs.declared.value.Value.{Value}
 use Rattle.mt_item.specs.ItemReading.{item_front}
 use Rattle.mt_codec.specs.Results.{FailsAs}
-use Rattle.mt_codec.specs.ColumnReading.{Read, stream_from, nullable_from}
+use Rattle.mt_codec.specs.ColumnReading.{Read, stream_from}
 use Rattle.mt_codec.specs.Cursor.{is_apart, lists}
 use Rattle.mt_codec.proofs.ColumnLemmas.{nullable_wrong, nullable_inner_wrong, nullable_read}
 use Rattle.mt_codec.proofs.decoding.read_nullable.Goals as goal

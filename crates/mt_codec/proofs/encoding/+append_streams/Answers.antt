@@ -1,15 +1,14 @@
-use Rattle.std.proofs.Common.{◌≡◌, ◌<◌, arith, ◌++◌, List, [], ◌∷◌, ℕ, true, sym, ◌∙◌, ap, subst, rules, append_assoc}
+use Rattle.std.proofs.Common.{◌≡◌, ◌<◌, arith, [], ◌∷◌, true, sym, ◌∙◌, ap, subst, rules}
 use Rattle.std.specs.Prelude.{OnOk}
 use Rattle.std.specs.List.{flat_map, list_all}
 use Rattle.mt_types.specs.declared.ty.Ty.TheVariants.{Nullable, Array}
-use Rattle.mt_types.specs.declared.value.Value.{Value, out-Value}
+use Rattle.mt_types.specs.declared.value.Value.{out-Value}
 use Rattle.mt_types.specs.Fits.{fits_of}
 use Rattle.mt_types.specs.Profile.{is_profile}
-use Rattle.mt_types.proofs.Levels.{kind-Array}
 use Rattle.mt_defs.specs.WrittenStreams.{elements_at, written_streams}
 use Rattle.mt_codec.specs.StreamOrder.{array_levels}
 use Rattle.mt_codec.specs.Runs.{values_of, written_item, null_item, size_item}
-use Rattle.mt_codec.proofs.WrittenLemmas.{single_items, nullable_items, single_of, fit_or_null, nullable_fit, nullable_single, nullable_written, array_fit, array_written, written_items, one_more, two_more, more_after, array_inside}
+use Rattle.mt_codec.proofs.WrittenLemmas.{single_items, single_of, fit_or_null, nullable_single, nullable_written, array_fit, array_written, written_items, one_more, two_more, more_after, array_inside}
 use Rattle.mt_codec.proofs.encoding.+append_streams.Goals as goal
 
 pub items_of-requires-in_default : goal.items_of-requires-in_default

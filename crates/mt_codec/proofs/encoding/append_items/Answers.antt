@@ -1,5 +1,4 @@
-use Rattle.std.proofs.Common.{◌≡◌, true, sym, subst, ap, ◌∙◌}
-use Rattle.mt_types.specs.declared.value.Value.{Value}
+use Rattle.std.proofs.Common.{◌≡◌, true, ap, ◌∙◌}
 use Rattle.mt_types.specs.Fits.{fits_of}
 use Rattle.mt_types.specs.Defaults.{default_of}
 use Rattle.mt_defs.specs.WrittenStreams.{or_default}

@@ -1,8 +1,7 @@
 use Rattle.std.specs.Borrow.{Bor}
 use Rattle.std.proofs.Common.{List}
-use Rattle.mt_types.specs.declared.value.Value.{Value, out-Value}
-use Rattle.mt_defs.specs.WrittenStreams.{elements_at}
-use Rattle.mt_codec.specs.Runs.{null_item, size_item, values_of, written_item, fits_or_null}
+use Rattle.mt_types.specs.declared.value.Value.{Value}
+use Rattle.mt_codec.specs.Runs.{written_item, fits_or_null}
 use Rattle.mt_codec.proofs.RunLemmas.{all_runs, all_of_run}
 use Rattle.mt_codec.proofs.encoding.items_with.Goals as goal
 

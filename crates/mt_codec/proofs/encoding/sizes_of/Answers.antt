@@ -1,9 +1,8 @@
 use Rattle.std.specs.Borrow.{Bor}
 use Rattle.std.proofs.Common.{List}
-use Rattle.mt_types.specs.declared.value.Value.{Value, out-Value}
-use Rattle.mt_defs.specs.WrittenStreams.{elements_at}
-use Rattle.mt_codec.specs.Runs.{null_item, size_item, values_of, written_item, fits_or_null}
-use Rattle.mt_codec.proofs.RunLemmas.{all_runs, all_of_run}
+use Rattle.mt_types.specs.declared.value.Value.{Value}
+use Rattle.mt_codec.specs.Runs.{size_item}
+use Rattle.mt_codec.proofs.RunLemmas.{all_runs}
 use Rattle.mt_codec.proofs.encoding.sizes_of.Goals as goal
 
 pub returns : goal.returns

@@ -1,4 +1,4 @@
-use Rattle.std.proofs.Common.{List, length, ◌<◌, ◌∙◌, ap, sym, subst, arith}
+use Rattle.std.proofs.Common.{List, length, ◌<◌, sym, subst, arith}
 use Rattle.mt_types.specs.declared.value.Value.{Value}
 use Rattle.mt_item.specs.ItemReading.{item_front}
 use Rattle.mt_codec.proofs.LoopLemmas.{Comes, starts, item_wrong, goes, ends, item_fails}

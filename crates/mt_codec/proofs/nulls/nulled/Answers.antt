@@ -1,4 +1,4 @@
-use Rattle.std.proofs.Common.{◌≡◌, ◌<◌, ◌∙◌, ℕ, List, length, set, ap, sym, arith, add-one}
+use Rattle.std.proofs.Common.{◌∙◌, ℕ, List, length, set, ap, sym, add-one}
 use Rattle.mt_types.specs.declared.value.Value.{Value}
 use Rattle.mt_types.specs.declared.value.Value.TheVariants.{Null}
 use Rattle.std.proofs.lemmas.List.{length-set}

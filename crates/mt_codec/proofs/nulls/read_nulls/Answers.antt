@@ -1,4 +1,4 @@
-use Rattle.std.proofs.Common.{length, ◌∙◌}
+use Rattle.std.proofs.Common.{length}
 use Rattle.std.proofs.lemmas.Result.{err_from_is_err_and}
 use Rattle.mt_codec.specs.ColumnReading.{null_front}
 use Rattle.mt_codec.specs.Cursor.{is_apart, lists, others}

@@ -1,4 +1,4 @@
-use Rattle.std.proofs.Common.{◌≡◌, ap, sym, ◌∙◌, arith}
+use Rattle.std.proofs.Common.{ap, arith}
 use Rattle.mt_codec.proofs.DecodedLemmas.{all_small}
 use Rattle.mt_granules.specs.FileFaults.{blame, frame_fault}
 use Rattle.mt_granules.proofs.MarkLemmas.{frames_found}

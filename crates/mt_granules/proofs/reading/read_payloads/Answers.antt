@@ -1,4 +1,3 @@
-use Rattle.std.proofs.Common.{◌≡◌, arith}
 use Rattle.mt_granules.proofs.MarksFileLemmas.{marks_keep}
 use Rattle.mt_granules.proofs.StepLemmas.{blame_ok}
 use Rattle.mt_granules.proofs.reading.read_payloads.Goals as goal

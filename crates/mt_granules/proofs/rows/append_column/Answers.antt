@@ -1,7 +1,7 @@
-use Rattle.std.proofs.Common.{◌≡◌, List, length, refl, ap, sym, ◌∙◌, arith}
+use Rattle.std.proofs.Common.{List, length, refl, ap, sym, ◌∙◌, arith}
 use Rattle.mt_defs.specs.Rows.{Row}
 use Rattle.mt_granules.specs.ColumnRows.{all_values}
-use Rattle.mt_granules.proofs.RowLemmas.{none_added, granule_appended, granule_there, left_over, length-with_column, values_within, length-values_more}
+use Rattle.mt_granules.proofs.RowLemmas.{none_added, granule_appended, granule_there, left_over, length-with_column, length-values_more}
 use Rattle.mt_granules.proofs.rows.append_column.Goals as goal
 
 pub loop-granule-init : goal.loop-granule-init

@@ -1,4 +1,4 @@
-use Rattle.std.proofs.Common.{◌≡◌, ◌+◌, ◌<◌, ◌∷◌, ◌++◌, [], length, refl, ap, sym, ◌∙◌, arith, length-append}
+use Rattle.std.proofs.Common.{◌∷◌, [], refl, ◌∙◌, arith, length-append}
 use Rattle.mt_granules.proofs.RowLemmas.{left_over, no_value_yet, row_there, value_appended}
 use Rattle.mt_granules.proofs.rows.append_values.Goals as goal
 

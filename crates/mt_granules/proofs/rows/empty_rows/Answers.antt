@@ -1,5 +1,3 @@
-use Rattle.std.proofs.Common.{◌≡◌, ℕ, [], List, ap, ◌∙◌, arith}
-use Rattle.std.specs.Prelude.{replicate}
 use Rattle.mt_granules.proofs.RowLemmas.{all_empty}
 use Rattle.mt_granules.proofs.rows.empty_rows.Goals as goal
 

@@ -1,4 +1,4 @@
-use Rattle.std.proofs.Common.{◌≡◌, ◌<◌, ◌^◌, get_or, length, take, sum, arith, rules}
+use Rattle.std.proofs.Common.{◌<◌, ◌^◌, get_or, length, arith, rules}
 use Rattle.mt_codec.proofs.ArrayLemmas.{sum_more}
 use Rattle.mt_granules.proofs.rows.sum_of.Goals as goal
 

@@ -1,5 +1,4 @@
-use Rattle.std.proofs.Common.{◌≡◌, ◌+◌, ◌<◌, List, [], ◌++◌, length, get_or, refl, ap, sym, ◌∙◌, arith}
-use Rattle.mt_defs.specs.Rows.{Row}
+use Rattle.std.proofs.Common.{◌≡◌, ◌+◌, ◌<◌, [], ◌++◌, length, ap, sym, ◌∙◌, arith}
 use Rattle.mt_defs.specs.WrittenGranules.{granules_from, is_full}
 use Rattle.mt_layout.specs.Sizes.{saturated, row_size}
 use Rattle.mt_layout.proofs.PayloadLemmas.{payload_size-none}

@@ -1,10 +1,9 @@
 use Rattle.std.proofs.Common.{◌≡◌, pos, refl, ap, sym, ◌∙◌, arith}
 use Rattle.mt_types.specs.declared.ty.Ty.{out-Ty}
 use Rattle.mt_types.specs.declared.ty.Ty.TheOpen.{Ty-F}
-use Rattle.mt_types.specs.declared.ty.Ty.TheVariants.{Nullable, Array, outs-UInt, outs-Int, outs-Date, outs-State, outs-CountState}
+use Rattle.mt_types.specs.declared.ty.Ty.TheVariants.{Nullable, outs-UInt, outs-Int, outs-Date, outs-State, outs-CountState}
 use Rattle.mt_types.specs.declared.value.AggState.TheVariants.{Count}
 use Rattle.mt_types.specs.declared.value.Value.TheVariants.{Num, State}
-use Rattle.mt_types.specs.Defaults.{empty_state}
 use Rattle.mt_layout.specs.Sizes.{saturated}
 use Rattle.mt_layout.proofs.SizeLemmas.{default_single, default_FixedString, default_Str, default_Nullable, default_Array, saturated-more, saturated-small}
 use Rattle.mt_layout.proofs.rows.+default_size.Goals as goal

@@ -1,4 +1,4 @@
-use Rattle.std.proofs.Common.{◌≡◌, refl, ap, sym, ◌∙◌, arith}
+use Rattle.std.proofs.Common.{◌≡◌, refl, ap, sym, ◌∙◌}
 use Rattle.std.specs.List.{sum_by}
 use Rattle.mt_types.specs.declared.ty.Ty.TheVariants.{Nullable, Array}
 use Rattle.mt_types.specs.declared.value.Value.{out-Value}

@@ -1,7 +1,7 @@
-use Rattle.std.proofs.Common.{◌≡◌, ◌+◌, ◌<◌, ◌≤◌, [], ◌∷◌, ◌++◌, length, take, get_or, refl, ap, sym, ◌∙◌, arith}
+use Rattle.std.proofs.Common.{◌≡◌, ap, sym, ◌∙◌, arith}
 use Rattle.mt_table.specs.declared.column.Column.{Column}
 use Rattle.mt_defs.specs.Rows.{cell}
-use Rattle.mt_layout.specs.Sizes.{saturated, row_size, value_size}
+use Rattle.mt_layout.specs.Sizes.{saturated, value_size}
 use Rattle.mt_layout.proofs.PayloadLemmas.{one_more_column, all_columns}
 use Rattle.mt_layout.proofs.rows.row_size.Goals as goal
 

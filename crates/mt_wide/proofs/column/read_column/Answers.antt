@@ -1,17 +1,16 @@
-use Rattle.std.proofs.Common.{◌≡◌, List, ℕ, ap, sym, ◌∙◌, length, get_or}
+use Rattle.std.proofs.Common.{List, ap, sym, ◌∙◌, get_or}
 use Rattle.std.specs.Prelude.{Ok}
 use Rattle.std.specs.List.{enumerate_from}
 use Rattle.std.proofs.lemmas.List.{get_or_default}
 use Rattle.std.proofs.lemmas.Result.{err_from_is_err_and}
 use Rattle.mt_types.specs.declared.value.Value.{Value}
 use Rattle.mt_types.proofs.StepLemmas.{then_of}
-use Rattle.mt_granules.specs.FileFaults.{Judged, in_order}
+use Rattle.mt_granules.specs.FileFaults.{in_order}
 use Rattle.mt_granules.specs.FileFolder.{folder_in}
 use Rattle.mt_types.specs.Fits.{fits_of}
 use Rattle.mt_granules.proofs.FitLemmas.{granule_fits}
 use Rattle.mt_granules.proofs.OrderLemmas.{numbered_continues, numbered_ends}
 use Rattle.mt_granules.proofs.StepLemmas.{fails_after, fails_numbered}
-use Rattle.mt_granules.specs.declared.payloads.Payloads.{Payloads}
 use Rattle.mt_defs.specs.FileNames.{stream_names}
 use Rattle.mt_wide.specs.StreamView.{streams_in}
 use Rattle.mt_wide.specs.WideReading.{granule_reading, stream_reading}

@@ -1,7 +1,6 @@
-use Rattle.std.proofs.Common.{◌≡◌, List, ap, sym, ◌∙◌}
+use Rattle.std.proofs.Common.{List, ap, ◌∙◌}
 use Rattle.std.specs.Prelude.{Ok}
 use Rattle.std.proofs.lemmas.Result.{err_from_is_err_and}
-use Rattle.mt_granules.specs.FileFaults.{Judged}
 use Rattle.mt_granules.specs.FileFolder.{folder_in}
 use Rattle.mt_granules.proofs.OrderLemmas.{order_continues}
 use Rattle.mt_granules.proofs.StepLemmas.{fails_in_order}

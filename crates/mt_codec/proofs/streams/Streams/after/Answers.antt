@@ -1,7 +1,6 @@
-use Rattle.std.proofs.Common.{List, Bor, ℕ, Bool, true, false, ◌≡◌, [], Ok, ap, sym, ◌∙◌, refl, arith}
-use Rattle.mt_codec.specs.declared.streams.Streams.{Streams}
+use Rattle.std.proofs.Common.{List, Bor, ℕ, ap, sym}
 use Rattle.mt_codec.specs.Results.{bytes_of}
-use Rattle.mt_codec.specs.Cursor.{is_apart, lists, others}
+use Rattle.mt_codec.specs.Cursor.{others}
 use Rattle.mt_codec.proofs.CursorLemmas.{after_apart, after_some, after_bytes, no_more}
 use Rattle.mt_codec.proofs.streams.Streams.after.Goals as goal
 

@@ -1,4 +1,4 @@
-use Rattle.std.proofs.Common.{◌≡◌, ◌<◌, ◌≤◌, true, false, List, length, get_or, ap, sym, ◌∙◌, arith, Bor}
+use Rattle.std.proofs.Common.{List, length, get_or, ap, sym, ◌∙◌, arith, Bor}
 use Rattle.std.specs.Prelude.{option_copied, Some}
 use Rattle.std.specs.Str.{bytes_eq}
 use Rattle.std.proofs.lemmas.Bool.{ltb-true, ltb-false}

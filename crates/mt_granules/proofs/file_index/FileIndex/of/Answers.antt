@@ -1,4 +1,4 @@
-use Rattle.std.proofs.Common.{rules, Bool, ap, ◌∙◌, ◌≡◌}
+use Rattle.std.proofs.Common.{rules, Bool, ap, ◌∙◌}
 use Rattle.std.specs.Borrow.{Bor}
 use Rattle.std.specs.Cmp.{IsTotalOrder, IsStrictWeakOrder}
 use Rattle.std.specs.List.Sorted.{IsSorted, IsStable}
@@ -10,7 +10,7 @@ use Rattle.std.proofs.lemmas.List.{take_all}
 use Rattle.std.proofs.lemmas.List.Sorted.{ranks_by}
 use Rattle.mt_shelf.specs.declared.file.FileBytes.{FileBytes}
 use Rattle.mt_defs.specs.Folder.{folder_of}
-use Rattle.mt_granules.specs.FileOrder.{files_in, name_cmp}
+use Rattle.mt_granules.specs.FileOrder.{name_cmp}
 use Rattle.mt_granules.proofs.FileLemmas.{files_rise, files_stay}
 use Rattle.mt_granules.proofs.file_index.FileIndex.of.Goals as goal
 

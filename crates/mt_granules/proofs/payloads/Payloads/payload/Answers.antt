@@ -1,4 +1,3 @@
-use Rattle.std.proofs.Common.{◌≤◌, ap, length, arith}
 use Rattle.mt_granules.proofs.PayloadLemmas.{climbs, within, has_payload, payload_is}
 use Rattle.mt_granules.proofs.payloads.Payloads.payload.Goals as goal
 
