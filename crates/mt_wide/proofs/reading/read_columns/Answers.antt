@@ -7,7 +7,7 @@ use Rattle.mt_granules.specs.ColumnRows.{all_values, rows_of}
 use Rattle.mt_granules.proofs.FitLemmas.{all_fit, column_fits, none_fit}
 use Rattle.mt_granules.proofs.StepLemmas.{fails_in_order, fails_on}
 use Rattle.mt_wide.specs.WideReading.{column_reading}
-use Rattle.mt_wide.proofs.ReadingLemmas.{column_read, rows_many, values_fit}
+use Rattle.mt_wide.proofs.ReadingLemmas.{column_read, none_read, rows_many, values_fit}
 use Rattle.mt_wide.proofs.reading.read_columns.Goals as goal
 
 pub returns-in_err-values-clause-reads : goal.returns-in_err-values-clause-reads
