@@ -1,9 +1,13 @@
 //! Reading the two files of a Compact part.
 
 ghost use Rattle.std.specs.Prelude.{◌≡◌, [], ◌*◌, ◌+◌, ◌<◌, ◌≤◌, length, map, sum, All, IfOk, IsTrue, slice_index_or};
+ghost use Rattle.std.specs.List.{list_all};
+ghost use Rattle.mt_types.specs.Fits.{fits_of};
 ghost use Rattle.mt_types.specs.Profile.{is_profile};
 ghost use Rattle.mt_table.specs.declared.limits.TheConstants.{MAX_CELLS, MAX_COLUMNS, MAX_ROWS};
 ghost use Rattle.mt_defs.specs.Folder.{folder_of};
+ghost use Rattle.mt_defs.specs.Rows.{RowFits};
+ghost use Rattle.mt_granules.specs.ColumnRows.{all_values};
 ghost use Rattle.mt_granules.specs.PayloadReading.{mark_count};
 ghost use Rattle.mt_granules.specs.PayloadView.{payloads_in};
 ghost use Rattle.mt_granules.specs.Results.{Gives, GivesRead, Shows};
@@ -40,7 +44,8 @@ pub fn read_compact(
     requires row { 1 ≤ count }
     requires rows { count ≤ MAX_ROWS }
     requires cells { count * length columns.now ≤ MAX_CELLS }
-    ensures { GivesRead result (compact_reading (folder_of files.now) count columns.now) }
+    ensures reads { GivesRead result (compact_reading (folder_of files.now) count columns.now) }
+    ensures fit { IfOk result (λ read. All (RowFits columns.now) read.0) }
 {
     let read = read_rows(alloc, columns, count, files)?;
     Ok(read)
@@ -56,7 +61,8 @@ fn read_rows(
     requires few { length columns.now ≤ MAX_COLUMNS }
     requires profile { All (λ column. IsTrue (is_profile column.ty)) columns.now }
     requires rows { count ≤ MAX_ROWS }
-    ensures { Gives result (compact_reading (folder_of files.now) count columns.now) }
+    ensures reads { Gives result (compact_reading (folder_of files.now) count columns.now) }
+    ensures fit { IfOk result (λ read. All (RowFits columns.now) read.0) }
 {
     let folder = FileIndex::of(alloc, files)?;
     let width = columns.len() as u64;
@@ -76,7 +82,8 @@ fn read_columns(
     requires rows { count ≤ MAX_ROWS }
     requires each { payloads.now.marks.per_granule ≡ length columns.now }
     requires all { sum (payloads_in payloads.now).granules ≡ count }
-    ensures { Shows (λ rows. rows.items) result (rows_reading (payloads_in payloads.now) count columns.now) }
+    ensures reads { Shows (λ rows. rows.items) result (rows_reading (payloads_in payloads.now) count columns.now) }
+    ensures fit { IfOk result (λ rows. All (RowFits columns.now) rows.items) }
 {
     let width = columns.len();
     let mut rows = empty_rows(alloc, count, width)?;
@@ -101,6 +108,7 @@ pub fn read_column(
     requires few { sum (payloads_in payloads.now).granules ≤ MAX_ROWS }
     ensures reads { Gives result (column_reading width (payloads_in payloads.now) (column_index, column.now)) }
     ensures many { IfOk result (λ values. map (λ here. length here) values ≡ (payloads_in payloads.now).granules) }
+    ensures fit { IfOk result (λ values. IsTrue (list_all (fits_of column.now.ty) (all_values values))) }
 {
     let granules = payloads.granules();
     let mut values = List::with_capacity(alloc, granules.len())?;
@@ -126,6 +134,7 @@ fn read_granule(
     ensures reads { Gives result (payload_reading column.now granule rows
         (slice_index_or (payloads_in payloads.now).payloads index [])) }
     ensures many { IfOk result (λ values. length values ≡ rows) }
+    ensures fit { IfOk result (λ values. IsTrue (list_all (fits_of column.now.ty) values)) }
 {
     let payload = payloads.payload(alloc, index)?;
     read_payload(alloc, column, payload.as_slice(), granule, rows)
@@ -143,6 +152,7 @@ fn read_payload(
     requires few { rows ≤ MAX_ROWS }
     ensures reads { Gives result (payload_reading column.now granule rows payload.now) }
     ensures many { IfOk result (λ values. length values ≡ rows) }
+    ensures fit { IfOk result (λ values. IsTrue (list_all (fits_of column.now.ty) values)) }
 {
     match decode_front(alloc, &column.ty, rows, payload) {
         Ok((values, used)) => {

@@ -4,6 +4,7 @@ pub mod NumberedLemmas
 pub mod GranuleLemmas
 pub mod OrderLemmas
 pub mod RowLemmas
+pub mod FitLemmas
 pub mod FileLemmas
 pub mod RuleLemmas
 pub mod WalkLemmas

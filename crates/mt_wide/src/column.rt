@@ -1,10 +1,13 @@
 //! Reading a column of a Wide part.
 
 ghost use Rattle.std.specs.Prelude.{◌≡◌, ◌<◌, ◌≤◌, [], length, map, sum, All, IfOk, IsTrue, OnOk, slice_index_or};
+ghost use Rattle.std.specs.List.{list_all};
+ghost use Rattle.mt_types.specs.Fits.{fits_of};
 ghost use Rattle.mt_types.specs.Profile.{is_profile};
 ghost use Rattle.mt_table.specs.declared.limits.TheConstants.{MAX_ROWS};
 ghost use Rattle.mt_defs.specs.FileNames as defined;
 ghost use Rattle.mt_codec.specs.Results.{bytes_of as slice_bytes};
+ghost use Rattle.mt_granules.specs.ColumnRows.{all_values};
 ghost use Rattle.mt_granules.specs.FileFaults.{in_order};
 ghost use Rattle.mt_granules.specs.FileFolder.{folder_in};
 ghost use Rattle.mt_granules.specs.PayloadReading.{granules_of, mark_count};
@@ -35,6 +38,7 @@ pub fn read_column(
     requires few { sum granules.now ≤ MAX_ROWS }
     ensures reads { Gives result (column_reading (folder_in folder.now) granules.now column.now) }
     ensures each { IfOk result (λ values. map (λ here. length here) values ≡ granules.now) }
+    ensures fit { IfOk result (λ values. IsTrue (list_all (fits_of column.now.ty) (all_values values))) }
 {
     let names = stream_names(alloc, column)?;
     let streams = read_streams(alloc, folder, granules, names.as_slice())?;
@@ -129,6 +133,7 @@ fn read_granule(
     requires within { All (λ read. granule < mark_count read.marks) streams.now }
     ensures reads { Gives result (granule_reading column.now (streams_in streams.now) (granule, rows)) }
     ensures many { IfOk result (λ values. length values ≡ rows) }
+    ensures fit { IfOk result (λ values. IsTrue (list_all (fits_of column.now.ty) values)) }
 {
     let payloads = payloads_at(alloc, streams, granule)?;
     let slices = slices_of(alloc, &payloads)?;

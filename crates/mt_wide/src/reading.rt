@@ -5,6 +5,7 @@ ghost use Rattle.mt_types.specs.Profile.{is_profile};
 ghost use Rattle.mt_table.specs.declared.limits.TheConstants.{MAX_CELLS, MAX_COLUMNS, MAX_ROWS};
 ghost use Rattle.mt_defs.specs.Folder.{folder_of};
 ghost use Rattle.mt_defs.specs.FileNames as defined;
+ghost use Rattle.mt_defs.specs.Rows.{RowFits};
 ghost use Rattle.mt_granules.specs.FileFaults.{in_order};
 ghost use Rattle.mt_granules.specs.FileFolder.{folder_in};
 ghost use Rattle.mt_granules.specs.Results.{Gives, GivesRead, Shows};
@@ -34,7 +35,8 @@ pub fn read_wide(
     requires row { 1 ≤ count }
     requires rows { count ≤ MAX_ROWS }
     requires cells { count * length columns.now ≤ MAX_CELLS }
-    ensures { GivesRead result (wide_reading (folder_of files.now) count columns.now) }
+    ensures reads { GivesRead result (wide_reading (folder_of files.now) count columns.now) }
+    ensures fit { IfOk result (λ read. All (RowFits columns.now) read.0) }
 {
     let read = read_rows(alloc, columns, count, files)?;
     Ok(read)
@@ -49,7 +51,8 @@ fn read_rows(
     requires some { 1 ≤ length columns.now }
     requires profile { All (λ column. IsTrue (is_profile column.ty)) columns.now }
     requires rows { count ≤ MAX_ROWS }
-    ensures { Gives result (wide_reading (folder_of files.now) count columns.now) }
+    ensures reads { Gives result (wide_reading (folder_of files.now) count columns.now) }
+    ensures fit { IfOk result (λ read. All (RowFits columns.now) read.0) }
 {
     let folder = FileIndex::of(alloc, files)?;
     let granules = first_granules(alloc, &folder, count, columns)?;
@@ -68,7 +71,8 @@ fn read_columns(
     requires profile { All (λ column. IsTrue (is_profile column.ty)) columns.now }
     requires rows { count ≤ MAX_ROWS }
     requires all { sum granules.now ≡ count }
-    ensures { Shows (λ rows. rows.items) result (rows_reading (folder_in folder.now) granules.now count columns.now) }
+    ensures reads { Shows (λ rows. rows.items) result (rows_reading (folder_in folder.now) granules.now count columns.now) }
+    ensures fit { IfOk result (λ rows. All (RowFits columns.now) rows.items) }
 {
     let mut rows = empty_rows(alloc, count, columns.len())?;
     for column in columns {

@@ -7,6 +7,8 @@ use Rattle.mt_types.specs.declared.value.Value.{Value}
 use Rattle.mt_types.proofs.StepLemmas.{then_of}
 use Rattle.mt_granules.specs.FileFaults.{in_order}
 use Rattle.mt_granules.specs.FileFolder.{folder_in}
+use Rattle.mt_types.specs.Fits.{fits_of}
+use Rattle.mt_granules.proofs.FitLemmas.{granule_fits}
 use Rattle.mt_granules.proofs.OrderLemmas.{numbered_continues, numbered_ends}
 use Rattle.mt_granules.proofs.StepLemmas.{fails_after, fails_numbered}
 use Rattle.mt_defs.specs.FileNames.{stream_names}
@@ -42,6 +44,7 @@ loop-granule-preserved c =
       so_far = numbered_continues (granule_reading c.args.column.now (streams_in c.in_ok-streams.streams)) granules i (get_or granules i 0) c.loop-granule.values c.loop-granule.invariant.so_far c.in_ok-read_granule.field-0 c.loop-granule-test.true at
           (rw c.as_slice-in-loop-granule-2.ensures at c.in_ok-read_granule.ensures.reads) ∙ ap (λ (l : List (List Value)). Ok l) (sym c.in_ok-push.ensures.ok);
       each = lengths_more granules i c.loop-granule.values c.push.new.self c.in_ok-read_granule.field-0 (get_or granules i 0) c.loop-granule-test.true at c.in_ok-push.ensures.ok c.in_ok-read_granule.ensures.many c.loop-granule.invariant.each;
+      fit = granule_fits (fits_of c.args.column.now.ty) c.loop-granule.values c.push.new.self c.in_ok-read_granule.field-0 c.in_ok-push.ensures.ok c.loop-granule.invariant.fit c.in_ok-read_granule.ensures.fit;
     }
 
 pub returns-clause-reads : goal.returns-clause-reads

@@ -1,0 +1,5 @@
+use Rattle.mt_check.proofs.PartitionLaw.{partition_step}
+use Rattle.mt_check.proofs.law.partitions_are_checked.Goals as goal
+
+pub returns : goal.returns
+returns c = λ table folder accepted some none. partition_step table folder accepted (c.written_partitions_are_compared.ensures table accepted.rows folder some) some none
