@@ -4,6 +4,9 @@ use mt_shelf::FileBytes;
 use mt_types::{List, NoMemory};
 use std::alloc::Global;
 
+/// More bytes than a payload here has.
+const MOST_BYTES: usize = 1000;
+
 /// What a file holds.
 #[derive(Clone, Copy)]
 pub enum Content {
@@ -60,14 +63,19 @@ fn bytes_of(alloc: Global, content: Content) -> Result<Option<List<u8>>, NoMemor
 fn frames_of(alloc: Global, payloads: &[&[u8]]) -> Result<List<u8>, NoMemory> {
     let mut bytes = List::new(alloc);
     for payload in payloads {
-        let size = payload.len() as u32;
-        bytes.append(&[7; 16])?;
-        bytes.append(&[2])?;
-        bytes.append(&size.wrapping_add(9).to_le_bytes())?;
-        bytes.append(&size.to_le_bytes())?;
-        bytes.append(payload)?;
+        append_frame(payload, &mut bytes)?;
     }
     Ok(bytes)
+}
+
+/// Appends a frame. Payloads here are short.
+fn append_frame(payload: &[u8], out: &mut List<u8>) -> Result<(), NoMemory> {
+    let size = payload.len().min(MOST_BYTES) as u32;
+    out.append(&[7; 16])?;
+    out.append(&[2])?;
+    out.append(&(size + 9).to_le_bytes())?;
+    out.append(&size.to_le_bytes())?;
+    out.append(payload)
 }
 
 fn numbers_of(alloc: Global, numbers: &[u64]) -> Result<List<u8>, NoMemory> {

@@ -23,25 +23,30 @@ fn parts_are_accepted(rt: HostRuntime) -> Result<(), Fail> {
     Ok(())
 }
 
-/// Frames in another cut, columns in another order, and a set in another order.
+/// Frames in another cut.
+const RECUT: &[File] = &[
+    ("k.bin", Frames(&[b"\x01\0\0\0\x02\0\0\0\x03\0\0\0"])),
+    ("k.mrk2", Numbers(&[0, 0, 2, 0, 8, 1, 0, 12, 0])),
+];
+
+/// Columns in another order.
+const ORDERED: &[File] = &[(
+    "columns.txt",
+    Bytes(b"columns format version: 1\n2 columns:\n`s` String\n`k` UInt32\n"),
+)];
+
+/// A set in another order.
+const REVERSED: &[File] = &[(
+    "skp_idx_i.idx",
+    Frames(&[b"\x02\0\0\0\0\0\0\0\x07\x08", b"\x01\0\0\0\0\0\0\0\x09"]),
+)];
+
 #[test]
 fn other_files_of_the_same_rows_are_accepted(rt: HostRuntime) -> Result<(), Fail> {
-    let recut: &[File] = &[
-        ("k.bin", Frames(&[b"\x01\0\0\0\x02\0\0\0\x03\0\0\0"])),
-        ("k.mrk2", Numbers(&[0, 0, 2, 0, 8, 1, 0, 12, 0])),
-    ];
-    let ordered: &[File] = &[(
-        "columns.txt",
-        Bytes(b"columns format version: 1\n2 columns:\n`s` String\n`k` UInt32\n"),
-    )];
-    let reversed: &[File] = &[(
-        "skp_idx_i.idx",
-        Frames(&[b"\x02\0\0\0\0\0\0\0\x07\x08", b"\x01\0\0\0\0\0\0\0\x09"]),
-    )];
     for (part, changed, text) in [
-        (WIDE, recut, THREE),
-        (WIDE, ordered, THREE),
-        (INDEXED, reversed, "1\t7\n2\t8\n3\t9\n1 1 1 "),
+        (WIDE, RECUT, THREE),
+        (WIDE, ORDERED, THREE),
+        (INDEXED, REVERSED, "1\t7\n2\t8\n3\t9\n1 1 1 "),
     ] {
         let read = text_of(rt.alloc(), &part, changed, &[])?;
         assert_eq!(rt; read.as_slice(), text.as_bytes());
