@@ -1,0 +1,9 @@
+pub mod CheckLemmas
+pub mod FaultLemmas
+pub mod LoopLemmas
+pub mod RowLemmas
+pub mod FileLemmas
+pub mod OrderLemmas
+pub mod KeyLemmas
+pub mod FrameLemmas
+pub mod PartitionLemmas

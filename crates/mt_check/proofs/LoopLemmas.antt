@@ -1,0 +1,31 @@
+-- A list from an index on, as loops take it.
+use Rattle.std.proofs.Common.{◌≡◌, ℕ, zero, suc, ◌+◌, ◌<◌, ◌≤◌, Bool, true, false, not, List, [], ◌∷◌, length, drop, refl, ap, sym, ◌∙◌, get_or, arith, inl, inr}
+use Rattle.std.specs.Prelude.{◌==◌}
+use Rattle.std.proofs.lemmas.Bool.{cases_Bool, eqb-true}
+use Rattle.std.proofs.lemmas.List.{drop_more, drop_all}
+
+pub at_index : {X : Type 0} (xs : List X) (i : ℕ) (x : X) → i < length xs → x ≡ get_or xs i x → drop i xs ≡ x ∷ drop (i + 1) xs
+at_index {X} xs i x h at = drop_more xs i x h ∙ ap (λ (a : X). a ∷ drop (i + 1) xs) (sym at)
+
+pub at_end : {X : Type 0} (xs : List X) (i : ℕ) → length xs ≤ i → drop i xs ≡ []
+at_end xs i h = drop_all i xs h
+
+pub ne_true : (b r : Bool) → r ≡ not b → r ≡ true → b ≡ false
+ne_true true r e t = cc
+ne_true false r e t = refl
+
+pub ne_false : (b r : Bool) → r ≡ not b → r ≡ false → b ≡ true
+ne_false true r e t = refl
+ne_false false r e t = cc
+
+pub nonempty : {X : Type 0} (xs : List X) → (xs ≡ [] → ⊥) → (length xs == 0) ≡ false
+nonempty [] some = absurd (some refl)
+nonempty (x ∷ xs) some =
+    elim (cases_Bool (length (x ∷ xs) == 0)) [
+      | inl same ↦ absurd (let e : suc (length xs) ≡ 0 = eqb-true (length (x ∷ xs)) 0 same in omega (arith, e))
+      | inr other ↦ other
+    ]
+
+pub is_none : {X : Type 0} (xs : List X) → (length xs == 0) ≡ true → xs ≡ []
+is_none [] e = refl
+is_none (x ∷ xs) e = absurd (let zero : suc (length xs) ≡ 0 = eqb-true (length (x ∷ xs)) 0 e in omega (arith, zero))

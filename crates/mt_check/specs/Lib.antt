@@ -1,0 +1,15 @@
+pub mod Checks
+pub mod Faults
+pub mod Definitions
+pub mod Orders
+pub mod Cells
+pub mod RowRefs
+pub mod RowsReading
+pub mod DataReading
+pub mod DefinitionReading
+pub mod PartitionReading
+pub mod SkipMarks
+pub mod RowGroups
+pub mod FolderChecks
+pub mod OwnNames
+pub mod Results

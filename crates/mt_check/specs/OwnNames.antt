@@ -1,0 +1,28 @@
+-- The names of a folder's files that are read.
+use Rattle.std.specs.Prelude.{ℕ, Bool, if◌then◌else◌, List, [], ◌∷◌, ◌++◌, length, map}
+use Rattle.std.specs.List.{flat_map}
+use Rattle.mt_table.specs.declared.definition.PartDef.{PartDef}
+use Rattle.mt_table.specs.declared.definition.Table.{Table}
+use Rattle.mt_table.specs.declared.skip.Skip.{Skip}
+use Rattle.mt_defs.specs.Metadata.{columns_name, count_name}
+use Rattle.mt_defs.specs.PrimaryIndex.{index_name}
+use Rattle.mt_defs.specs.Compact.{compact_data_name, compact_marks_name}
+use Rattle.mt_defs.specs.Part.{wide_names, marks_ending, partition_names}
+use Rattle.mt_defs.specs.Projections.{base_of}
+use Rattle.mt_defs.specs.SkipIndexes.{skip_data_name, skip_marks_name}
+
+-- the data and marks files of a definition's columns in a layout
+abbrev pub data_names : PartDef → Bool → List (List ℕ)
+data_names definition compact = if compact then compact_data_name ∷ compact_marks_name ∷ [] else flat_map wide_names definition.columns
+
+-- the files of a definition's folder in a layout, but for side files
+abbrev pub own_names : PartDef → Bool → List (List ℕ)
+own_names definition compact = columns_name ∷ count_name ∷ index_name ∷ data_names definition compact
+
+-- the files of a skip index in a layout
+abbrev pub skip_names_in : Bool → Skip → List (List ℕ)
+skip_names_in compact skip = skip_data_name skip ∷ skip_marks_name skip (marks_ending compact) ∷ []
+
+-- the files of a part in a layout, but for projections and side files
+abbrev pub base_names : Table → Bool → List (List ℕ)
+base_names table compact = own_names (base_of table) compact ++ (partition_names table ++ flat_map (skip_names_in compact) table.skips)

@@ -1,0 +1,36 @@
+//! The data and marks of columns.
+
+ghost use Rattle.std.specs.Prelude.{◌≡◌, ◌*◌, ◌≤◌, length, All, IfOk, IsTrue};
+ghost use Rattle.mt_types.specs.Profile.{is_profile};
+ghost use Rattle.mt_table.specs.declared.limits.TheConstants.{MAX_CELLS, MAX_COLUMNS, MAX_ROWS};
+ghost use Rattle.mt_defs.specs.Folder.{folder_of};
+ghost use Rattle.mt_defs.specs.Granules.{AreGranules};
+ghost use Rattle.mt_defs.specs.Rows.{RowFits};
+ghost use Rattle.mt_check.specs.DataReading.{data_reading};
+ghost use Rattle.mt_check.specs.Results.{Gives};
+
+use mt_shelf::{FileBytes, ReadError};
+use mt_table::Column;
+use mt_types::{List, Row};
+use std::alloc::Global;
+
+/// The rows and granules of the columns' files, Wide or Compact. It never returns `Shelf`.
+pub(crate) fn read_data(
+    _alloc: Global,
+    _columns: &[Column],
+    _count: u64,
+    _files: &[FileBytes],
+) -> Result<(List<Row>, List<u64>), ReadError>
+    requires some { 1 ≤ length _columns.now }
+    requires few { length _columns.now ≤ MAX_COLUMNS }
+    requires profile { All (λ column. IsTrue (is_profile column.ty)) _columns.now }
+    requires row { 1 ≤ _count }
+    requires rows { _count ≤ MAX_ROWS }
+    requires cells { _count * length _columns.now ≤ MAX_CELLS }
+    ensures gives { Gives result (data_reading (folder_of _files.now) _count _columns.now) }
+    ensures fit { IfOk result (λ read. All (RowFits _columns.now) read.0) }
+    ensures many { IfOk result (λ read. length read.0 ≡ _count) }
+    ensures cut { IfOk result (λ read. AreGranules read.1 read.0) }
+{
+    Err(ReadError::NoMemory)
+}

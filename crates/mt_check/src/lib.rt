@@ -1,0 +1,27 @@
+//! The checks of a part's folder, in their order, and the first fault.
+//!
+//! `check` gives the rows for which a folder stands, or the first fault.
+#![tactic(auto)]
+
+mod accepted;
+mod cells;
+mod column_order;
+mod data;
+mod definition;
+mod fault;
+mod files;
+mod folder;
+mod names;
+mod own_names;
+mod partition;
+mod primary_index;
+mod projection;
+mod skip_entries;
+mod skip_index;
+mod skip_marks;
+mod sort_order;
+mod stubs;
+mod texts;
+
+pub use accepted::Accepted;
+pub use folder::{PartFiles, check_files};

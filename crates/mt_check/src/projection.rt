@@ -1,0 +1,119 @@
+//! Projections: whether the rows in their folders stand for the part's.
+
+ghost use Rattle.std.specs.Prelude.{◌≡◌, ◌<◌, ◌≤◌, ◌++◌, length, codes, map, IfOk};
+ghost use Rattle.mt_defs.specs.Folder.{folder_of};
+ghost use Rattle.mt_defs.specs.Projections as defined;
+ghost use Rattle.mt_table.specs.Stored.{projection_at};
+ghost use Rattle.mt_check.specs.Definitions.{HasProjections};
+ghost use Rattle.mt_check.specs.FolderChecks.{projection_checks, projection_folder, projections_checks};
+ghost use Rattle.mt_check.specs.Faults.{fault_of};
+ghost use Rattle.mt_check.specs.Results.{Answers, IsBelow, IsFault};
+
+use crate::accepted::Accepted;
+use crate::definition::read_definition;
+use crate::fault::fault_of;
+use mt_proj::stands_for;
+use mt_shelf::{Fault, FileBytes, ReadError, Why};
+use mt_table::{Projection, Table};
+use mt_types::{List, NoMemory};
+use std::alloc::Global;
+
+/// That each projection's folder, by its files, holds rows that stand for the part's.
+pub(crate) fn check_projections(
+    alloc: Global,
+    table: &Table,
+    folders: &[List<FileBytes>],
+    accepted: &Accepted,
+) -> Result<(), ReadError>
+    requires table { HasProjections table.now }
+    requires each { length folders.now ≡ length table.now.projections }
+    ensures { Answers result (projections_checks table.now accepted.now table.now.projections (map folder_of folders.now)) }
+{
+    for (place, files) in folders.iter().enumerate() {
+        check_projection(alloc, table, place, files.as_slice(), accepted)?;
+    }
+    Ok(())
+}
+
+/// That a projection's folder, by its files, holds rows that stand for the part's.
+fn check_projection(
+    alloc: Global,
+    table: &Table,
+    place: usize,
+    files: &[FileBytes],
+    accepted: &Accepted,
+) -> Result<(), ReadError>
+    requires table { HasProjections table.now }
+    requires there { place < length table.now.projections }
+    ensures { Answers result (projection_checks table.now accepted.now (projection_at table.now place) (folder_of files.now)) }
+{
+    let projection = &table.projections.as_slice()[place];
+    let Ok(definition) = table.inner(alloc, place) else {
+        return Err(ReadError::NoMemory);
+    };
+    let stored = match read_definition(alloc, &definition, files) {
+        Ok(stored) => stored,
+        Err(error) => return Err(below(alloc, projection, error)),
+    };
+    let rows = accepted.rows.as_slice();
+    match stands_for(alloc, table, place, rows, stored.rows.as_slice()) {
+        Ok(true) => Ok(()),
+        Ok(false) => Err(stands_not(alloc, projection)),
+        Err(_) => Err(ReadError::NoMemory),
+    }
+}
+
+/// The fault of a projection that doesn't stand for the rows.
+fn stands_not(alloc: Global, projection: &Projection) -> ReadError
+    ensures { IsFault (fault_of (projection_folder projection.now) Why.Projection) result }
+{
+    match folder_name(alloc, projection, b"") {
+        Ok(file) => fault_of(alloc, file.as_slice(), Why::Projection),
+        Err(_) => ReadError::NoMemory,
+    }
+}
+
+/// An error of a projection's folder, whose file is named below it.
+fn below(alloc: Global, projection: &Projection, error: ReadError) -> ReadError
+    ensures { IsBelow (defined.projection_prefix projection.now) error result }
+{
+    match error {
+        ReadError::AtFault(fault) => match folder_name(alloc, projection, b"/") {
+            Ok(prefix) => named_below(prefix, fault),
+            Err(_) => ReadError::NoMemory,
+        },
+        other => other,
+    }
+}
+
+/// A fault whose file is named after a prefix.
+fn named_below(mut prefix: List<u8>, fault: Fault) -> ReadError
+    ensures { IsFault (record { file = prefix ++ fault.file; granule = fault.granule; at = fault.at; why = fault.why }) result }
+{
+    match prefix.append(fault.file.as_slice()) {
+        Ok(()) => ReadError::AtFault(Fault {
+            file: prefix,
+            granule: fault.granule,
+            at: fault.at,
+            why: fault.why,
+        }),
+        Err(_) => ReadError::NoMemory,
+    }
+}
+
+/// The name of a projection's folder, and an ending.
+pub(crate) fn folder_name(
+    alloc: Global,
+    projection: &Projection,
+    ending: &[u8],
+) -> Result<List<u8>, NoMemory>
+    ensures { IfOk result (λ name. name ≡ projection_folder projection.now ++ ending.now) }
+{
+    let name = match projection {
+        Projection::Normal { name, .. } | Projection::Grouped { name, .. } => name,
+    };
+    let mut folder = List::of_bytes(alloc, name.as_slice())?;
+    folder.append(b".proj")?;
+    folder.append(ending)?;
+    Ok(folder)
+}

@@ -1,0 +1,51 @@
+//! columns.txt and count.txt.
+
+ghost use Rattle.std.specs.Prelude.{◌≡◌, ◌≤◌, length};
+ghost use Rattle.mt_table.specs.declared.limits.TheConstants.{MAX_COLUMNS};
+ghost use Rattle.mt_defs.specs.Folder.{folder_of};
+ghost use Rattle.mt_check.specs.DefinitionReading.{count_why, order_reading, rows_reading};
+ghost use Rattle.mt_check.specs.Results.{Gives};
+
+use crate::fault::fault_of;
+use crate::files::bytes_of;
+use mt_meta::{CountWhy, read_columns, read_count};
+use mt_shelf::{FileBytes, ReadError, Why};
+use mt_table::PartDef;
+use mt_types::List;
+use std::alloc::Global;
+
+const COLUMNS_FILE: &[u8] = b"columns.txt";
+
+/// The file that counts the rows.
+pub(crate) const COUNT_FILE: &[u8] = b"count.txt";
+
+/// The columns in the order of the folder's files, by their places in the definition.
+pub(crate) fn read_order(
+    alloc: Global,
+    definition: &PartDef,
+    files: &[FileBytes],
+) -> Result<List<u32>, ReadError>
+    requires { length definition.now.columns ≤ MAX_COLUMNS }
+    ensures { Gives result (order_reading definition.now (folder_of files.now)) }
+{
+    let text = bytes_of(alloc, files, COLUMNS_FILE)?;
+    read_columns(alloc, definition.columns.as_slice(), text)
+}
+
+/// The rows of the folder.
+pub(crate) fn read_row_count(
+    alloc: Global,
+    definition: &PartDef,
+    files: &[FileBytes],
+) -> Result<u64, ReadError>
+    requires some { 1 ≤ length definition.now.columns }
+    requires few { length definition.now.columns ≤ MAX_COLUMNS }
+    ensures { Gives result (rows_reading definition.now (folder_of files.now)) }
+{
+    let text = bytes_of(alloc, files, COUNT_FILE)?;
+    match read_count(text, definition.columns.len() as u64) {
+        Ok(count) => Ok(count),
+        Err(CountWhy::Syntax) => Err(fault_of(alloc, COUNT_FILE, Why::Syntax)),
+        Err(CountWhy::TooLong) => Err(fault_of(alloc, COUNT_FILE, Why::TooLong)),
+    }
+}
