@@ -8,7 +8,7 @@ use Rattle.mt_shelf.specs.Causes.{Rose}
 use Rattle.mt_run.specs.Notes.{Noted, IsReported, line_of}
 use Rattle.mt_run.specs.Plans.{Plan, World, Meets, Leaves, CausedBy, Performs, Gains, PrintsPrefix, Answers, refusal_of}
 use Rattle.mt_run.specs.declared.status.Status.{Status}
-use Rattle.mt_run.specs.declared.status.Status.TheVariants.{Done, BadWords, NoTable, BadTable, Exists, NoRows, BadRows, ManyPartitions, TooMuch, SourceFault, ShelfFault, SinkFault, NoMemory}
+use Rattle.mt_run.specs.declared.status.Status.TheVariants.{Done, AtFault, BadWords, NoTable, NoPart, BadTable, Exists, NoRows, BadRows, ManyPartitions, TooMuch, SourceFault, ShelfFault, SinkFault, NoMemory}
 
 -- nothing is a prefix of every text
 pub grew_by_nothing : (known now : Option (List ℕ)) (text : List ℕ) → now ≡ known → GrowsByPrefix text known now
@@ -38,7 +38,9 @@ left_of_memory plan old new SinkFault refused cause left = (inr left.0, left.1)
 left_of_memory plan old new NoMemory refused cause left = left
 left_of_memory plan old new SourceFault refused cause left = (inr left.0, printed_nothing plan old new left.1)
 left_of_memory plan old new BadWords refused cause left = (inr left.0, printed_nothing plan old new left.1)
+left_of_memory plan old new (AtFault part fault) refused cause left = (inr left.0, printed_nothing plan old new left.1)
 left_of_memory plan old new NoTable refused cause left = (inr left.0, printed_nothing plan old new left.1)
+left_of_memory plan old new (NoPart part) refused cause left = (inr left.0, printed_nothing plan old new left.1)
 left_of_memory plan old new (BadTable why) refused cause left = (inr left.0, printed_nothing plan old new left.1)
 left_of_memory plan old new Exists refused cause left = (inr left.0, printed_nothing plan old new left.1)
 left_of_memory plan old new NoRows refused cause left = (inr left.0, printed_nothing plan old new left.1)
@@ -91,7 +93,9 @@ pub noted_whole : (status : Status) (old new : Option (List ℕ)) (before now : 
 noted_whole Done old new before now refused is = absurd (refused refl)
 noted_whole NoMemory old new before now refused is = (NoMemory, whole_prefix _ old new is)
 noted_whole BadWords old new before now refused is = (whole_prefix _ old new is, inr is)
+noted_whole (AtFault part fault) old new before now refused is = (whole_prefix _ old new is, inr is)
 noted_whole NoTable old new before now refused is = (whole_prefix _ old new is, inr is)
+noted_whole (NoPart part) old new before now refused is = (whole_prefix _ old new is, inr is)
 noted_whole (BadTable why) old new before now refused is = (whole_prefix _ old new is, inr is)
 noted_whole Exists old new before now refused is = (whole_prefix _ old new is, inr is)
 noted_whole NoRows old new before now refused is = (whole_prefix _ old new is, inr is)
@@ -107,7 +111,9 @@ pub noted_prefix : (status : Status) (old new : Option (List ℕ)) (before now :
 noted_prefix Done old new before now refused rose prefix = absurd (refused refl)
 noted_prefix NoMemory old new before now refused rose prefix = (NoMemory, prefix)
 noted_prefix BadWords old new before now refused rose prefix = (prefix, inl rose)
+noted_prefix (AtFault part fault) old new before now refused rose prefix = (prefix, inl rose)
 noted_prefix NoTable old new before now refused rose prefix = (prefix, inl rose)
+noted_prefix (NoPart part) old new before now refused rose prefix = (prefix, inl rose)
 noted_prefix (BadTable why) old new before now refused rose prefix = (prefix, inl rose)
 noted_prefix Exists old new before now refused rose prefix = (prefix, inl rose)
 noted_prefix NoRows old new before now refused rose prefix = (prefix, inl rose)
