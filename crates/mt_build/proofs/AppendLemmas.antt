@@ -22,10 +22,6 @@ files_step f before now new xs i x d h is ahead push =
     push ∙ ap (λ l. l ++ f x) ahead ∙ flat_map_more f before (take i xs) x
     ∙ ap (λ l. before ++ flat_map f l) (sym (take_more xs i d h ∙ ap (λ y. take i xs ++ y ∷ []) (sym is)))
 
--- all elements
-pub files_end : {X : Type 0} (f : X → List FileBytes) (before now : List FileBytes) (xs : List X) (i : ℕ) → length xs ≤ i → now ≡ before ++ flat_map f (take i xs) → now ≡ before ++ flat_map f xs
-files_end f before now xs i h ahead = ahead ∙ ap (λ l. before ++ flat_map f l) (take_all i xs h)
-
 -- the files of a projection, behind others
 pub projection_appended : (table : Table) (rows : List Row) (projection read : Projection) (definition : PartDef) (stored slice : List Row) (below old new : List FileBytes) (prefix : List ℕ)
     → read ≡ projection → definition ≡ inner_of table projection → slice ≡ stored → stored ≡ projection_rows table projection rows → below ≡ definition_files table.settings definition slice → prefix ≡ projection_prefix read

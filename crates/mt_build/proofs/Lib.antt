@@ -1,20 +1,6 @@
 pub mod AppendLemmas
-pub mod ColumnLemmas
 pub mod DefinitionLemmas
-pub mod ExampleLemmas
-pub mod FolderLemmas
-pub mod HeldLemmas
 pub mod InnerLemmas
-pub mod ItemLemmas
-pub mod LawLemmas
-pub mod LookupLemmas
-pub mod MarkLemmas
-pub mod NameLemmas
-pub mod NoRowsLemmas
-pub mod OrderLemmas
+mod OrderLemmas
 pub mod ProjectionRowLemmas
-pub mod SizeLemmas
 pub mod SkipLemmas
-pub mod StableLemmas
-pub mod StandsLemmas
-pub mod WideLemmas

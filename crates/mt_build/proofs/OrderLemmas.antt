@@ -1,13 +1,7 @@
--- The orders of rows and of files are total.
-use Rattle.std.proofs.Common.{ℕ, List}
+-- The order of files is total.
 use Rattle.std.specs.Cmp.{IsTotalOrder}
 use Rattle.std.proofs.lemmas.Cmp.{on_total, nat_list_cmp_total}
-use Rattle.mt_types.specs.Ordered.{values_total}
-use Rattle.mt_defs.specs.Rows.{key_of, key_cmp}
 use Rattle.mt_defs.specs.Writer.{file_cmp}
-
-pub key_cmp_total : (sort : List ℕ) → IsTotalOrder (key_cmp sort)
-key_cmp_total sort = on_total (key_of sort) values_total
 
 pub file_cmp_total : IsTotalOrder file_cmp
 file_cmp_total = on_total (λ file. file.name) nat_list_cmp_total

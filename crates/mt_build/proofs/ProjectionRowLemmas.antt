@@ -151,7 +151,8 @@ state_fits table (Of Max i) rows keeps fit =
 
 -- ---- rows
 
-All-distinct_by : {X : Type 0} (P : X → Type 0) (same : X → X → Bool) (xs : List X) → All P xs → All P (distinct_by same xs)
+-- what holds of all holds of each once
+pub All-distinct_by : {X : Type 0} (P : X → Type 0) (same : X → X → Bool) (xs : List X) → All P xs → All P (distinct_by same xs)
 All-distinct_by P same [] all = All-nil P
 All-distinct_by P same (x ∷ xs) all =
     All-cons P x (filter (λ y. not (same x y)) (distinct_by same xs)) (All-head P x xs all) (All-filter (λ y. not (same x y)) P (distinct_by same xs) (All-distinct_by P same xs (All-tail P x xs all)))

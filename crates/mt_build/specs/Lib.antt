@@ -1,5 +1,2 @@
 pub mod Definitions
-pub mod NumberColumns
 pub mod SkipFiles
-pub mod TextFiles
-pub mod WrongFolders

@@ -1,6 +1,6 @@
 -- Errors of the first of some steps.
-use Rattle.std.proofs.Common.{◌≡◌, refl, sym, ap, ◌∙◌}
-use Rattle.std.specs.Prelude.{Option, Some, None, Result, Ok, Err}
+use Rattle.std.proofs.Common.{◌≡◌, sym, ap, ◌∙◌}
+use Rattle.std.specs.Prelude.{Result, Ok, Err}
 use Rattle.mt_shelf.specs.declared.fault.Fault.{Fault}
 use Rattle.mt_shelf.specs.declared.fault.ReadError.{ReadError}
 use Rattle.mt_shelf.specs.declared.fault.ReadError.TheVariants.{AtFault, Shelf, NoMemory}

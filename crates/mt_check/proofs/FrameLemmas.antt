@@ -1,15 +1,14 @@
 -- The payload of a file, frame by frame.
 use Rattle.std.proofs.Common.{◌≡◌, ℕ, zero, suc, ◌+◌, ◌<◌, ◌≤◌, List, [], ◌∷◌, ◌++◌, length, take, drop, refl, ap, sym, subst, ◌∙◌, get_or, arith}
-use Rattle.std.specs.Prelude.{All}
-use Rattle.std.specs.List.{flat_map}
-use Rattle.std.proofs.lemmas.List.{take_more, take_all, length-take-le, length-drop, append_assoc}
+use Rattle.std.specs.Prelude.{Ok}
+use Rattle.std.proofs.lemmas.List.{append-nil, take_more, take_all, length-take-le, length-drop}
 use Rattle.std.proofs.lemmas.List.Concat.{flat_map-append, flat_map-cons}
 use Rattle.std.proofs.lemmas.List.Elements.{All-get_or}
 use Rattle.mt_defs.specs.declared.frame.Frame.{Frame}
 use Rattle.mt_defs.specs.Frames.{Block, IsBlock, IsFileOf, block_bytes, file_of, payload_of}
-use Rattle.mt_frame.specs.FrameReading.{layout, layout_from, u32_at}
-use Rattle.mt_frame.proofs.BlockLemmas.{frame_complete, header_facts, IsHeaderOf}
-use Rattle.mt_check.proofs.LoopLemmas.{at_index, at_end}
+use Rattle.mt_frame.specs.FrameReading.{frames_reading, layout, layout_from, u32_at}
+use Rattle.mt_frame.proofs.BlockLemmas.{frame_complete, frames_complete, header_facts}
+use Rattle.mt_check.proofs.LoopLemmas.{at_index, drop_drop, same_default}
 
 -- a frame at the front is cut off by its payload's length
 pub record IsCut (bytes : List ℕ) (block : Block) (rest : List ℕ) : Type 0 where
@@ -17,15 +16,6 @@ pub record IsCut (bytes : List ℕ) (block : Block) (rest : List ℕ) : Type 0 w
   pub long : length block.payload ≤ length (drop 25 bytes)
   pub payload : take (length block.payload) (drop 25 bytes) ≡ block.payload
   pub rest_is : drop (length block.payload) (drop 25 bytes) ≡ rest
-
-drop_drop : {X : Type 0} (m n : ℕ) (xs : List X) → drop n (drop m xs) ≡ drop (m + n) xs
-drop_drop zero n xs = let e : n ≡ 0 + n = omega arith in ap (λ k. drop k xs) e
-drop_drop (suc m) n [] = none n
-  where
-    none : (n : ℕ) → drop n (let xs : List _ = [] in xs) ≡ drop (suc m + n) []
-    none zero = refl
-    none (suc n) = refl
-drop_drop (suc m) n (x ∷ xs) = drop_drop m n xs ∙ (let e : suc (m + n) ≡ suc m + n = omega arith in ap (λ k. drop k (x ∷ xs)) e)
 
 pub block_cut : (block : Block) (rest : List ℕ) → IsBlock block → IsCut (block_bytes block ++ rest) block rest
 block_cut block rest is =
@@ -72,7 +62,7 @@ next_frame file frames items blocks i rest d is laid same left inside =
     let within : i < length blocks = omega (arith, inside, ap length (same ∙ laid), length-layout 0 blocks) in
     let block = get_or blocks i (record { checksum = []; payload = [] }) in
     let is_block : IsBlock block = All-get_or IsBlock blocks i (record { checksum = []; payload = [] }) within is.each in
-    let self : block ≡ get_or blocks i block = grind (arith, within) in
+    let self : block ≡ get_or blocks i block = same_default blocks i (record { checksum = []; payload = [] }) block within in
     record {
       block = block;
       there = self;
@@ -90,7 +80,11 @@ payload_more blocks i rest n payload new piece next ahead piece_is pushed =
     ∙ ap payload_of (ap (λ (b : Block). take i blocks ++ b ∷ []) next.there ∙ sym (take_more blocks i block next.inside))
   where
     one : (block : Block) → payload_of (block ∷ []) ≡ block.payload
-    one block = flat_map-cons (λ (b : Block). b.payload) block [] ∙ grind arith
+    one block = flat_map-cons (λ (b : Block). b.payload) block [] ∙ append-nil block.payload
 
 pub payload_whole : (blocks : List Block) (frames items : List Frame) (i : ℕ) (payload : List ℕ) → frames ≡ layout blocks → items ≡ frames → length items ≤ i → payload ≡ payload_of (take i blocks) → payload ≡ payload_of blocks
 payload_whole blocks frames items i payload laid same over ahead = ahead ∙ ap payload_of (take_all i blocks (omega (arith, over, ap length (same ∙ laid), length-layout 0 blocks)))
+
+-- what is read of a file of frames
+pub read_of_file : (file : List ℕ) (blocks : List Block) → IsFileOf blocks file → frames_reading file ≡ Ok blocks
+read_of_file file blocks is = subst (λ (bytes : List ℕ). frames_reading bytes ≡ Ok blocks) (sym is.bytes) (frames_complete (length (file_of blocks)) 0 blocks is.each (omega arith))

@@ -1,6 +1,6 @@
 -- The keys of a primary index, step by step.
-use Rattle.std.proofs.Common.{◌≡◌, ℕ, zero, suc, ◌+◌, ◌-◌, ◌<◌, ◌≤◌, Bool, true, false, List, [], ◌∷◌, ◌++◌, length, map, take, drop, refl, ap, sym, subst, ◌∙◌, get_or, arith}
-use Rattle.std.specs.Prelude.{All, IsTrue, Option, Some, None, Result, Ok, Err, ◌==◌}
+use Rattle.std.proofs.Common.{◌≡◌, ℕ, zero, suc, ◌+◌, ◌-◌, ◌<◌, ◌≤◌, Bool, true, false, List, [], ◌∷◌, length, map, take, drop, refl, ap, sym, subst, ◌∙◌, get_or, arith}
+use Rattle.std.specs.Prelude.{All, IsTrue, Result, Ok, ◌==◌}
 use Rattle.std.specs.Borrow.{Bor}
 use Rattle.std.specs.List.{flat_map}
 use Rattle.std.specs.Str.{bytes_eq}
@@ -18,7 +18,7 @@ use Rattle.mt_defs.specs.Lists.{Pointwise}
 use Rattle.mt_defs.specs.PrimaryIndex.{index_name, index_rows}
 use Rattle.mt_defs.specs.Rows.{Row, RowFits, cell}
 use Rattle.mt_check.specs.Faults.{fault_of, fault_in}
-use Rattle.mt_check.specs.Results.{Gives, FailsAs, IsFault}
+use Rattle.mt_check.specs.Results.{FailsAs, IsFault}
 use Rattle.mt_check.specs.RowRefs.{rows_in}
 use Rattle.mt_check.specs.RowsReading.{keys_reading}
 use Rattle.mt_check.proofs.FaultLemmas.{fault_gives}

@@ -1,5 +1,5 @@
 -- The checks of a partition's files, step by step.
-use Rattle.std.proofs.Common.{◌≡◌, ℕ, suc, ◌+◌, ◌<◌, ◌≤◌, Bool, true, false, not, List, [], ◌∷◌, ◌++◌, length, map, drop, refl, ap, sym, subst, ◌∙◌, get_or, arith, inl, inr}
+use Rattle.std.proofs.Common.{◌≡◌, ℕ, suc, ◌+◌, ◌<◌, ◌≤◌, Bool, true, false, not, List, [], ◌∷◌, length, map, drop, refl, ap, sym, subst, ◌∙◌, get_or, arith, inl, inr}
 use Rattle.std.specs.Prelude.{Option, Some, None, Result, Ok, Err, ◌==◌, ◌↔◌, IsTrue, if◌then◌else◌}
 use Rattle.std.specs.Str.{bytes_eq}
 use Rattle.std.proofs.lemmas.List.{append-nil}
@@ -23,9 +23,9 @@ use Rattle.mt_check.specs.Faults.{fault_of, fault_in, file_reading, none_found}
 use Rattle.mt_check.specs.PartitionReading.{files_reading, first_value, is_other, other_partition, partition_reading}
 use Rattle.mt_check.specs.Results.{Gives, FailsAs, IsFault}
 use Rattle.mt_check.specs.RowsReading.{first_index, granule_of}
-use Rattle.mt_check.proofs.FaultLemmas.{fails_then, gives_then, fault_gives}
+use Rattle.mt_check.proofs.FaultLemmas.{fails_then, fault_gives}
 use Rattle.mt_check.proofs.LoopLemmas.{at_index, at_end, nonempty}
-use Rattle.mt_check.proofs.RowLemmas.{later_by, index_here, index_step, index_none}
+use Rattle.mt_check.proofs.RowLemmas.{later_by, index_here, index_step}
 
 -- ---- the files
 

@@ -1,11 +1,10 @@
 -- The folder of a definition, of the part itself or of a projection: what its rows and granules are, or its first fault,
 -- docs/FORMAT.md, "The first fault".
-use Rattle.std.specs.Prelude.{ℕ, nat_le, if◌then◌else◌, List, [], ◌∷◌, length, map, take, slice_index_or, Result, Ok, Err}
+use Rattle.std.specs.Prelude.{ℕ, nat_le, if◌then◌else◌, List, length, map, take, slice_index_or, Result, Ok, Err}
 use Rattle.mt_shelf.specs.declared.fault.Why.{Why}
 use Rattle.mt_shelf.specs.declared.fault.Why.TheVariants as why
 use Rattle.mt_shelf.specs.declared.fault.Fault.{Fault}
 use Rattle.mt_types.specs.Steps.{◌>>=◌, require}
-use Rattle.mt_table.specs.declared.column.Column.{Column}
 use Rattle.mt_table.specs.declared.definition.PartDef.{PartDef}
 use Rattle.mt_table.specs.declared.limits.TheConstants.{MAX_CELLS}
 use Rattle.mt_defs.specs.Folder.{Folder}

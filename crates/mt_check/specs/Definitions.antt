@@ -1,5 +1,5 @@
 -- Definitions of parts whose folders are checked: those of tables and of their projections.
-use Rattle.std.specs.Prelude.{◌≡◌, ℕ, ◌<◌, ◌≤◌, true, List, length, All, IsTrue}
+use Rattle.std.specs.Prelude.{◌≡◌, ◌<◌, ◌≤◌, true, List, length, All, IsTrue}
 use Rattle.mt_types.specs.Profile.{is_profile}
 use Rattle.mt_table.specs.declared.column.Column.{Column}
 use Rattle.mt_table.specs.declared.definition.PartDef.{PartDef}

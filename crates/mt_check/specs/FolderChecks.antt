@@ -1,8 +1,7 @@
 -- The checks of a part's folder, in their order: docs/FORMAT.md, "The first fault".
-use Rattle.std.specs.Prelude.{ℕ, ◌+◌, not, Bool, List, [], ◌∷◌, ◌++◌, length, map, codes, Option, Some, None, if◌then◌else◌, Result, Ok}
+use Rattle.std.specs.Prelude.{ℕ, ◌+◌, Bool, List, [], ◌∷◌, ◌++◌, length, map, codes, Option, Some, None, if◌then◌else◌, Ok}
 use Rattle.std.specs.List.{list_any}
 use Rattle.mt_types.specs.declared.ty.Ty.{Ty}
-use Rattle.mt_shelf.specs.declared.fault.Fault.{Fault}
 use Rattle.mt_shelf.specs.declared.fault.Why.TheVariants as why
 use Rattle.mt_table.specs.declared.definition.Table.{Table}
 use Rattle.mt_table.specs.declared.projection.Projection.{Projection}

@@ -1,12 +1,12 @@
 -- What is checked of rows once they are read: docs/FORMAT.md, "The first fault".
-use Rattle.std.specs.Prelude.{ℕ, suc, ◌+◌, ◌-◌, nat_lt, ◌==◌, Bool, if◌then◌else◌, List, [], ◌∷◌, length, map, take, drop, Option, Some, None, option_map, Result, Ok}
+use Rattle.std.specs.Prelude.{ℕ, suc, ◌+◌, ◌-◌, nat_lt, ◌==◌, Bool, if◌then◌else◌, List, [], ◌∷◌, length, map, take, drop, Option, Some, None, option_map, Result}
 use Rattle.std.specs.List.{range_with_len}
 use Rattle.std.specs.Str.{bytes_eq}
 use Rattle.std.specs.Ordering.{is_lt}
 use Rattle.mt_shelf.specs.declared.fault.Fault.{Fault}
 use Rattle.mt_shelf.specs.declared.fault.Why.TheVariants.{Key, Over}
 use Rattle.mt_types.specs.Steps.{◌>>=◌, require}
-use Rattle.mt_defs.specs.Rows.{Row, key_of, key_cmp}
+use Rattle.mt_defs.specs.Rows.{Row, key_cmp}
 use Rattle.mt_defs.specs.PrimaryIndex.{index_name}
 use Rattle.mt_defs.specs.Projections.{index_in}
 use Rattle.mt_check.specs.Faults.{fault_of, fault_in}

@@ -1,5 +1,5 @@
 -- The marks of a skip index, and the entries between them: docs/FORMAT.md, "Skip indexes" and "The first fault".
-use Rattle.std.specs.Prelude.{◌≡◌, ℕ, ◌+◌, ◌-◌, nat_le, ◌==◌, Bool, true, List, [], ◌∷◌, ◌++◌, length, take, drop, Option, Some, None, option_map, Result, Ok, Err}
+use Rattle.std.specs.Prelude.{◌≡◌, ℕ, ◌+◌, ◌-◌, nat_le, ◌==◌, Bool, true, List, [], ◌∷◌, length, take, drop, Option, Some, None, option_map, Result, Ok, Err}
 use Rattle.mt_types.specs.Steps.{◌>>=◌, ok_or, onto, require}
 use Rattle.mt_shelf.specs.declared.fault.Fault.{Fault}
 use Rattle.mt_shelf.specs.declared.fault.Why.{Why}
@@ -13,7 +13,6 @@ use Rattle.mt_defs.specs.SkipIndexes.{skip_data_name, skip_marks_name}
 use Rattle.mt_frame.specs.declared.fault.FrameWhy.{FrameWhy}
 use Rattle.mt_frame.specs.declared.fault.FrameWhy.TheVariants as frame
 use Rattle.mt_frame.specs.FrameReading.{frames_reading, layout}
-use Rattle.mt_marks.specs.declared.marks.Marks.{Marks}
 use Rattle.mt_marks.specs.MarkReading.{entries_reading, marks_of}
 use Rattle.mt_marks.specs.Positions.{position_from}
 use Rattle.mt_check.specs.declared.skip_marks.Before.{Before}

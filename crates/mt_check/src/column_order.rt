@@ -11,6 +11,7 @@ ghost use Rattle.mt_check.specs.RowsReading.{places_in};
 use mt_table::Column;
 use mt_types::{List, NoMemory, Row, Value};
 use std::alloc::Global;
+use std::mem;
 
 /// The columns in an order, by their places.
 pub(crate) fn ordered_columns(
@@ -42,11 +43,13 @@ pub(crate) fn rows_in_place(
     if is_in_place(order) {
         return Ok(rows);
     }
-    let mut placed = List::with_capacity(alloc, rows.len())?;
-    for row in rows.into_vec() {
-        placed.push(row_in_place(alloc, order, row)?)?;
+    let count = rows.len();
+    let mut placed = rows.into_vec();
+    for index in 0..count {
+        let row = mem::replace(&mut placed[index], List::new(alloc));
+        placed[index] = row_in_place(alloc, order, row)?;
     }
-    Ok(placed)
+    Ok(List::of(placed))
 }
 
 /// Whether each column stands at its place.
@@ -68,10 +71,9 @@ fn row_in_place(alloc: Global, order: &[u32], row: Row) -> Result<Row, NoMemory>
     ensures { IfOk result (λ placed. placed ≡ key_of (places_in order.now) row) }
 {
     let mut placed = nulls(alloc, order.len())?;
-    let mut index = 0;
-    for value in row.into_vec() {
-        placed[order[index] as usize] = value;
-        index += 1;
+    let mut values = row.into_vec();
+    for (index, place) in order.iter().enumerate() {
+        placed[*place as usize] = mem::replace(&mut values[index], Value::Null);
     }
     Ok(List::of(placed))
 }

@@ -11,6 +11,7 @@ mod definition;
 mod fault;
 mod files;
 mod folder;
+mod law;
 mod names;
 mod own_names;
 mod partition;
@@ -20,8 +21,8 @@ mod skip_entries;
 mod skip_index;
 mod skip_marks;
 mod sort_order;
-mod stubs;
 mod texts;
 
 pub use accepted::Accepted;
 pub use folder::{PartFiles, check_files};
+pub use law::folders_have_one_answer;

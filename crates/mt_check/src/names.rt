@@ -15,7 +15,7 @@ pub(crate) fn file_name(
 ) -> Result<List<u8>, NoMemory>
     ensures { IfOk result (λ file. file ≡ beginning.now ++ names.file_name name.now ++ ending.now) }
 {
-    let escaped = crate::stubs::file_name(alloc, name)?;
+    let escaped = mt_wide::file_name(alloc, name)?;
     let mut file = List::of_bytes(alloc, beginning)?;
     file.append(escaped.as_slice())?;
     file.append(ending)?;

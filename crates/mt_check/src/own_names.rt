@@ -13,7 +13,7 @@ use crate::names::{file_name, with_ending};
 use crate::skip_entries::{data_name, marks_name};
 use mt_table::{Column, PartDef, PartExpr, Table};
 use mt_types::{List, NoMemory};
-use crate::stubs::stream_names;
+use mt_wide::stream_names;
 use std::alloc::Global;
 
 /// The files of a definition's folder, but for side files; `compact` is its layout.

@@ -36,7 +36,7 @@ pub(crate) fn check_skips(
     accepted: &Accepted,
 ) -> Result<(), ReadError>
     requires skips { HasSkips table.now }
-    requires few { length accepted.now.granules ≤ MAX_ROWS }
+    requires few { length accepted.now.rows ≤ MAX_ROWS }
     requires fit { All (RowFits table.now.columns) accepted.now.rows }
     requires cut { AreGranules accepted.now.granules accepted.now.rows }
     ensures { Answers result (each (skip_checks table.now (folder_of files.now) accepted.now) table.now.skips) }
@@ -59,7 +59,7 @@ fn check_skip(
 ) -> Result<(), ReadError>
     requires layout { compact ≡ is_compact (folder_of files.now) }
     requires skip { IsSkip table.now.columns skip.now }
-    requires few { length accepted.now.granules ≤ MAX_ROWS }
+    requires few { length accepted.now.rows ≤ MAX_ROWS }
     requires fit { All (RowFits table.now.columns) accepted.now.rows }
     requires cut { AreGranules accepted.now.granules accepted.now.rows }
     ensures { Answers result (skip_checks table.now (folder_of files.now) accepted.now skip.now) }

@@ -1,14 +1,15 @@
 //! columns.txt and count.txt.
 
-ghost use Rattle.std.specs.Prelude.{◌≡◌, ◌≤◌, length};
-ghost use Rattle.mt_table.specs.declared.limits.TheConstants.{MAX_COLUMNS};
+ghost use Rattle.std.specs.Prelude.{◌≡◌, ◌*◌, ◌≤◌, length, IfOk};
+ghost use Rattle.mt_table.specs.declared.limits.TheConstants.{MAX_CELLS, MAX_COLUMNS, MAX_ROWS};
 ghost use Rattle.mt_defs.specs.Folder.{folder_of};
 ghost use Rattle.mt_check.specs.DefinitionReading.{count_why, order_reading, rows_reading};
+ghost use Rattle.mt_check.specs.Orders.{IsOrder};
 ghost use Rattle.mt_check.specs.Results.{Gives};
 
 use crate::fault::fault_of;
 use crate::files::bytes_of;
-use mt_meta::{CountWhy, read_columns, read_count};
+use mt_meta::{CountWhy, counts_are_read, only_lists_are_read, read_columns, read_count};
 use mt_shelf::{FileBytes, ReadError, Why};
 use mt_table::PartDef;
 use mt_types::List;
@@ -26,9 +27,12 @@ pub(crate) fn read_order(
     files: &[FileBytes],
 ) -> Result<List<u32>, ReadError>
     requires { length definition.now.columns ≤ MAX_COLUMNS }
-    ensures { Gives result (order_reading definition.now (folder_of files.now)) }
+    ensures gives { Gives result (order_reading definition.now (folder_of files.now)) }
+    ensures order { IfOk result IsOrder }
+    ensures long { IfOk result (λ order. length order ≡ length definition.now.columns) }
 {
     let text = bytes_of(alloc, files, COLUMNS_FILE)?;
+    only_lists_are_read();
     read_columns(alloc, definition.columns.as_slice(), text)
 }
 
@@ -40,9 +44,13 @@ pub(crate) fn read_row_count(
 ) -> Result<u64, ReadError>
     requires some { 1 ≤ length definition.now.columns }
     requires few { length definition.now.columns ≤ MAX_COLUMNS }
-    ensures { Gives result (rows_reading definition.now (folder_of files.now)) }
+    ensures gives { Gives result (rows_reading definition.now (folder_of files.now)) }
+    ensures some { IfOk result (λ count. 1 ≤ count) }
+    ensures rows { IfOk result (λ count. count ≤ MAX_ROWS) }
+    ensures cells { IfOk result (λ count. count * length definition.now.columns ≤ MAX_CELLS) }
 {
     let text = bytes_of(alloc, files, COUNT_FILE)?;
+    counts_are_read();
     match read_count(text, definition.columns.len() as u64) {
         Ok(count) => Ok(count),
         Err(CountWhy::Syntax) => Err(fault_of(alloc, COUNT_FILE, Why::Syntax)),

@@ -2,3 +2,14 @@ pub mod CellLemmas
 pub mod DataFileLemmas
 pub mod NumberedLemmas
 pub mod GranuleLemmas
+pub mod OrderLemmas
+pub mod RowLemmas
+pub mod FitLemmas
+pub mod FileLemmas
+pub mod RuleLemmas
+pub mod WalkLemmas
+pub mod PieceLemmas
+pub mod MarkLemmas
+pub mod MarksFileLemmas
+pub mod PayloadLemmas
+pub mod StepLemmas

@@ -1,2 +1,10 @@
 pub mod CellColumns
 pub mod DataFiles
+pub mod FileFaults
+pub mod Results
+pub mod FileOrder
+pub mod FileFolder
+pub mod PayloadReading
+pub mod PayloadView
+pub mod Walking
+pub mod ColumnRows

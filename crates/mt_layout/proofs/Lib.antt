@@ -3,3 +3,4 @@ pub mod SizeLemmas
 pub mod ItemLemmas
 pub mod PayloadLemmas
 pub mod GranuleLemmas
+pub mod HoldLemmas

@@ -8,5 +8,7 @@ mod law;
 mod layout;
 mod rows;
 
-pub use law::{payloads_are_sums_over_rows, payloads_are_sums_over_values};
+pub use law::{
+    payloads_are_sums_over_rows, payloads_are_sums_over_values, written_granules_hold_all_rows,
+};
 pub use layout::{Layout, layout_of};

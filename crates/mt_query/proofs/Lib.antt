@@ -1,2 +1,4 @@
 pub mod ListLemmas
 pub mod ReadLemmas
+pub mod NamedLemmas
+pub mod GroupLemmas

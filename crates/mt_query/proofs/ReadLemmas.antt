@@ -1,5 +1,5 @@
 -- What reading a query text gives.
-use Rattle.std.proofs.Common.{◌≡◌, ◌≤◌, inl, inr, ℕ, List, length, ap, ◌∙◌, subst, arith}
+use Rattle.std.proofs.Common.{◌≡◌, ◌⊎◌, ◌≤◌, inl, inr, ℕ, List, length, ap, sym, ◌∙◌, subst, arith}
 use Rattle.std.specs.Prelude.{Result, Err}
 use Rattle.mt_table.specs.declared.definition.Table.{Table}
 use Rattle.mt_query_syntax.specs.declared.tree.QueryText.{QueryText}
@@ -11,7 +11,7 @@ use Rattle.mt_query.specs.declared.why.QueryError.{QueryError}
 use Rattle.mt_query.specs.declared.why.QueryError.TheVariants as error
 use Rattle.mt_query.specs.declared.why.QueryWhy.{QueryWhy}
 use Rattle.mt_query.specs.declared.why.QueryWhy.TheVariants.{Syntax}
-use Rattle.mt_query.specs.Queries.{Asks, GivesQuery, IsNoSentence}
+use Rattle.mt_query.specs.Queries.{Asks, AsksBySentence, GivesQuery, IsNoSentence}
 use Rattle.mt_query.specs.Rules.{judged}
 
 by_answer : (r : Result Query QueryError) (answer other : Result Query QueryWhy) → other ≡ answer → GivesQuery r other → GivesQuery r answer
@@ -37,3 +37,18 @@ module _ (text : List ℕ) (table : Table) where
     none_is_only answer (inl asks) = let long = asks.0 in absurd (omega (arith, long, short))
     none_is_only answer (inr (le, inl (sentence, is, asks))) = absurd (none sentence is)
     none_is_only answer (inr (le, inr asks)) = asks.1
+
+-- ---- one answer
+
+-- of a text that is not too long
+one_of_short : (text : List ℕ) (table : Table) (a b : Result Query QueryWhy) → AsksBySentence text table a ⊎ (IsNoSentence text × (a ≡ Err Syntax)) → AsksBySentence text table b ⊎ (IsNoSentence text × (b ≡ Err Syntax)) → a ≡ b
+one_of_short text table a b (inl h) (inl k) = sym h.2 ∙ ap (judged table.columns) (one_query text h.0 k.0 h.1 k.1) ∙ k.2
+one_of_short text table a b (inl h) (inr k) = absurd (k.0 h.0 h.1)
+one_of_short text table a b (inr h) (inl k) = absurd (h.0 k.0 k.1)
+one_of_short text table a b (inr h) (inr k) = h.1 ∙ sym k.1
+
+pub one_thing : (text : List ℕ) (table : Table) (a b : Result Query QueryWhy) → Asks text table a → Asks text table b → a ≡ b
+one_thing text table a b (inl h) (inl k) = h.1 ∙ sym k.1
+one_thing text table a b (inl h) (inr k) = let long = h.0 in let short = k.0 in absurd (omega (arith, long, short))
+one_thing text table a b (inr h) (inl k) = let short = h.0 in let long = k.0 in absurd (omega (arith, long, short))
+one_thing text table a b (inr h) (inr k) = one_of_short text table a b h.1 k.1

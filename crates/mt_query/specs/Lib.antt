@@ -3,4 +3,5 @@ pub mod Lists
 pub mod Literals
 pub mod Conditions
 pub mod Rules
+pub mod Named
 pub mod Queries

@@ -12,7 +12,12 @@ use mt_types::{Boxed, List, NoMemory};
 use std::alloc::Global;
 
 /// AND of two conditions, where both are there.
-fn all_of(alloc: Global, left: Option<Cond>, right: Option<Cond>) -> Result<Option<Cond>, NoMemory>
+#[inline(never)]
+fn all_of(
+    alloc: Global,
+    left: Option<Boxed<Cond>>,
+    right: Option<Boxed<Cond>>,
+) -> Result<Option<Boxed<Cond>>, NoMemory>
     ensures { IfOk result (λ cond. cond ≡ conditions.joined made.And left right) }
 {
     let Some(left) = left else {
@@ -21,13 +26,16 @@ fn all_of(alloc: Global, left: Option<Cond>, right: Option<Cond>) -> Result<Opti
     let Some(right) = right else {
         return Ok(None);
     };
-    let left = Boxed::new(alloc, left)?;
-    let right = Boxed::new(alloc, right)?;
-    Ok(Some(Cond::And(left, right)))
+    Ok(Some(Boxed::new(alloc, Cond::And(left, right))?))
 }
 
 /// OR of two conditions, where both are there.
-fn any_of(alloc: Global, left: Option<Cond>, right: Option<Cond>) -> Result<Option<Cond>, NoMemory>
+#[inline(never)]
+fn any_of(
+    alloc: Global,
+    left: Option<Boxed<Cond>>,
+    right: Option<Boxed<Cond>>,
+) -> Result<Option<Boxed<Cond>>, NoMemory>
     ensures { IfOk result (λ cond. cond ≡ conditions.joined made.Or left right) }
 {
     let Some(left) = left else {
@@ -36,17 +44,16 @@ fn any_of(alloc: Global, left: Option<Cond>, right: Option<Cond>) -> Result<Opti
     let Some(right) = right else {
         return Ok(None);
     };
-    let left = Boxed::new(alloc, left)?;
-    let right = Boxed::new(alloc, right)?;
-    Ok(Some(Cond::Or(left, right)))
+    Ok(Some(Boxed::new(alloc, Cond::Or(left, right))?))
 }
 
 /// NOT of a condition, where it is there.
-fn negated(alloc: Global, inner: Option<Cond>) -> Result<Option<Cond>, NoMemory>
+#[inline(never)]
+fn negated(alloc: Global, inner: Option<Boxed<Cond>>) -> Result<Option<Boxed<Cond>>, NoMemory>
     ensures { IfOk result (λ cond. cond ≡ option_map made.Not inner) }
 {
     match inner {
-        Some(inner) => Ok(Some(Cond::Not(Boxed::new(alloc, inner)?))),
+        Some(inner) => Ok(Some(Boxed::new(alloc, Cond::Not(inner))?)),
         None => Ok(None),
     }
 }
@@ -79,13 +86,14 @@ impl<'c> Columns<'c> {
     }
 
     /// A comparison, where its literal suits its column.
+    #[inline(never)]
     fn comparison(
         &self,
         alloc: Global,
         name: &List<u8>,
         op: Op,
         literal: &Literal,
-    ) -> Result<Option<Cond>, NoMemory>
+    ) -> Result<Option<Boxed<Cond>>, NoMemory>
         ensures { IfOk result (λ cond. cond
             ≡ conditions.comparison_of self.now.list.now name.now op literal.now) }
     {
@@ -95,20 +103,22 @@ impl<'c> Columns<'c> {
         let Some(literal) = value_of(alloc, ty, literal)? else {
             return Ok(None);
         };
-        Ok(Some(Cond::Cmp {
+        let cond = Cond::Cmp {
             column,
             op,
             literal,
-        }))
+        };
+        Ok(Some(Boxed::new(alloc, cond)?))
     }
 
     /// An IN, where its literals suit its column.
+    #[inline(never)]
     fn one_of(
         &self,
         alloc: Global,
         name: &List<u8>,
         literals: &List<Literal>,
-    ) -> Result<Option<Cond>, NoMemory>
+    ) -> Result<Option<Boxed<Cond>>, NoMemory>
         ensures { IfOk result (λ cond. cond
             ≡ conditions.one_of self.now.list.now name.now literals.now) }
     {
@@ -118,24 +128,34 @@ impl<'c> Columns<'c> {
         let Some(literals) = values_of(alloc, ty, literals.as_slice())? else {
             return Ok(None);
         };
-        Ok(Some(Cond::OneOf { column, literals }))
+        Ok(Some(Boxed::new(alloc, Cond::OneOf { column, literals })?))
     }
 
     /// An IS NULL.
-    fn null_test(&self, name: &List<u8>, negated: bool) -> Option<Cond>
-        ensures { result ≡ conditions.null_test_of self.now.list.now name.now negated }
+    #[inline(never)]
+    fn null_test(
+        &self,
+        alloc: Global,
+        name: &List<u8>,
+        negated: bool,
+    ) -> Result<Option<Boxed<Cond>>, NoMemory>
+        ensures { IfOk result (λ cond. cond
+            ≡ conditions.null_test_of self.now.list.now name.now negated) }
     {
-        let column = self.place(name.as_slice())?;
-        Some(Cond::IsNull { column, negated })
+        match self.place(name.as_slice()) {
+            Some(column) => Ok(Some(Boxed::new(alloc, Cond::IsNull { column, negated })?)),
+            None => Ok(None),
+        }
     }
 
     /// A startsWith, where its text suits its column.
+    #[inline(never)]
     fn starts(
         &self,
         alloc: Global,
         name: &List<u8>,
         prefix: &List<u8>,
-    ) -> Result<Option<Cond>, NoMemory>
+    ) -> Result<Option<Boxed<Cond>>, NoMemory>
         ensures { IfOk result (λ cond. cond
             ≡ conditions.starts_of self.now.list.now name.now prefix.now) }
     {
@@ -145,16 +165,17 @@ impl<'c> Columns<'c> {
         let Some(prefix) = prefix_of(alloc, ty, prefix)? else {
             return Ok(None);
         };
-        Ok(Some(Cond::Starts { column, prefix }))
+        Ok(Some(Boxed::new(alloc, Cond::Starts { column, prefix })?))
     }
 
     /// A has, where its literal suits the elements of its column.
+    #[inline(never)]
     fn element_test(
         &self,
         alloc: Global,
         name: &List<u8>,
         literal: &Literal,
-    ) -> Result<Option<Cond>, NoMemory>
+    ) -> Result<Option<Boxed<Cond>>, NoMemory>
         ensures { IfOk result (λ cond. cond
             ≡ conditions.has_of self.now.list.now name.now literal.now) }
     {
@@ -164,17 +185,18 @@ impl<'c> Columns<'c> {
         let Some(literal) = element_of(alloc, ty, literal)? else {
             return Ok(None);
         };
-        Ok(Some(Cond::Has { column, literal }))
+        Ok(Some(Boxed::new(alloc, Cond::Has { column, literal })?))
     }
 
-    /// The condition of a sentence's, where each literal suits its column.
-    fn cond(&self, alloc: Global, cond: &CondText) -> Result<Option<Cond>, NoMemory>
+    /// The condition of a sentence's, where each literal suits its column. A text may join some 9,000
+    /// conditions, so a call takes little of the stack: it returns a box, and the others aren't inlined.
+    fn cond(&self, alloc: Global, cond: &CondText) -> Result<Option<Boxed<Cond>>, NoMemory>
         ensures { IfOk result (λ found. found ≡ conditions.cond_of self.now.list.now cond.now) }
     {
         match cond {
             CondText::Cmp { name, op, literal } => self.comparison(alloc, name, *op, literal),
             CondText::OneOf { name, literals } => self.one_of(alloc, name, literals),
-            CondText::IsNull { name, negated } => Ok(self.null_test(name, *negated)),
+            CondText::IsNull { name, negated } => self.null_test(alloc, name, *negated),
             CondText::Starts { name, prefix } => self.starts(alloc, name, prefix),
             CondText::Has { name, literal } => self.element_test(alloc, name, literal),
             CondText::And(left, right) => {
@@ -205,7 +227,7 @@ impl<'c> Columns<'c> {
         match cond {
             None => Ok(Some(None)),
             Some(cond) => match self.cond(alloc, cond)? {
-                Some(cond) => Ok(Some(Some(cond))),
+                Some(cond) => Ok(Some(Some(cond.into_inner()))),
                 None => Ok(None),
             },
         }

@@ -1,13 +1,14 @@
 //! What a query with groups selects.
 
-ghost use Rattle.std.specs.Prelude.{◌≡◌, nat_eq};
+ghost use Rattle.std.specs.Prelude.{◌≡◌, ℕ, nat_eq, IfOk};
 ghost use Rattle.std.specs.List.{list_all, list_any};
 ghost use Rattle.mt_table.specs.ColumnTypes.{is_integer_type, is_number_type, place_has};
 ghost use Rattle.mt_query.specs.Rules as rules;
 
 use crate::columns::Columns;
 use crate::query::Item;
-use mt_types::{Agg, Ty};
+use mt_types::{Agg, List, NoMemory, Ty};
+use std::alloc::Global;
 
 fn is_aggregate(item: &Item) -> bool
     ensures { result ≡ rules.is_aggregate item.now }
@@ -45,15 +46,29 @@ fn has_aggregate(items: &[Item]) -> bool
     items.iter().any(|item| is_aggregate(item))
 }
 
-/// Whether each plain item is in GROUP BY, where rows are grouped.
-pub(crate) fn are_grouped(items: &[Item], keys: &[u32]) -> bool
-    ensures { result ≡ rules.are_grouped items.now keys.now }
+/// The places of GROUP BY, each once: at most as many as the table has columns, however long the text.
+fn distinct(alloc: Global, keys: &[u32]) -> Result<List<u32>, NoMemory>
+    ensures { IfOk result (λ found. (place : ℕ)
+        → list_any (nat_eq place) found ≡ list_any (nat_eq place) keys.now) }
 {
-    if has_groups(items, keys) {
-        are_of_group(items, keys)
-    } else {
-        true
+    let mut found = List::new(alloc);
+    for key in keys {
+        if !found.as_slice().contains(key) {
+            found.push(*key)?;
+        }
     }
+    Ok(found)
+}
+
+/// Whether each plain item is in GROUP BY, where rows are grouped.
+pub(crate) fn are_grouped(alloc: Global, items: &[Item], keys: &[u32]) -> Result<bool, NoMemory>
+    ensures { IfOk result (λ they_are. they_are ≡ rules.are_grouped items.now keys.now) }
+{
+    if !has_groups(items, keys) {
+        return Ok(true);
+    }
+    let keys = distinct(alloc, keys)?;
+    Ok(are_of_group(items, keys.as_slice()))
 }
 
 fn is_integer(ty: &Ty) -> bool

@@ -23,7 +23,7 @@ impl<'c> Columns<'c> {
     ) -> Result<Query, QueryError>
         ensures { GivesQuery result (judged_items self.now.list.now text.now items keys) }
     {
-        if !are_grouped(items.as_slice(), keys.as_slice()) {
+        if !are_grouped(alloc, items.as_slice(), keys.as_slice())? {
             return Err(QueryError::Bad(QueryWhy::NotGrouped));
         }
         let Some(cond) = self.given_cond(alloc, &text.cond)? else {

@@ -10,6 +10,7 @@ mod date;
 mod group;
 mod item;
 mod judge;
+mod law;
 mod limits;
 mod literal;
 mod query;
@@ -17,6 +18,7 @@ mod reading;
 mod why;
 
 pub use cond::Cond;
+pub use law::a_text_asks_one_thing;
 pub use limits::MAX_QUERY_TEXT;
 pub use mt_query_syntax::{MAX_COND_DEPTH, Op};
 pub use query::{Item, Query};

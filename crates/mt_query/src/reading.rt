@@ -1,9 +1,10 @@
 //! Reading a query text.
 
-ghost use Rattle.std.specs.Prelude.{◌≡◌, IfOk, Result, Ok, Err};
+ghost use Rattle.std.specs.Prelude.{◌≡◌, IfOk, IsTrue, Result, Ok, Err};
 ghost use Rattle.mt_query.specs.declared.query.Query.{Query};
 ghost use Rattle.mt_query.specs.declared.why.QueryWhy.{QueryWhy};
 ghost use Rattle.mt_query.specs.declared.why.QueryError.TheVariants as error;
+ghost use Rattle.mt_query.specs.Named.{is_place, query_passes};
 ghost use Rattle.mt_query.specs.Queries.{Asks, GivesQuery};
 
 use crate::columns::Columns;
@@ -25,6 +26,9 @@ impl Query {
         ensures found { IfOk result (λ query. Asks text.now table.now (Ok query)) }
         ensures bad { (why : QueryWhy) → result ≡ Err (error.Bad why) → Asks text.now table.now (Err why) }
         ensures only { (answer : Result Query QueryWhy) → Asks text.now table.now answer → GivesQuery result answer }
+
+        // Every column that the query names is one of the table's.
+        ensures within { IfOk result (λ query. IsTrue (query_passes (is_place table.now.columns) query)) }
     {
         if text.len() > MAX_QUERY_TEXT {
             return Err(QueryError::Bad(QueryWhy::TooMany));

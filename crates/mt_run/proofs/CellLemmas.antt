@@ -39,7 +39,7 @@ use Rattle.mt_defs.specs.Writer.{folded_row, projection_rows}
 use Rattle.mt_defs.proofs.Sorted.{All-sorted_rows, cell_count-sorted_rows, length-sorted_rows}
 use Rattle.mt_build.proofs.DefinitionLemmas.{HasColumn, key_columns, key_scalar}
 use Rattle.mt_build.proofs.InnerLemmas.{kept_grouped, projections_kept}
-use Rattle.mt_build.proofs.ProjectionRowLemmas.{cell_fits}
+use Rattle.mt_build.proofs.ProjectionRowLemmas.{All-distinct_by, cell_fits}
 use Rattle.mt_run.specs.Write.{has_many_cells}
 
 -- ---- projections of some columns
@@ -82,7 +82,7 @@ fewer_in_rows table chosen (row ∷ rows) fit =
     let right = sum_by-cons f row rows in
     omega (arith, here, later, left, right)
 
-normal_cells : (table : Table) (name chosen sort : List ℕ) (rows : List Row) → All (RowFits table.columns) rows
+pub normal_cells : (table : Table) (name chosen sort : List ℕ) (rows : List Row) → All (RowFits table.columns) rows
     → cell_count (inner_of table (Normal name chosen sort)).columns (projection_rows table (Normal name chosen sort) rows) ≤ cell_count table.columns rows
 normal_cells table name chosen sort rows fit =
     let stored = stored_columns table chosen in
@@ -159,11 +159,6 @@ key_none table keys row has fits =
 states_none : (rows : List Row) (aggs : List Aggregate) → All HasNone (map (λ aggregate. State (fold_of rows aggregate)) aggs)
 states_none rows aggs = All-map HasNone (λ aggregate. State (fold_of rows aggregate)) aggs (λ k d h. no_elements (State (fold_of rows _)) (Value-F.State (fold_of rows _)) (outs-State (fold_of rows _)) refl)
 
-All-distinct_by : {X : Type 0} (P : X → Type 0) (same : X → X → Bool) (xs : List X) → All P xs → All P (distinct_by same xs)
-All-distinct_by P same [] all = All-nil P
-All-distinct_by P same (x ∷ xs) all =
-    All-cons P x (filter (λ y. not (same x y)) (distinct_by same xs)) (All-head P x xs all) (All-filter (λ y. not (same x y)) P (distinct_by same xs) (All-distinct_by P same xs (All-tail P x xs all)))
-
 length-distinct_by : {X : Type 0} (same : X → X → Bool) (xs : List X) → length (distinct_by same xs) ≤ length xs
 length-distinct_by same [] = omega arith
 length-distinct_by same (x ∷ xs) =
@@ -181,7 +176,7 @@ no_arrays (row ∷ rows) all =
     let one = sum_by-cons (λ (row : Row). sum_by element_count row) row rows in
     omega (arith, here, later, one)
 
-grouped_cells : (table : Table) (name keys : List ℕ) (aggs : List Aggregate) (rows : List Row) → keeps_grouped table.columns keys aggs ≡ true → All (RowFits table.columns) rows
+pub grouped_cells : (table : Table) (name keys : List ℕ) (aggs : List Aggregate) (rows : List Row) → keeps_grouped table.columns keys aggs ≡ true → All (RowFits table.columns) rows
     → cell_count (inner_of table (Grouped name keys aggs)).columns (projection_rows table (Grouped name keys aggs) rows) ≡ length (projection_rows table (Grouped name keys aggs) rows) * (length keys + length aggs)
 grouped_cells table name keys aggs rows keeps fit =
     let kept = kept_grouped table.columns keys aggs keeps in
@@ -204,7 +199,7 @@ grouped_cells table name keys aggs rows keeps fit =
     plus_none : (n : ℕ) → n + 0 ≡ n
     plus_none n = omega arith
 
-grouped_rows : (table : Table) (name keys : List ℕ) (aggs : List Aggregate) (rows : List Row) → length (projection_rows table (Grouped name keys aggs) rows) ≤ length rows
+pub grouped_rows : (table : Table) (name keys : List ℕ) (aggs : List Aggregate) (rows : List Row) → length (projection_rows table (Grouped name keys aggs) rows) ≤ length rows
 grouped_rows table name keys aggs rows =
     let sorted = sorted_rows keys rows in
     let found : List (List Value) = distinct_by is_same_key (map (key_of keys) sorted) in

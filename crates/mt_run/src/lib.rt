@@ -6,6 +6,7 @@
 mod cells;
 mod folder;
 mod input;
+mod law;
 mod limits;
 mod note;
 mod partition;
@@ -15,6 +16,7 @@ mod top;
 mod words;
 mod write;
 
+pub use law::published_folders_stand;
 pub use limits::{MAX_FOLDER, MAX_INPUT, MAX_TABLE_TEXT, MAX_WORKERS};
 pub use status::{Status, What};
 pub use top::run;

@@ -1,2 +1,4 @@
 pub mod Names
 pub mod StreamFiles
+pub mod WideReading
+pub mod StreamView

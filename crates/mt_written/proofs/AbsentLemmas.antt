@@ -19,7 +19,7 @@ use Rattle.mt_defs.specs.Projections.{base_of, inner_of, projection_name, projec
 use Rattle.mt_defs.specs.WrittenGranules.{written_granules}
 use Rattle.mt_defs.specs.WrittenPartition.{partition_files}
 use Rattle.mt_defs.specs.Writer.{definition_files, file_below, projection_files, projection_rows}
-use Rattle.mt_build.proofs.LookupLemmas.{last_of}
+use Rattle.mt_written.proofs.LookupLemmas.{last_of}
 use Rattle.mt_written.proofs.ListLemmas.{All-to_flat_map, All-mapped}
 use Rattle.mt_written.proofs.NameLemmas.{is_stem, stem_of, has_slash}
 use Rattle.mt_written.proofs.ApartLemmas.{EachLater, Labelled, no, yes}

@@ -18,7 +18,7 @@ use Rattle.mt_defs.specs.Compact.{EncodesColumns, IsCompact}
 use Rattle.mt_defs.specs.WrittenStreams.{written_streams}
 use Rattle.mt_defs.specs.WrittenFrames.{written_frames, written_marks_bytes}
 use Rattle.mt_defs.specs.WrittenColumns.{compact_files, compact_frames}
-use Rattle.mt_build.proofs.MarkLemmas.{framed_one_by_one, is_marks_file, joined}
+use Rattle.mt_written.proofs.MarkLemmas.{framed_one_by_one, is_marks_file, joined}
 use Rattle.mt_written.proofs.ListLemmas.{All-mapped, All-to_flat_map, Pointwise-mapped}
 use Rattle.mt_written.proofs.WideLemmas.{HasFile, no_file, ColumnHolds, column_encodes, column_bytes}
 

@@ -21,7 +21,7 @@ use Rattle.mt_defs.specs.WrittenFrames.{written_frames, written_marks_bytes}
 use Rattle.mt_defs.specs.WrittenGranules.{written_granules}
 use Rattle.mt_defs.specs.WrittenColumns.{file, stream_files, granule_streams, wide_column, wide_files, compact_files, compact_frames}
 use Rattle.mt_defs.specs.Writer.{definition_files}
-use Rattle.mt_build.proofs.LookupLemmas.{AreApart, last_of, last_append, other_name}
+use Rattle.mt_written.proofs.LookupLemmas.{AreApart, last_of, last_append, other_name}
 use Rattle.mt_written.proofs.ListLemmas.{All-two, All-three, All-to_flat_map, All-both, All-mapped}
 use Rattle.mt_written.proofs.NameLemmas.{is_stem, stem_of, has_slash, stem_before_dot, stem_without_slash, no_slash_appended, file_name_stem, file_name_injective}
 use Rattle.mt_written.proofs.SuffixLemmas.{IsSuffix, are_suffixes, suffixes_differ}

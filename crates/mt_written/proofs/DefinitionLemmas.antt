@@ -24,8 +24,8 @@ use Rattle.mt_defs.specs.Part.{HasColumns, HoldsRows, is_compact}
 use Rattle.mt_defs.specs.WrittenGranules.{written_granules, is_small}
 use Rattle.mt_defs.specs.WrittenColumns.{file, wide_files, compact_files}
 use Rattle.mt_defs.specs.Writer.{definition_files}
-use Rattle.mt_build.proofs.LawLemmas.{granules_hold}
-use Rattle.mt_build.proofs.ColumnLemmas.{below_sum}
+use Rattle.mt_layout.proofs.HoldLemmas.{granules_hold}
+use Rattle.mt_written.proofs.ListLemmas.{below_sum}
 use Rattle.mt_written.specs.Texts.{holds_bytes, HoldBytes}
 use Rattle.mt_written.proofs.ListLemmas.{All-left, All-right, All-both, All-granules, all_places}
 use Rattle.mt_written.proofs.WideLemmas.{HasFile, no_file, ColumnHolds, columns_hold, wide_held}

@@ -21,7 +21,7 @@ use Rattle.mt_defs.specs.WrittenColumns.{wide_column, wide_files, compact_files}
 use Rattle.mt_defs.specs.WrittenPartition.{partition_files}
 use Rattle.mt_defs.specs.WrittenSkips.{skip_files}
 use Rattle.mt_defs.specs.Writer.{definition_files, projection_files, written_folder, file_cmp}
-use Rattle.mt_build.proofs.LookupLemmas.{Apart, AreApart, found_here, found_later, other_name, sorted_folder}
+use Rattle.mt_written.proofs.LookupLemmas.{Apart, AreApart, found_here, found_later, other_name, sorted_folder}
 use Rattle.mt_written.proofs.ListLemmas.{All-to_flat_map}
 use Rattle.mt_written.proofs.NameLemmas.{stem_of, has_slash, file_name_injective}
 use Rattle.mt_written.proofs.ApartLemmas.{Across, Unnamed, Labelled, across_flat, across_labels, apart_appended, no, yes, All-numbered}

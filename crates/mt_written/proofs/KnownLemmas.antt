@@ -27,7 +27,7 @@ use Rattle.mt_defs.specs.WrittenGranules.{written_granules, is_small}
 use Rattle.mt_defs.specs.WrittenPartition.{minmax_file, partition_files}
 use Rattle.mt_defs.specs.WrittenSkips.{skip_files}
 use Rattle.mt_defs.specs.Writer.{definition_files, file_below, projection_files, projection_rows}
-use Rattle.mt_build.proofs.LookupLemmas.{found_is_listed}
+use Rattle.mt_written.proofs.LookupLemmas.{found_is_listed}
 use Rattle.mt_written.proofs.ListLemmas.{All-distinct, All-mapped, All-of_map, All-to_flat_map}
 use Rattle.mt_written.proofs.DefinitionLemmas.{data_files, written_layout}
 use Rattle.mt_written.proofs.PartitionLemmas.{distinct, is_same, key_columns}

@@ -1,3 +1,6 @@
+pub mod LookupLemmas
+pub mod FrameLemmas
+pub mod MarkLemmas
 pub mod ListLemmas
 pub mod ByteLemmas
 pub mod WideLemmas
@@ -5,7 +8,6 @@ pub mod CompactLemmas
 pub mod DefinitionLemmas
 pub mod NameLemmas
 pub mod ApartLemmas
-pub mod PlainLemmas
 pub mod SuffixLemmas
 pub mod DataNames
 pub mod RuleLemmas
@@ -21,5 +23,3 @@ pub mod KnownLemmas
 pub mod OrderLemmas
 pub mod StandLemmas
 pub mod TextLemmas
-pub mod PlainPaths
-pub mod PathLemmas

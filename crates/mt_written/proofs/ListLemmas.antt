@@ -1,8 +1,9 @@
 -- What holds of each element of lists that are made of others.
-use Rattle.std.proofs.Common.{◌≡◌, ℕ, ◌+◌, ◌<◌, Bool, true, not, List, [], ◌∷◌, ◌++◌, length, map, take, drop, get_or, refl, ap, sym, ◌∙◌, subst, arith}
-use Rattle.std.specs.Prelude.{All, filter}
+use Rattle.std.proofs.Common.{◌≡◌, ℕ, zero, suc, ◌+◌, ◌<◌, Bool, true, not, List, [], ◌∷◌, ◌++◌, length, map, take, drop, get_or, refl, ap, sym, ◌∙◌, subst, arith}
+use Rattle.std.specs.Prelude.{All, filter, sum}
 use Rattle.std.specs.List.{flat_map, list_all, enumerate_from, range_with_len}
 use Rattle.std.proofs.lemmas.Bool.{and_from}
+use Rattle.std.proofs.lemmas.List.Sums.{sum_by-cons}
 use Rattle.std.proofs.lemmas.List.{same_lists, get_or_default}
 use Rattle.std.proofs.lemmas.List.FromFn.{length-enumerate_from, get_or-enumerate_from, length-map-range_with_len, get_or-map-range_with_len}
 use Rattle.std.proofs.lemmas.List.Elements.{All-nil, All-cons, All-append, All-filter, All-head, All-tail, All-take, All-drop}
@@ -82,3 +83,18 @@ all_places xs d =
     let here : k < length xs = omega (arith, inside, length-map-range_with_len (λ i. get_or xs i d) 0 (length xs)) in
     let same : 0 + k ≡ k = omega arith in
     get_or-map-range_with_len (λ i. get_or xs i d) 0 (length xs) k k e here same ∙ get_or_default xs k d e here)
+
+-- what holds pointwise holds at an index
+pub Pointwise-get_or : {A B : Type 0} (R : A → B → Type 0) (xs : List A) (ys : List B) (i : ℕ) (d : A) (e : B) → Pointwise R xs ys → i < length xs → R (get_or xs i d) (get_or ys i e)
+Pointwise-get_or R [] [] i d e p h = absurd (omega arith)
+Pointwise-get_or R [] (y ∷ ys) i d e p h = absurd p
+Pointwise-get_or R (x ∷ xs) [] i d e p h = absurd p
+Pointwise-get_or R (x ∷ xs) (y ∷ ys) zero d e p h = p.0
+Pointwise-get_or R (x ∷ xs) (y ∷ ys) (suc i) d e p h = Pointwise-get_or R xs ys i d e p.1 (omega arith)
+
+-- numbers whose sum is below a limit are below it
+pub below_sum : (limit : ℕ) (counts : List ℕ) → sum counts < limit → All (λ count. count < limit) counts
+below_sum limit [] h = All-nil (λ count. count < limit)
+below_sum limit (count ∷ counts) h =
+    let all : sum (count ∷ counts) ≡ count + sum counts = sum_by-cons (λ x. x) count counts in
+    All-cons (λ count. count < limit) count counts (omega arith) (below_sum limit counts (omega arith))

@@ -8,7 +8,7 @@ use Rattle.std.proofs.lemmas.List.Kept.{AllPairs-cons}
 use Rattle.mt_shelf.specs.declared.file.FileBytes.{FileBytes}
 use Rattle.mt_defs.specs.Sorting.{placed_by, sorted_by}
 use Rattle.mt_defs.proofs.Sorted.{All-sorted_by}
-use Rattle.mt_build.proofs.LookupLemmas.{Apart, AreApart, same_name}
+use Rattle.mt_written.proofs.LookupLemmas.{Apart, AreApart, same_name}
 use Rattle.mt_written.proofs.ApartLemmas.{EachLater}
 
 -- each pair

@@ -24,7 +24,7 @@ use Rattle.mt_defs.specs.WrittenColumns.{file}
 use Rattle.mt_defs.specs.WrittenPartition.{minmax_bytes, minmax_file, partition_files}
 use Rattle.mt_skip.proofs.LawLemmas.{written_agree}
 use Rattle.mt_table.specs.declared.skip.SkipKind.TheVariants.{Minmax}
-use Rattle.mt_build.proofs.LookupLemmas.{AreApart, last_of, last_append}
+use Rattle.mt_written.proofs.LookupLemmas.{AreApart, last_of, last_append}
 use Rattle.mt_written.proofs.ListLemmas.{All-distinct, All-mapped, All-of_map}
 use Rattle.mt_written.proofs.NameLemmas.{has_slash, no_slash_appended, stem_without_slash, file_name_stem, file_name_injective}
 use Rattle.mt_written.proofs.ApartLemmas.{EachLater, Differ, later_mapped, apart_each}

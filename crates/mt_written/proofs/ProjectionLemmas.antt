@@ -27,7 +27,7 @@ use Rattle.mt_defs.specs.Folds.{fold_of}
 use Rattle.mt_defs.specs.Projections.{inner_of, stored_columns, projection_name, projection_prefix, is_same_key, with_key}
 use Rattle.mt_defs.specs.Writer.{definition_files, file_below, folded_row, projection_files, projection_rows}
 use Rattle.mt_defs.proofs.Sorted.{All-sorted_rows}
-use Rattle.mt_build.proofs.LookupLemmas.{Apart, AreApart, same_name, other_name}
+use Rattle.mt_written.proofs.LookupLemmas.{Apart, AreApart, same_name, other_name}
 use Rattle.mt_written.specs.Texts.{holds_bytes, HoldBytes}
 use Rattle.mt_written.proofs.ByteLemmas.{holds_at}
 use Rattle.mt_written.proofs.ListLemmas.{All-distinct, All-mapped, list_all-mapped}

@@ -31,8 +31,9 @@ use Rattle.mt_defs.specs.WrittenGranules.{written_granules, is_small}
 use Rattle.mt_defs.specs.WrittenPartition.{best_of, better_of, minmax_bytes}
 use Rattle.mt_defs.specs.WrittenSkips.{skip_files, written_entries, written_entry, written_skip_mark}
 use Rattle.mt_skip.proofs.EntriesLemmas.{entries_agree}
-use Rattle.mt_build.proofs.LawLemmas.{blocks_within, blocks_are, file_is, granules_hold}
-use Rattle.mt_build.proofs.MarkLemmas.{framed_one_by_one, starts_denote}
+use Rattle.mt_layout.proofs.HoldLemmas.{granules_hold}
+use Rattle.mt_written.proofs.FrameLemmas.{blocks_within, blocks_are, file_is}
+use Rattle.mt_written.proofs.MarkLemmas.{framed_one_by_one, starts_denote}
 use Rattle.mt_written.specs.Texts.{holds_bytes, HoldBytes}
 use Rattle.mt_written.proofs.ByteLemmas.{item_is_bytes, number_bytes}
 use Rattle.mt_written.proofs.ListLemmas.{All-distinct, All-mapped, All-to_flat_map, All-granules}

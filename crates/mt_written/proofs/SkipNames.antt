@@ -23,7 +23,7 @@ use Rattle.mt_defs.specs.Part.{marks_ending}
 use Rattle.mt_defs.specs.SkipIndexes.{data_ending, skip_data_name, skip_marks_name}
 use Rattle.mt_defs.specs.WrittenGranules.{is_small}
 use Rattle.mt_defs.specs.WrittenSkips.{skip_files}
-use Rattle.mt_build.proofs.LookupLemmas.{AreApart, other_name}
+use Rattle.mt_written.proofs.LookupLemmas.{AreApart, other_name}
 use Rattle.mt_written.proofs.ListLemmas.{All-two, All-of_map}
 use Rattle.mt_written.proofs.WideLemmas.{no_file}
 use Rattle.mt_written.proofs.NameLemmas.{not_true, is_stem, stem_of, has_slash, stem_before_dot, stem_without_slash, no_slash_appended, stems_appended, file_name_stem, file_name_injective}
@@ -99,7 +99,6 @@ others_apart table rows a b other =
 -- what the rules say of the indexes of a table
 pub record IndexRules (table : Table) : Type 0 where
   pub differ : EachLater (λ a b. a.name ≢ b.name) table.skips
-  pub words : All (λ skip. is_name skip.name ≡ true) table.skips
   pub coarse : All (λ skip. 1 ≤ skip.granularity) table.skips
   pub no_column : All (λ skip. All (λ column. column.name ≢ skip_stem skip.name) table.columns) table.skips
 
@@ -117,8 +116,6 @@ index_rules table keeps =
     let test : List ℕ → Bool = λ name. not (is_among (names_of table.columns) (skip_stem name)) in
     record {
       differ = later_unmapped (λ a b. a ≢ b) (λ skip. skip.name) table.skips (names_are_different (skip_names table.skips) three.0);
-      words =
-          All-weaker (λ skip. keeps_skip table.columns skip ≡ true) (λ skip. is_name skip.name ≡ true) (λ skip is. (and_parts (is_name skip.name) _ is).0) table.skips (each_passes (keeps_skip table.columns) table.skips two.0);
       coarse =
           All-weaker (λ skip. keeps_skip table.columns skip ≡ true) (λ skip. 1 ≤ skip.granularity) (λ skip is.
           leb-true 1 skip.granularity (and_parts (nat_le 1 skip.granularity) _ (and_parts _ _ (and_parts (is_name skip.name) _ is).1).1).0) table.skips (each_passes (keeps_skip table.columns) table.skips two.0);

@@ -1,5 +1,5 @@
 -- The suffixes of a type's substreams differ.
-use Rattle.std.proofs.Common.{◌≡◌, ◌≢◌, ℕ, zero, suc, ◌+◌, ◌<◌, ◌≤◌, true, false, ◌&&◌, ◌||◌, List, [], ◌∷◌, ◌++◌, length, get_or, refl, ap, sym, ◌∙◌, subst, arith, inl, inr, ◌⊎◌}
+use Rattle.std.proofs.Common.{◌≡◌, ◌≢◌, ℕ, zero, suc, ◌+◌, ◌<◌, ◌≤◌, true, false, ◌||◌, List, [], ◌∷◌, ◌++◌, length, get_or, refl, ap, sym, ◌∙◌, subst, arith, inl, inr, ◌⊎◌}
 use Rattle.std.specs.Prelude.{All, codes}
 use Rattle.std.specs.Fmt.{decimal}
 use Rattle.std.proofs.lemmas.Fmt.{decimal_digit}
@@ -17,7 +17,6 @@ use Rattle.mt_defs.specs.FileNames.{stream_suffixes, suffix_step}
 use Rattle.mt_codec.specs.StreamOrder.{array_levels, levels_of_kind}
 use Rattle.mt_codec.proofs.WrittenLemmas.{IsSingleLevel, nullable_level, array_inside}
 use Rattle.mt_written.proofs.NameLemmas.{has_slash}
-use Rattle.mt_written.proofs.PlainLemmas.{is_plain, plain_byte}
 use Rattle.mt_written.proofs.ApartLemmas.{Differ}
 
 -- ---- the form of a suffix
@@ -26,25 +25,20 @@ use Rattle.mt_written.proofs.ApartLemmas.{Differ}
 abbrev HasForm : ℕ → List ℕ → Type 0
 HasForm level suffix = (suffix ≡ []) ⊎ ((suffix ≡ codes ".null") ⊎ ((inner : ℕ) × (level ≤ inner) × (inner < 10) × (suffix ≡ codes ".size" ++ decimal inner)))
 
--- what is said of a suffix: it is empty or begins with a dot, its bytes are plain, and no slash is in it
+-- what is said of a suffix: it is empty or begins with a dot, and has no slash
 pub record IsSuffix (suffix : List ℕ) : Type 0 where
   pub dotted : (suffix ≡ []) ⊎ ((rest : List ℕ) × (suffix ≡ 46 ∷ rest))
   pub no_slash : has_slash suffix ≡ false
-  pub plain : is_plain suffix ≡ true
 
 digit_no_slash : (n : ℕ) → n < 10 → has_slash (codes ".size" ++ decimal n) ≡ false
 digit_no_slash n small =
     ap (λ digits. has_slash (codes ".size" ++ digits)) (decimal_digit n small)
     ∙ ap (λ b. b || false) (ne_eqb (48 + n) 47 (λ is. omega (arith, is)))
 
-digit_is_plain : (n : ℕ) → n < 10 → is_plain (codes ".size" ++ decimal n) ≡ true
-digit_is_plain n small =
-    ap (λ digits. is_plain (codes ".size" ++ digits)) (decimal_digit n small) ∙ ap (λ b. b && true) (plain_byte (48 + n) (omega arith) (omega (arith, small)))
-
 form_is : (level : ℕ) (suffix : List ℕ) → HasForm level suffix → IsSuffix suffix
-form_is level suffix (inl e) = record { dotted = inl e; no_slash = ap has_slash e; plain = ap is_plain e }
-form_is level suffix (inr (inl e)) = record { dotted = inr (codes "null", e); no_slash = ap has_slash e; plain = ap is_plain e }
-form_is level suffix (inr (inr sizes)) = record { dotted = inr (codes "size" ++ decimal sizes.0, sizes.3); no_slash = ap has_slash sizes.3 ∙ digit_no_slash sizes.0 sizes.2; plain = ap is_plain sizes.3 ∙ digit_is_plain sizes.0 sizes.2 }
+form_is level suffix (inl e) = record { dotted = inl e; no_slash = ap has_slash e }
+form_is level suffix (inr (inl e)) = record { dotted = inr (codes "null", e); no_slash = ap has_slash e }
+form_is level suffix (inr (inr sizes)) = record { dotted = inr (codes "size" ++ decimal sizes.0, sizes.3); no_slash = ap has_slash sizes.3 ∙ digit_no_slash sizes.0 sizes.2 }
 
 -- ---- levels of a type
 

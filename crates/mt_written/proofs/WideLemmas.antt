@@ -21,8 +21,8 @@ use Rattle.mt_defs.specs.WrittenStreams.{written_streams}
 use Rattle.mt_defs.specs.WrittenFrames.{written_frames, written_marks_bytes}
 use Rattle.mt_defs.specs.WrittenColumns.{file, granule_streams, stream_files, wide_column, wide_files}
 use Rattle.mt_codec.proofs.EncodedLemmas.{written_encodes}
-use Rattle.mt_build.proofs.SizeLemmas.{Pointwise-get_or}
-use Rattle.mt_build.proofs.MarkLemmas.{framed_one_by_one, is_stream_marks}
+use Rattle.mt_written.proofs.ListLemmas.{Pointwise-get_or}
+use Rattle.mt_written.proofs.MarkLemmas.{framed_one_by_one, is_stream_marks}
 use Rattle.mt_written.specs.Texts.{holds_bytes, HoldBytes}
 use Rattle.mt_written.proofs.ByteLemmas.{holds_at, streams_are_bytes}
 use Rattle.mt_written.proofs.ListLemmas.{All-of_flat_map, All-enumerated, All-both, All-granules, All-mapped, Pointwise-mapped, list_all-mapped}

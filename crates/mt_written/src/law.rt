@@ -1,18 +1,26 @@
 //! Laws of the writer's folder, each the contract of a function that does nothing.
 
-ghost use Rattle.std.specs.Prelude.{◌≡◌, ◌≢◌, List, Some, All, AllPairs};
+ghost use Rattle.std.specs.Prelude.{◌≡◌, ◌≢◌, ℕ, List, Some, All, AllPairs};
 ghost use Rattle.mt_shelf.specs.Held.{HasName};
 ghost use Rattle.mt_table.specs.declared.definition.PartDef.{PartDef};
 ghost use Rattle.mt_table.specs.declared.definition.Table.{Table};
 ghost use Rattle.mt_table.specs.declared.settings.Settings.{Settings};
 ghost use Rattle.mt_defs.specs.Folder.{folder_of};
+ghost use Rattle.mt_defs.specs.Frames.{IsFramed};
+ghost use Rattle.mt_defs.specs.Lists.{AreBytes};
 ghost use Rattle.mt_defs.specs.Part.{HoldsRows, StandsFor};
 ghost use Rattle.mt_defs.specs.Projections.{base_of, inner_of};
 ghost use Rattle.mt_defs.specs.Rows.{Row, ArePartRows};
 ghost use Rattle.mt_defs.specs.Writer.{IsWritable, definition_files, written_folder};
+ghost use Rattle.mt_defs.specs.WrittenFrames.{written_frames};
 ghost use Rattle.mt_defs.specs.WrittenGranules.{written_granules};
 ghost use Rattle.mt_written.specs.Stored.{IsStored};
 ghost use Rattle.mt_written.specs.Texts.{HoldBytes};
+
+/// The writer's frames of a payload are frames of this payload.
+pub fn written_frames_have_their_payload()
+    ensures { (payload : List ℕ) → AreBytes payload → IsFramed payload (written_frames payload) }
+{}
 
 /// What each folder of a table stores has columns of different names and of types of the profile.
 pub fn definitions_are_stored()

@@ -1,7 +1,7 @@
 use Rattle.std.proofs.Common.{sym, subst, ap, ◌∙◌}
 use Rattle.mt_defs.specs.Granules.{AreGranules}
 use Rattle.mt_defs.specs.WrittenGranules.{written_granules}
-use Rattle.mt_build.proofs.LawLemmas.{granules_hold}
+use Rattle.mt_layout.proofs.HoldLemmas.{granules_hold}
 use Rattle.mt_build.proofs.definition.definition_files.Goals as goal
 
 pub files_with-requires-clause-cut : goal.files_with-requires-clause-cut

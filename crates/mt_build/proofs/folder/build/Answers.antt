@@ -5,7 +5,7 @@ use Rattle.mt_defs.specs.Granules.{AreGranules}
 use Rattle.mt_defs.specs.WrittenGranules.{is_small, written_granules}
 use Rattle.mt_build.specs.Definitions.{IsDefinition}
 use Rattle.mt_build.proofs.DefinitionLemmas.{base_is}
-use Rattle.mt_build.proofs.LawLemmas.{granules_hold}
+use Rattle.mt_layout.proofs.HoldLemmas.{granules_hold}
 use Rattle.mt_build.proofs.AppendLemmas.{folder_is}
 use Rattle.mt_build.proofs.folder.build.Goals as goal
 

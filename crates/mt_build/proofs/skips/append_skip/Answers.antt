@@ -8,7 +8,7 @@ use Rattle.mt_defs.specs.Lists.{offsets_from}
 use Rattle.mt_defs.specs.WrittenFrames.{mark_at, written_frames}
 use Rattle.mt_defs.specs.WrittenSkips.{written_entries}
 use Rattle.mt_build.specs.SkipFiles.{passed_mark}
-use Rattle.mt_build.proofs.LawLemmas.{granules_hold}
+use Rattle.mt_layout.proofs.HoldLemmas.{granules_hold}
 use Rattle.mt_build.proofs.SkipLemmas.{skip_appended}
 use Rattle.mt_build.proofs.skips.append_skip.Goals as goal
 

@@ -6,7 +6,7 @@ use Rattle.std.proofs.lemmas.Fn.{always_returns_same}
 use Rattle.std.proofs.lemmas.List.Sorted.{ranks_by}
 use Rattle.mt_defs.specs.Writer.{file_cmp}
 use Rattle.mt_build.proofs.OrderLemmas.{file_cmp_total}
-use Rattle.mt_build.proofs.StableLemmas.{the_one}
+use Rattle.mt_sort.proofs.StableLemmas.{the_one}
 use Rattle.mt_build.proofs.sorting.sort_files.Goals as goal
 
 pub returns : goal.returns

@@ -1,4 +1,4 @@
-use Rattle.std.proofs.Common.{◌≡◌, List, drop}
+use Rattle.std.proofs.Common.{drop}
 use Rattle.std.specs.Prelude.{Result}
 use Rattle.mt_shelf.specs.declared.fault.ReadError.{ReadError}
 use Rattle.mt_defs.specs.Folder.{folder_of}

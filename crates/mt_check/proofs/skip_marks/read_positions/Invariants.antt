@@ -1,4 +1,4 @@
-use Rattle.std.proofs.Common.{◌≡◌, ◌++◌, ◌*◌, List, drop}
+use Rattle.std.proofs.Common.{◌≡◌, ◌++◌, ◌*◌, drop}
 use Rattle.std.specs.Prelude.{None, Ok}
 use Rattle.mt_types.specs.Steps.{◌>>=◌}
 use Rattle.mt_check.specs.SkipMarks.{positions_reading}

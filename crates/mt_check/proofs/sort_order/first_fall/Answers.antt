@@ -1,4 +1,4 @@
-use Rattle.std.proofs.Common.{◌∙◌, arith}
+use Rattle.std.proofs.Common.{arith}
 use Rattle.mt_check.proofs.RowLemmas.{rises_on, falls_nowhere}
 use Rattle.mt_check.proofs.sort_order.first_fall.Goals as goal
 

@@ -4,6 +4,7 @@ use Rattle.mt_query_syntax.specs.Answers.{GivesQueryText}
 use Rattle.mt_query.specs.Queries.{GivesQuery}
 use Rattle.mt_query.specs.Rules.{judged}
 use Rattle.mt_query.proofs.ReadLemmas.{none_is_bad, none_is_only, sentence_is_only}
+use Rattle.mt_query.proofs.NamedLemmas.{query_is_within}
 use Rattle.mt_query.proofs.query.Query.read.Goals as goal
 
 pub returns-in-Ok-clause-only : goal.returns-in-Ok-clause-only
@@ -20,3 +21,7 @@ pub returns-in-Err-Bad-clause-only : goal.returns-in-Err-Bad-clause-only
 returns-in-Err-Bad-clause-only c =
     none_is_only c.args.text.now c.args.table.now c.if-text-gt-MAX_QUERY_TEXT.false
     (λ sentence is. subst (λ error. GivesQueryText (Err error) sentence) c.in-Err-Bad.field-0-is (c.in-Err-Bad.ensures.only sentence is))
+
+pub returns-in-Ok-clause-within : goal.returns-in-Ok-clause-within
+returns-in-Ok-clause-within c =
+    query_is_within c.args.table.now.columns c.in-Ok.sentence c.judge.result (subst (λ columns. GivesQuery c.judge.result (judged columns c.in-Ok.sentence)) c.of.ensures c.judge.ensures)

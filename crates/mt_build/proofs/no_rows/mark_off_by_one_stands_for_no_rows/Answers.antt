@@ -1,5 +1,0 @@
-use Rattle.mt_build.proofs.NoRowsLemmas.{mark_off}
-use Rattle.mt_build.proofs.no_rows.mark_off_by_one_stands_for_no_rows.Goals as goal
-
-pub returns : goal.returns
-returns c = mark_off

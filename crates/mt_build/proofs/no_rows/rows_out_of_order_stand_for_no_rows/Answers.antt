@@ -1,5 +1,0 @@
-use Rattle.mt_build.proofs.NoRowsLemmas.{out_of_order}
-use Rattle.mt_build.proofs.no_rows.rows_out_of_order_stand_for_no_rows.Goals as goal
-
-pub returns : goal.returns
-returns c = out_of_order

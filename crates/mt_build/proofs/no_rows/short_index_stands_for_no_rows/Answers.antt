@@ -1,5 +1,0 @@
-use Rattle.mt_build.proofs.NoRowsLemmas.{short_index}
-use Rattle.mt_build.proofs.no_rows.short_index_stands_for_no_rows.Goals as goal
-
-pub returns : goal.returns
-returns c = short_index

@@ -1,5 +1,0 @@
-use Rattle.mt_build.proofs.NoRowsLemmas.{sizes_disagree}
-use Rattle.mt_build.proofs.no_rows.sizes_that_disagree_stand_for_no_rows.Goals as goal
-
-pub returns : goal.returns
-returns c = sizes_disagree

@@ -1,0 +1,254 @@
+-- Groups of granules, and the entries over them.
+use Rattle.std.proofs.Common.{◌≡◌, ℕ, zero, suc, ◌+◌, ◌*◌, ◌<◌, ◌≤◌, ◌^◌, Bool, true, false, List, [], ◌∷◌, ◌++◌, length, take, drop, refl, ap, sym, subst, ◌∙◌, arith, min, get_or, inl, inr}
+use Rattle.std.specs.Prelude.{sum, All, Result, Ok, Err, ◌==◌}
+use Rattle.std.specs.List.{flat_map}
+use Rattle.std.proofs.Math.Nat.{mul-le-mul}
+use Rattle.std.proofs.Math.Seq.{drop-nil, take-add}
+use Rattle.std.proofs.lemmas.Bool.Decides.{leb_tells}
+use Rattle.std.proofs.lemmas.List.{append_assoc, length-drop, take_all, drop_all, take-map, drop-map}
+use Rattle.std.proofs.lemmas.List.Concat.{flat_map-cons}
+use Rattle.std.proofs.lemmas.List.Elements.{All-head, All-tail, All-take, All-drop, All-map, All-weaker}
+use Rattle.std.proofs.lemmas.List.Sums.{sum_by-cons, sum_by-take-drop}
+use Rattle.mt_types.specs.declared.ty.Ty.{Ty}
+use Rattle.mt_types.specs.Fits.{fits_of}
+use Rattle.mt_shelf.specs.declared.fault.ReadError.{ReadError}
+use Rattle.mt_shelf.specs.declared.fault.Why.TheVariants as why
+use Rattle.mt_table.specs.declared.column.Column.{Column}
+use Rattle.mt_table.specs.declared.skip.Skip.{Skip}
+use Rattle.mt_defs.specs.Granules.{granule_rows}
+use Rattle.mt_defs.specs.Rows.{Row, RowFits, cell, column_values}
+use Rattle.mt_defs.specs.SkipIndexes.{Summarizes, entry_groups, skip_data_name}
+use Rattle.mt_check.specs.Checks.{Checks, ◌>>=◌, holds, each}
+use Rattle.mt_check.specs.Faults.{fault_in}
+use Rattle.mt_check.specs.FolderChecks.{entries_checks}
+use Rattle.mt_check.specs.Results.{Answers, IsFault}
+use Rattle.mt_check.specs.RowGroups.{group_sizes}
+use Rattle.mt_check.specs.SkipMarks.{pieces_at}
+use Rattle.mt_check.proofs.CheckLemmas.{first_error, next_answer, holds_not}
+use Rattle.mt_check.proofs.KeyLemmas.{cell_fits}
+use Rattle.mt_check.proofs.LoopLemmas.{at_index, at_end}
+
+-- ---- sizes
+
+shorter : {X : Type 0} (n : ℕ) (x : X) (xs : List X) → 1 ≤ n → length (drop n (x ∷ xs)) ≤ length xs
+shorter n x xs some = omega (arith, some, length-drop n (x ∷ xs))
+
+-- a bound on the number of groups that is no less than that of the granules doesn't matter
+sizes_enough : (per m n : ℕ) (granules : List ℕ) → 1 ≤ per → length granules ≤ m → length granules ≤ n → group_sizes per m granules ≡ group_sizes per n granules
+sizes_enough per zero zero granules some low high = refl
+sizes_enough per zero (suc n) [] some low high = refl
+sizes_enough per zero (suc n) (count ∷ granules) some low high = absurd (omega (arith, low))
+sizes_enough per (suc m) zero [] some low high = refl
+sizes_enough per (suc m) zero (count ∷ granules) some low high = absurd (omega (arith, high))
+sizes_enough per (suc m) (suc n) [] some low high = refl
+sizes_enough per (suc m) (suc n) (count ∷ granules) some low high =
+    let less = shorter per count granules some in
+    ap (λ sizes. sum (take per (count ∷ granules)) ∷ sizes) (sizes_enough per m n (drop per (count ∷ granules)) some (omega (arith, less, low)) (omega (arith, less, high)))
+
+sizes_step : (per : ℕ) (granules : List ℕ) → 1 ≤ per → 0 < length granules → group_sizes per (length granules) granules ≡ sum (take per granules) ∷ group_sizes per (length (drop per granules)) (drop per granules)
+sizes_step per [] some more = absurd (omega (arith, more))
+sizes_step per (count ∷ granules) some more =
+    ap (λ sizes. sum (take per (count ∷ granules)) ∷ sizes) (sizes_enough per (length granules) (length (drop per (count ∷ granules))) (drop per (count ∷ granules)) some (shorter per count granules some) (omega arith))
+
+cut_at : {X : Type 0} (per n : ℕ) (xs : List X) → n ≡ min (length xs) per → (take n xs ≡ take per xs) × (drop n xs ≡ drop per xs)
+cut_at per n xs is =
+    elim (leb_tells (length xs) per) [
+      | inl short ↦
+          let all : n ≡ length xs = omega (arith, is, short.1) in (
+            take_all n xs (omega (arith, all)) ∙ sym (take_all per xs short.1),
+            drop_all n xs (omega (arith, all)) ∙ sym (drop_all per xs short.1),
+          )
+      | inr long ↦
+          let some : n ≡ per = omega (arith, is, long.1) in
+          (ap (λ k. take k xs) some, ap (λ k. drop k xs) some)
+    ]
+
+some_counts : (counts : List ℕ) (b : Bool) → b ≡ (length counts == 0) → b ≡ false → 0 < length counts
+some_counts [] b is e = absurd (let e : true ≡ false = sym is ∙ e in cc)
+some_counts (k ∷ ks) b is e = omega arith
+
+pub sizes_more : (per n size : ℕ) (rest group after sizes new whole : List ℕ) (empty : Bool) → 1 ≤ per → empty ≡ (length rest == 0) → empty ≡ false → n ≡ min (length rest) per → group ≡ take n rest → after ≡ drop n rest → size ≡ sum group
+    → new ≡ sizes ++ size ∷ [] → sizes ++ group_sizes per (length rest) rest ≡ whole → new ++ group_sizes per (length after) after ≡ whole
+sizes_more per n size rest group after sizes new whole empty some is more cut front back total push ahead =
+    let both = cut_at per n rest cut in
+    let later : after ≡ drop per rest = back ∙ both.1 in
+    let first : size ≡ sum (take per rest) = total ∙ ap sum (front ∙ both.0) in
+    ap (λ l. l ++ group_sizes per (length after) after) push ∙ append_assoc sizes (size ∷ []) (group_sizes per (length after) after)
+    ∙ ap (λ (ks : List ℕ). sizes ++ size ∷ group_sizes per (length ks) ks) later ∙ ap (λ k. sizes ++ k ∷ group_sizes per (length (drop per rest)) (drop per rest)) first
+    ∙ ap (λ l. sizes ++ l) (sym (sizes_step per rest some (some_counts rest empty is more))) ∙ ahead
+
+pub rest_less : (n : ℕ) (rest after granules : List ℕ) → after ≡ drop n rest → sum rest ≤ sum granules → sum after ≤ sum granules
+rest_less n rest after granules back less = omega (arith, ap sum back, less, sum_by-take-drop (λ k. k) rest n)
+
+pub group_less : (n : ℕ) (rest group granules : List ℕ) → group ≡ take n rest → sum rest ≤ sum granules → sum group ≤ sum granules
+group_less n rest group granules front less = omega (arith, ap sum front, less, sum_by-take-drop (λ k. k) rest n)
+
+-- ---- their number and their sum
+
+pub sizes_few : (per n : ℕ) (granules : List ℕ) → length (group_sizes per n granules) ≤ n
+sizes_few per zero granules = omega arith
+sizes_few per (suc n) [] = omega arith
+sizes_few per (suc n) (count ∷ granules) = let less = sizes_few per n (drop per (count ∷ granules)) in omega (arith, less)
+
+pub sizes_sum : (per n : ℕ) (granules : List ℕ) → 1 ≤ per → length granules ≤ n → sum (group_sizes per n granules) ≡ sum granules
+sizes_sum per zero [] some enough = refl
+sizes_sum per zero (count ∷ granules) some enough = absurd (omega (arith, enough))
+sizes_sum per (suc n) [] some enough = refl
+sizes_sum per (suc n) (count ∷ granules) some enough =
+    let all = count ∷ granules in
+    let later = sizes_sum per n (drop per all) some (let less = shorter per count granules some in omega (arith, less, enough)) in
+    let parts = sum_by-take-drop (λ k. k) all per in
+    let whole = sum_by-cons (λ k. k) (sum (take per all)) (group_sizes per n (drop per all)) in
+    omega (arith, later, parts, whole)
+
+pub granules_few : (granules : List ℕ) → All (λ count. 1 ≤ count) granules → length granules ≤ sum granules
+granules_few [] some = omega arith
+granules_few (count ∷ granules) some =
+    let whole = sum_by-cons (λ k. k) count granules in
+    let later = granules_few granules (All-tail (λ k. 1 ≤ k) count granules some) in
+    let first : 1 ≤ count = All-head (λ k. 1 ≤ k) count granules some in
+    omega (arith, whole, later, first)
+
+pub product_small : (count per : ℕ) → count ≤ 4194304 → per ≤ 1048576 → count * per < 2 ^ 64
+product_small count per few small = let product : count * per ≤ 4194304 * 1048576 = mul-le-mul few small in omega (arith, product)
+
+-- ---- the rows of each
+
+drop_sum : {X : Type 0} (m n : ℕ) (xs : List X) → drop (m + n) xs ≡ drop n (drop m xs)
+drop_sum zero n xs = let e : 0 + n ≡ n = omega arith in ap (λ k. drop k xs) e
+drop_sum (suc m) n [] = drop-nil (suc m + n) ∙ sym (drop-nil n)
+drop_sum (suc m) n (x ∷ xs) = let e : suc m + n ≡ suc (m + n) = omega arith in ap (λ k. drop k (x ∷ xs)) e ∙ drop_sum m n xs
+
+abbrev together : List (List Row) → List Row
+together granules = flat_map (λ rows. rows) granules
+
+rows_together : (per : ℕ) (granules : List ℕ) (rows : List Row) → together (take per (granule_rows granules rows)) ≡ take (sum (take per granules)) rows
+rows_together zero granules rows = refl
+rows_together (suc per) [] rows = refl
+rows_together (suc per) (count ∷ granules) rows =
+    let rest = granule_rows granules (drop count rows) in
+    let size : sum (count ∷ take per granules) ≡ count + sum (take per granules) = sum_by-cons (λ n. n) count (take per granules) in
+    flat_map-cons (λ (some : List Row). some) (take count rows) (take per rest) ∙ ap (λ some. take count rows ++ some) (rows_together per granules (drop count rows))
+    ∙ sym (take-add count (sum (take per granules)) rows) ∙ ap (λ n. take n rows) (sym size)
+
+rows_behind : (per : ℕ) (granules : List ℕ) (rows : List Row) → drop per (granule_rows granules rows) ≡ granule_rows (drop per granules) (drop (sum (take per granules)) rows)
+rows_behind zero granules rows = refl
+rows_behind (suc per) [] rows = refl
+rows_behind (suc per) (count ∷ granules) rows =
+    let size : sum (count ∷ take per granules) ≡ count + sum (take per granules) = sum_by-cons (λ n. n) count (take per granules) in
+    rows_behind per granules (drop count rows) ∙ ap (granule_rows (drop per granules)) (sym (drop_sum count (sum (take per granules)) rows) ∙ ap (λ n. drop n rows) (sym size))
+
+pub groups_are : (per n : ℕ) (granules : List ℕ) (rows : List Row) → entry_groups per n (granule_rows granules rows) ≡ granule_rows (group_sizes per n granules) rows
+groups_are per zero granules rows = refl
+groups_are per (suc n) [] rows = refl
+groups_are per (suc n) (count ∷ granules) rows =
+    let all = count ∷ granules in
+    let size = sum (take per all) in
+    ap (λ (first : List Row). first ∷ entry_groups per n (drop per (granule_rows all rows))) (rows_together per all rows)
+    ∙ ap (λ (groups : List (List Row)). take size rows ∷ groups) (ap (entry_groups per n) (rows_behind per all rows) ∙ groups_are per n (drop per all) (drop size rows))
+
+pub length-granule_rows : (sizes : List ℕ) (rows : List Row) → length (granule_rows sizes rows) ≡ length sizes
+length-granule_rows [] rows = refl
+length-granule_rows (size ∷ sizes) rows = ap suc (length-granule_rows sizes (drop size rows))
+
+-- ---- values
+
+values_fit_at : (columns : List Column) (i : ℕ) (d : Column) (rows : List Row) → i < length columns → All (RowFits columns) rows → All (λ value. fits_of (get_or columns i d).ty value ≡ true) (column_values i rows)
+values_fit_at columns i d rows inside fit =
+    All-map (λ value. fits_of (get_or columns i d).ty value ≡ true) (λ (row : Row). cell row i) rows
+    (All-weaker (RowFits columns) (λ row. fits_of (get_or columns i d).ty (cell row i) ≡ true) (λ row fits. cell_fits columns row i d fits inside) rows fit)
+
+pub values_fit : (columns : List Column) (skip : Skip) (slice : List Column) (d : Column) (rows held : List Row) → slice ≡ columns → held ≡ rows → skip.column < length columns → All (RowFits columns) rows
+    → All (λ value. fits_of (get_or slice skip.column d).ty value ≡ true) (column_values skip.column held)
+values_fit columns skip slice d rows held same holds inside fit =
+    subst (λ (cs : List Column). All (λ value. fits_of (get_or cs skip.column d).ty value ≡ true) (column_values skip.column held)) (sym same)
+    (subst (λ (rs : List Row). All (λ value. fits_of (get_or columns skip.column d).ty value ≡ true) (column_values skip.column rs)) (sym holds) (values_fit_at columns skip.column d rows inside fit))
+
+pub values_taken : (ty : Ty) (column n : ℕ) (rows group : List Row) → group ≡ take n rows → All (λ value. fits_of ty value ≡ true) (column_values column rows) → All (λ value. fits_of ty value ≡ true) (column_values column group)
+values_taken ty column n rows group front fit =
+    subst (All (λ value. fits_of ty value ≡ true)) (take-map (λ (row : Row). cell row column) n rows ∙ ap (column_values column) (sym front)) (All-take (λ value. fits_of ty value ≡ true) n (column_values column rows) fit)
+
+pub values_left : (ty : Ty) (column n : ℕ) (rows after : List Row) → after ≡ drop n rows → All (λ value. fits_of ty value ≡ true) (column_values column rows) → All (λ value. fits_of ty value ≡ true) (column_values column after)
+values_left ty column n rows after back fit =
+    subst (All (λ value. fits_of ty value ≡ true)) (drop-map (λ (row : Row). cell row column) n rows ∙ ap (column_values column) (sym back)) (All-drop (λ value. fits_of ty value ≡ true) n (column_values column rows) fit)
+
+-- ---- entries, one by one
+
+abbrev entry_check : Skip → Ty → ℕ → List Row → List ℕ → Checks Unit
+entry_check skip ty granule rows entry = holds (Summarizes skip.kind ty (column_values skip.column rows) entry) (fault_in (skip_data_name skip) granule why.Value)
+
+entries_next : (skip : Skip) (ty : Ty) (granule : ℕ) (rows : List Row) (groups : List (List Row)) (entry : List ℕ) (entries : List (List ℕ)) (r : Result Unit ReadError)
+    → Answers r (entry_check skip ty granule rows entry >>= λ _. entries_checks skip ty (granule + skip.granularity) groups entries) → Answers r (entries_checks skip ty granule (rows ∷ groups) (entry ∷ entries))
+unfolding entries_checks
+entries_next skip ty granule rows groups entry entries r answers = answers
+
+entries_none : (skip : Skip) (ty : Ty) (granule : ℕ) (groups : List (List Row)) → Answers (Ok tt) (entries_checks skip ty granule groups [])
+unfolding entries_checks
+entries_none skip ty granule [] = refl
+entries_none skip ty granule (rows ∷ groups) = refl
+
+groups_none : (skip : Skip) (ty : Ty) (granule : ℕ) (entries : List (List ℕ)) → Answers (Ok tt) (entries_checks skip ty granule [] entries)
+unfolding entries_checks
+groups_none skip ty granule [] = refl
+groups_none skip ty granule (entry ∷ entries) = refl
+
+-- where the loop stands
+abbrev pub Decides : Skip → Ty → List ℕ → List ℕ → List Row → List ℕ → ℕ → List Row → List ℕ → Type 0
+Decides skip ty sizes payload rows positions i rest ahead =
+    (r : Result Unit ReadError) → Answers r (entries_checks skip ty (i * skip.granularity) (granule_rows (drop i sizes) rest) (pieces_at payload ahead)) → Answers r (entries_checks skip ty 0 (granule_rows sizes rows) (pieces_at payload positions))
+
+pub no_entry : (skip : Skip) (ty : Ty) (sizes payload : List ℕ) (rows : List Row) (positions : List ℕ) (i : ℕ) (rest : List Row) (ahead : List ℕ) → Decides skip ty sizes payload rows positions i rest ahead → ahead ≡ []
+    → Answers (Ok tt) (entries_checks skip ty 0 (granule_rows sizes rows) (pieces_at payload positions))
+no_entry skip ty sizes payload rows positions i rest ahead decides none =
+    decides (Ok tt) (subst (λ (a : List ℕ). Answers (Ok tt) (entries_checks skip ty (i * skip.granularity) (granule_rows (drop i sizes) rest) (pieces_at payload a))) (sym none) (entries_none skip ty (i * skip.granularity) (granule_rows (drop i sizes) rest)))
+
+pub no_group : (skip : Skip) (ty : Ty) (sizes payload : List ℕ) (rows : List Row) (positions : List ℕ) (i : ℕ) (rest : List Row) (ahead : List ℕ) → Decides skip ty sizes payload rows positions i rest ahead → length sizes ≤ i
+    → Answers (Ok tt) (entries_checks skip ty 0 (granule_rows sizes rows) (pieces_at payload positions))
+no_group skip ty sizes payload rows positions i rest ahead decides over =
+    decides (Ok tt) (subst (λ (some : List ℕ). Answers (Ok tt) (entries_checks skip ty (i * skip.granularity) (granule_rows some rest) (pieces_at payload ahead))) (sym (at_end sizes i over)) (groups_none skip ty (i * skip.granularity) (pieces_at payload ahead)))
+
+next_by : (skip : Skip) (ty : Ty) (sizes payload : List ℕ) (i size : ℕ) (rest group after : List Row) (ahead later entry : List ℕ) (r : Result Unit ReadError) → i < length sizes → size ≡ get_or sizes i size → group ≡ take size rest → after ≡ drop size rest
+    → pieces_at payload ahead ≡ entry ∷ pieces_at payload later
+    → Answers r (entry_check skip ty (i * skip.granularity) group entry >>= λ _. entries_checks skip ty (i * skip.granularity + skip.granularity) (granule_rows (drop (i + 1) sizes) after) (pieces_at payload later))
+    → Answers r (entries_checks skip ty (i * skip.granularity) (granule_rows (drop i sizes) rest) (pieces_at payload ahead))
+next_by skip ty sizes payload i size rest group after ahead later entry r inside at front back first answers =
+    let groups : granule_rows (drop i sizes) rest ≡ group ∷ granule_rows (drop (i + 1) sizes) after =
+        ap (λ (some : List ℕ). granule_rows some rest) (at_index sizes i size inside at) ∙ ap (λ (g : List Row). g ∷ granule_rows (drop (i + 1) sizes) (drop size rest)) (sym front) ∙ ap (λ (a : List Row). group ∷ granule_rows (drop (i + 1) sizes) a) (sym back) in
+    subst (λ (some : List (List Row)). Answers r (entries_checks skip ty (i * skip.granularity) some (pieces_at payload ahead))) (sym groups)
+    (subst (λ (some : List (List ℕ)). Answers r (entries_checks skip ty (i * skip.granularity) (group ∷ granule_rows (drop (i + 1) sizes) after) some)) (sym first)
+    (entries_next skip ty (i * skip.granularity) group (granule_rows (drop (i + 1) sizes) after) entry (pieces_at payload later) r answers))
+
+pub entry_differs : (skip : Skip) (ty : Ty) (sizes payload : List ℕ) (rows : List Row) (positions : List ℕ) (i size : ℕ) (rest group after : List Row) (ahead later entry : List ℕ) (e : ReadError) → Decides skip ty sizes payload rows positions i rest ahead
+    → i < length sizes → size ≡ get_or sizes i size → group ≡ take size rest → after ≡ drop size rest → pieces_at payload ahead ≡ entry ∷ pieces_at payload later
+    → (Summarizes skip.kind ty (column_values skip.column group) entry → ⊥) → IsFault (fault_in (skip_data_name skip) (i * skip.granularity) why.Value) e
+    → Answers (Err e) (entries_checks skip ty 0 (granule_rows sizes rows) (pieces_at payload positions))
+entry_differs skip ty sizes payload rows positions i size rest group after ahead later entry e decides inside at front back first differs fault =
+    decides (Err e) (next_by skip ty sizes payload i size rest group after ahead later entry (Err e) inside at front back first
+    (first_error e (entry_check skip ty (i * skip.granularity) group entry) (λ _. entries_checks skip ty (i * skip.granularity + skip.granularity) (granule_rows (drop (i + 1) sizes) after) (pieces_at payload later))
+    (holds_not (Summarizes skip.kind ty (column_values skip.column group) entry) (fault_in (skip_data_name skip) (i * skip.granularity) why.Value) e differs fault)))
+
+pub entry_agrees : (skip : Skip) (ty : Ty) (sizes payload : List ℕ) (rows : List Row) (positions : List ℕ) (i size : ℕ) (rest group after : List Row) (ahead later entry : List ℕ) → Decides skip ty sizes payload rows positions i rest ahead
+    → i < length sizes → size ≡ get_or sizes i size → group ≡ take size rest → after ≡ drop size rest → pieces_at payload ahead ≡ entry ∷ pieces_at payload later
+    → Summarizes skip.kind ty (column_values skip.column group) entry → Decides skip ty sizes payload rows positions (i + 1) after later
+entry_agrees skip ty sizes payload rows positions i size rest group after ahead later entry decides inside at front back first agrees r answers =
+    let granule : (i + 1) * skip.granularity ≡ i * skip.granularity + skip.granularity = ap (λ k. k * skip.granularity) (let e : i + 1 ≡ suc i = omega arith in e) ∙ omega arith in
+    decides r (next_by skip ty sizes payload i size rest group after ahead later entry r inside at front back first
+    (next_answer tt r (entry_check skip ty (i * skip.granularity) group entry) (λ _. entries_checks skip ty (i * skip.granularity + skip.granularity) (granule_rows (drop (i + 1) sizes) after) (pieces_at payload later)) agrees
+    (subst (λ g. Answers r (entries_checks skip ty g (granule_rows (drop (i + 1) sizes) after) (pieces_at payload later))) granule answers)))
+
+pub cut_next : (sizes : List ℕ) (i size : ℕ) (rest after : List Row) → i < length sizes → size ≡ get_or sizes i size → after ≡ drop size rest → sum (drop i sizes) ≡ length rest → sum (drop (i + 1) sizes) ≡ length after
+cut_next sizes i size rest after inside at back cut =
+    let whole : sum (drop i sizes) ≡ size + sum (drop (i + 1) sizes) = ap sum (at_index sizes i size inside at) ∙ sum_by-cons (λ k. k) size (drop (i + 1) sizes) in
+    omega (arith, whole, cut, ap length back, length-drop size rest)
+
+-- ---- indexes, one by one
+
+pub each_fails : {A : Type 0} (check : A → Checks Unit) (xs items : List A) (i : ℕ) (x : A) (e : ReadError) → items ≡ xs → ((r : Result Unit ReadError) → Answers r (each check (drop i items)) → Answers r (each check xs)) → i < length items → x ≡ get_or items i x
+    → Answers (Err e) (check x) → Answers (Err e) (each check xs)
+each_fails check xs items i x e same decides inside at fails =
+    decides (Err e) (subst (λ some. Answers (Err e) (each check some)) (sym (at_index items i x inside at)) (first_error e (check x) (λ _. each check (drop (i + 1) items)) fails))
+
+pub each_holds : {A : Type 0} (check : A → Checks Unit) (xs items : List A) (i : ℕ) (x : A) → items ≡ xs → ((r : Result Unit ReadError) → Answers r (each check (drop i items)) → Answers r (each check xs)) → i < length items → x ≡ get_or items i x
+    → check x (Ok tt) → (r : Result Unit ReadError) → Answers r (each check (drop (i + 1) items)) → Answers r (each check xs)
+each_holds check xs items i x same decides inside at holds r answers =
+    decides r (subst (λ some. Answers r (each check some)) (sym (at_index items i x inside at)) (next_answer tt r (check x) (λ _. each check (drop (i + 1) items)) holds answers))

@@ -1,0 +1,127 @@
+-- The partition's checks hold exactly where the rows are of one partition and the folder has its files.
+use Rattle.std.proofs.Common.{◌≡◌, ℕ, Bool, true, false, not, List, [], ◌∷◌, length, take, map, refl, sym, ap, ◌∙◌, subst, arith, get_or, inl, inr}
+use Rattle.std.specs.Prelude.{All, Some, None, Option, Result, Ok, ◌==◌, if◌then◌else◌}
+use Rattle.std.specs.List.{flat_map}
+use Rattle.std.specs.Str.{bytes_eq}
+use Rattle.std.proofs.lemmas.Bool.{cases_Bool}
+use Rattle.std.proofs.lemmas.List.{append-nil}
+use Rattle.std.proofs.lemmas.List.Elements.{All-nil, All-cons, All-head, All-tail, All-weaker}
+use Rattle.std.proofs.lemmas.Slice.Eq.{bytes_eq-Decides}
+use Rattle.mt_shelf.specs.declared.file.FileBytes.{FileBytes}
+use Rattle.mt_shelf.specs.declared.fault.Fault.{Fault}
+use Rattle.mt_shelf.specs.declared.fault.Why.TheVariants.{Partition, Value, Missing}
+use Rattle.mt_types.specs.Steps.{◌>>=◌, require, ok_or}
+use Rattle.mt_types.proofs.StepLemmas.{ok_then, required, then_of, passed}
+use Rattle.mt_table.specs.declared.definition.Table.{Table}
+use Rattle.mt_table.specs.declared.partition.PartExpr.{PartExpr}
+use Rattle.mt_defs.specs.Folder.{Folder}
+use Rattle.mt_defs.specs.Rows.{Row}
+use Rattle.mt_defs.specs.Lists.{distinct_by}
+use Rattle.mt_defs.specs.Partition.{HaveOnePartition, partition_bytes, partition_name, expression_bytes, expression_column}
+use Rattle.mt_defs.specs.WrittenColumns.{file}
+use Rattle.mt_defs.specs.WrittenPartition.{minmax_file, partition_files}
+use Rattle.mt_check.specs.declared.accepted.Accepted.{Accepted}
+use Rattle.mt_check.specs.Faults.{fault_of, fault_in, file_reading, none_found}
+use Rattle.mt_check.specs.PartitionReading.{files_reading, first_value, is_other, other_partition, partition_reading}
+use Rattle.mt_check.specs.RowsReading.{granule_of}
+use Rattle.mt_check.proofs.LoopLemmas.{is_none, same_default}
+use Rattle.mt_check.proofs.RowLemmas.{none_passes, none_found_of}
+
+-- ---- files
+
+abbrev HasFile : Folder → FileBytes → Type 0
+HasFile folder file = folder file.name ≡ Some file.bytes
+
+file_is : (folder : Folder) (name bytes : List ℕ) → file_reading folder name ≡ Ok bytes → folder name ≡ Some bytes
+file_is folder name bytes e = found (folder name) e
+  where
+    found : (o : Option (List ℕ)) → ok_or (fault_of name Missing) o ≡ Ok bytes → o ≡ Some bytes
+    found None e = cc
+    found (Some other) e = let same : other ≡ bytes = cc in ap Some same
+
+file_there : (folder : Folder) (name bytes : List ℕ) → folder name ≡ Some bytes → file_reading folder name ≡ Ok bytes
+file_there folder name bytes e = ap (ok_or (fault_of name Missing)) e
+
+pub files_there : (folder : Folder) (files : List FileBytes) → files_reading folder files ≡ Ok tt → All (HasFile folder) files
+unfolding files_reading
+files_there folder [] e = All-nil (HasFile folder)
+files_there folder (file ∷ files) e =
+    ok_then (file_reading folder file.name) (λ bytes. require (bytes_eq bytes file.bytes) (fault_of file.name Value) >>= λ _. files_reading folder files) tt e (λ bytes is e.
+    required (bytes_eq bytes file.bytes) (fault_of file.name Value) (λ _. files_reading folder files) tt e (λ same e.
+    All-cons (HasFile folder) file files (file_is folder file.name bytes is ∙ ap Some ((bytes_eq-Decides bytes file.bytes).0 same)) (files_there folder files e)))
+
+pub files_are_read : (folder : Folder) (files : List FileBytes) → All (HasFile folder) files → files_reading folder files ≡ Ok tt
+unfolding files_reading
+files_are_read folder [] all = refl
+files_are_read folder (file ∷ files) all =
+    then_of (file_reading folder file.name) file.bytes (λ bytes. require (bytes_eq bytes file.bytes) (fault_of file.name Value) >>= λ _. files_reading folder files) (file_there folder file.name file.bytes (All-head (HasFile folder) file files all))
+    ∙ passed (bytes_eq file.bytes file.bytes) (fault_of file.name Value) (λ _. files_reading folder files) ((bytes_eq-Decides file.bytes file.bytes).1 refl)
+    ∙ files_are_read folder files (All-tail (HasFile folder) file files all)
+
+-- ---- one partition value
+
+none_is : {A : Type 0} (found : Option A) (fault : A → Fault) → none_found found fault ≡ Ok tt → found ≡ None
+none_is None fault e = refl
+none_is (Some x) fault e = cc
+
+not_false : (b : Bool) → not b ≡ false → b ≡ true
+not_false true e = refl
+not_false false e = cc
+
+all_first : (table : Table) (rows : List Row) → other_partition table rows ≡ None → All (λ row. partition_bytes table row ≡ first_value table rows) rows
+all_first table rows none =
+    All-weaker (λ row. is_other table rows row ≡ false) (λ row. partition_bytes table row ≡ first_value table rows)
+    (λ row is. (bytes_eq-Decides (partition_bytes table row) (first_value table rows)).0 (not_false (bytes_eq (partition_bytes table row) (first_value table rows)) is)) rows (none_passes (is_other table rows) rows none)
+
+pub one_partition : (table : Table) (rows : List Row) → other_partition table rows ≡ None → HaveOnePartition table rows
+one_partition table rows none a b (i, in_a, at_a) (j, in_b, at_b) =
+    let all = all_first table rows none in
+    ap (partition_bytes table) (sym at_a) ∙ all i a in_a ∙ sym (all j b in_b) ∙ ap (partition_bytes table) at_b
+
+pub no_other : (table : Table) (row : Row) (rows : List Row) → HaveOnePartition table (row ∷ rows) → other_partition table (row ∷ rows) ≡ None
+no_other table row rows one =
+    none_found_of (is_other table (row ∷ rows)) (row ∷ rows)
+    (λ i d inside.
+    let same : partition_bytes table (get_or (row ∷ rows) i d) ≡ first_value table (row ∷ rows) =
+        one (get_or (row ∷ rows) i d) row (i, inside, same_default (row ∷ rows) i (get_or (row ∷ rows) i d) d inside) (0, omega arith, refl) ∙ sym (append-nil (partition_bytes table row)) in
+    ap not ((bytes_eq-Decides (partition_bytes table (get_or (row ∷ rows) i d)) (first_value table (row ∷ rows))).1 same))
+
+-- ---- the checks
+
+abbrev behind_rows : Table → Folder → Accepted → Unit {0} → Result Unit Fault
+behind_rows table folder accepted _ = files_reading folder (partition_files table accepted.rows)
+
+abbrev behind_file : Table → Folder → Accepted → List ℕ → Result Unit Fault
+behind_file table folder accepted bytes =
+    none_found (other_partition table accepted.rows) (λ row. fault_in partition_name (granule_of accepted.granules row) Partition) >>= behind_rows table folder accepted
+
+-- the writer's files, where there is no key and where there is one
+abbrev files_by : Table → List Row → Bool → List FileBytes
+files_by table rows none =
+    if none then []
+    else file partition_name (flat_map (partition_bytes table) (take 1 rows)) ∷ map (minmax_file table rows) (distinct_by (λ i j. i == j) (map expression_column table.partition))
+
+-- what holds where the partition's checks hold
+pub record PartitionHolds (table : Table) (folder : Folder) (rows : List Row) : Type 0 where
+  pub one : HaveOnePartition table rows
+  pub files : All (λ file. folder file.name ≡ Some file.bytes) (partition_files table rows)
+
+no_key : (table : Table) (folder : Folder) (rows : List Row) → table.partition ≡ [] → PartitionHolds table folder rows
+no_key table folder rows none = record {
+  one = λ a b in_a in_b. ap (λ (es : List PartExpr). flat_map (expression_bytes table.columns a) es) none ∙ sym (ap (λ (es : List PartExpr). flat_map (expression_bytes table.columns b) es) none);
+  files = subst (All (λ file. folder file.name ≡ Some file.bytes)) (sym (ap (λ (es : List PartExpr). files_by table rows (length es == 0)) none)) (All-nil (λ file. folder file.name ≡ Some file.bytes));
+}
+
+some_key : (table : Table) (folder : Folder) (accepted : Accepted) → (file_reading folder partition_name >>= behind_file table folder accepted) ≡ Ok tt → PartitionHolds table folder accepted.rows
+some_key table folder accepted e =
+    ok_then (file_reading folder partition_name) (behind_file table folder accepted) tt e (λ bytes is e.
+    ok_then (none_found (other_partition table accepted.rows) (λ row. fault_in partition_name (granule_of accepted.granules row) Partition)) (behind_rows table folder accepted) tt e (λ done none e.
+    record { one = one_partition table accepted.rows (none_is (other_partition table accepted.rows) (λ row. fault_in partition_name (granule_of accepted.granules row) Partition) none); files = files_there folder (partition_files table accepted.rows) e }))
+
+pub partition_holds : (table : Table) (folder : Folder) (accepted : Accepted) → partition_reading table folder accepted ≡ Ok tt → PartitionHolds table folder accepted.rows
+unfolding partition_reading
+partition_holds table folder accepted e =
+    elim (cases_Bool (length table.partition == 0)) [
+      | inl empty ↦ no_key table folder accepted.rows (is_none table.partition empty)
+      | inr some ↦ some_key table folder accepted (sym (ap (λ (b : Bool). if b then (let r : Result Unit Fault = Ok tt in r) else (file_reading folder partition_name >>= behind_file table folder accepted)) some) ∙ e)
+    ]

@@ -1,0 +1,28 @@
+use Rattle.std.proofs.Common.{rules, Bool, map, ap, ◌∙◌}
+use Rattle.std.specs.Borrow.{Bor}
+use Rattle.std.specs.Cmp.{IsTotalOrder, IsStrictWeakOrder}
+use Rattle.std.specs.List.Sorted.{IsSorted, IsStable}
+use Rattle.std.specs.Ordering.{is_lt}
+use Rattle.std.specs.declared.cmp.Ordering.{Ordering}
+use Rattle.std.proofs.lemmas.Cmp.{on_total}
+use Rattle.std.proofs.lemmas.Fn.{always_returns_same}
+use Rattle.std.proofs.lemmas.List.Sorted.{ranks_by}
+use Rattle.mt_types.specs.Ordered.{values_total}
+use Rattle.mt_defs.specs.Rows.{Row}
+use Rattle.mt_fold.specs.Answer.{plain_item}
+use Rattle.mt_proj.specs.Keys.{rows_in}
+use Rattle.mt_proj.proofs.StableLemmas.{the_one}
+use Rattle.mt_proj.proofs.OrderLemmas.{map-sorted_by}
+use Rattle.mt_exec.specs.Plain.{items_cmp}
+use Rattle.mt_exec.proofs.plain.put_in_order.Goals as goal
+
+pub returns : goal.returns
+returns c =
+    let items = c.args.items.now in
+    let R : Bor Row → Bor Row → Ordering = λ a b. items_cmp items a.now b.now in
+    let total : IsTotalOrder R = on_total (λ (row : Bor Row). map (plain_item row.now) items) values_total in
+    let lt : Bor Row → Bor Row → Bool = λ a b. is_lt (R a b) in
+    let weak : IsStrictWeakOrder lt = ranks_by total (λ v. v) in
+    let up : IsSorted R c.sort_by.new.self.items = c.in_ok-sort_by.ensures.sorted lt weak (always_returns_same _ _ _ (λ a r f' k. search rules)) in
+    let stable : IsStable R c.args.rows.items c.sort_by.new.self.items = c.in_ok-sort_by.ensures.stable lt weak (always_returns_same _ _ _ (λ a r f' k. search rules)) in
+    ap rows_in (the_one R total c.args.rows.items c.sort_by.new.self.items up stable) ∙ map-sorted_by (λ (row : Bor Row). row.now) (items_cmp items) c.args.rows.items

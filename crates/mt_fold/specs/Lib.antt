@@ -1,0 +1,5 @@
+pub mod Truth
+pub mod Columns
+pub mod Answer
+pub mod Gathered
+pub mod Steps

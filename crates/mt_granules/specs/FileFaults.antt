@@ -1,0 +1,65 @@
+-- Faults of the data and marks files: which file, where in it, and why: docs/FORMAT.md, "The first fault".
+use Rattle.std.specs.Prelude.{ℕ, ◌∷◌, [], List, Option, Some, None, Result, Ok, Err}
+use Rattle.mt_types.specs.Steps.{◌>>=◌, ok_or, onto}
+use Rattle.mt_item.specs.declared.fault.CodecWhy.{CodecWhy}
+use Rattle.mt_item.specs.declared.fault.CodecWhy.TheVariants as codec
+use Rattle.mt_shelf.specs.declared.fault.Why.{Why}
+use Rattle.mt_shelf.specs.declared.fault.Why.TheVariants as why
+use Rattle.mt_shelf.specs.declared.fault.Fault.{Fault}
+use Rattle.mt_frame.specs.declared.fault.FrameWhy.{FrameWhy}
+use Rattle.mt_frame.specs.declared.fault.FrameWhy.TheVariants as frame
+use Rattle.mt_defs.specs.Folder.{Folder}
+
+-- what is read of a folder's files, or their first fault
+abbrev pub Judged : Type 0 → Type 0
+Judged A = Result A Fault
+
+-- ---- the faults
+
+-- of a whole file
+abbrev pub file_fault : List ℕ → Why → Fault
+file_fault file reason = record { file = file; granule = None; at = None; why = reason }
+
+-- in a granule
+abbrev pub granule_fault : List ℕ → ℕ → Why → Fault
+granule_fault file granule reason = record { file = file; granule = Some granule; at = None; why = reason }
+
+-- what is wrong with a frame
+abbrev pub frame_why : FrameWhy → Why
+frame_why frame.Cut = why.Cut
+frame_why frame.Method = why.Method
+frame_why frame.Sizes = why.Sizes
+frame_why frame.TooLong = why.TooLong
+
+-- at the offset at which no frame stands
+abbrev pub frame_fault : List ℕ → ℕ × FrameWhy → Fault
+frame_fault file (offset, reason) = record { file = file; granule = None; at = Some offset; why = frame_why reason }
+
+-- of a marks file: the first broken rule, in the granule of its entry
+abbrev pub marks_fault : List ℕ → Option ℕ × Why → Fault
+marks_fault file (granule, reason) = record { file = file; granule = granule; at = None; why = reason }
+
+-- what is wrong with the bytes of a substream
+abbrev pub codec_why : CodecWhy → Why
+codec_why codec.Short = why.Short
+codec_why codec.Over = why.Over
+codec_why codec.Length = why.Length
+codec_why codec.NullByte = why.NullByte
+codec_why codec.HasByte = why.HasByte
+codec_why codec.TooLong = why.TooLong
+
+-- ---- the steps
+
+-- what is wrong, as a fault
+abbrev pub blame : {A E : Type 0} → (E → Fault) → Result A E → Judged A
+blame fault (Ok x) = Ok x
+blame fault (Err e) = Err (fault e)
+
+-- the bytes of a file, or that it is missing
+abbrev pub file_reading : Folder → List ℕ → Judged (List ℕ)
+file_reading folder name = ok_or (file_fault name why.Missing) (folder name)
+
+-- what each step gives, or what is wrong with the first that fails
+abbrev pub in_order : {A B E : Type 0} → (A → Result B E) → List A → Result (List B) E
+in_order step [] = Ok []
+in_order step (x ∷ xs) = step x >>= λ y. onto y (in_order step xs)

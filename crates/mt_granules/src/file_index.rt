@@ -1,0 +1,14 @@
+//! An index of files by their names.
+
+ghost use Rattle.std.specs.Prelude.{IsSorted};
+ghost use Rattle.mt_granules.specs.FileOrder.{files_in, name_cmp};
+
+use mt_shelf::FileBytes;
+
+/// Files that are found by halves: of two of one name, the first.
+#[derive(Debug, Drop)]
+pub struct FileIndex<'a> {
+    /// In the byte order of their names, files of one name in the order that they had.
+    pub(crate) sorted: Vec<&'a FileBytes>,
+    ghost rising: { IsSorted name_cmp (files_in sorted.items) },
+}

@@ -1,0 +1,4 @@
+pub mod Ranks
+pub mod RankedOnce
+pub mod RankedTwice
+pub mod InOrder

@@ -1,0 +1,110 @@
+-- Reading the columns of a Wide part one after another.
+use Rattle.std.proofs.Common.{◌≡◌, ℕ, ◌+◌, ◌*◌, ◌<◌, ◌≤◌, suc, List, [], ◌∷◌, ◌++◌, length, map, take, drop, get_or, refl, ap, sym, ◌∙◌, subst, arith, Bor}
+use Rattle.std.specs.Prelude.{Result, Ok, Err, All, sum, slice_index_or}
+use Rattle.std.specs.List.{enumerate_from}
+use Rattle.std.proofs.lemmas.List.{length-map, map-append, take_more, get_or_default}
+use Rattle.std.proofs.lemmas.List.Elements.{All-append, All-cons, All-nil}
+use Rattle.mt_types.specs.declared.value.Value.{Value}
+use Rattle.mt_types.specs.Steps.{◌>>=◌}
+use Rattle.mt_types.proofs.StepLemmas.{then_of}
+use Rattle.mt_shelf.specs.declared.fault.Fault.{Fault}
+use Rattle.mt_table.specs.Rows.{Pointwise}
+use Rattle.mt_table.specs.declared.column.Column.{Column}
+use Rattle.mt_defs.specs.Folder.{Folder}
+use Rattle.mt_defs.specs.Rows.{Row}
+use Rattle.mt_codec.specs.StreamOrder.{streams_of}
+use Rattle.mt_codec.specs.Results.{bytes_of as slice_bytes}
+use Rattle.mt_defs.specs.FileNames.{stream_names}
+use Rattle.mt_granules.specs.declared.fault.FileError.{FileError}
+use Rattle.mt_granules.specs.declared.payloads.Payloads.{Payloads}
+use Rattle.mt_granules.specs.declared.payloads.Payload.{Payload}
+use Rattle.mt_granules.specs.FileFaults.{Judged, in_order}
+use Rattle.mt_granules.specs.PayloadView.{bytes_of, payloads_in}
+use Rattle.mt_granules.specs.Results.{FailsAs}
+use Rattle.mt_granules.specs.ColumnRows.{all_values, rows_of, with_column}
+use Rattle.mt_granules.proofs.OrderLemmas.{order_continues, order_each, order_ends}
+use Rattle.mt_granules.proofs.RowLemmas.{column_added, length-all_values, length-rows_of}
+use Rattle.mt_wide.specs.WideReading.{column_reading, payloads_at, rows_reading, wide_granules, wide_reading}
+use Rattle.mt_wide.specs.StreamView.{HasGranules, streams_in}
+use Rattle.mt_wide.proofs.CountLemmas.{names_count}
+
+-- ---- substreams
+
+pub streams_more : (streams new : List Payloads) (read : Payloads) → new ≡ streams ++ read ∷ [] → streams_in streams ++ (payloads_in read).payloads ∷ [] ≡ streams_in new
+streams_more streams new read is = sym (ap streams_in is ∙ map-append (λ (r : Payloads). (payloads_in r).payloads) streams (read ∷ []))
+
+pub each_more : (granules : List ℕ) (streams new : List Payloads) (read : Payloads) → new ≡ streams ++ read ∷ [] → All (HasGranules granules) streams → HasGranules granules read → All (HasGranules granules) new
+each_more granules streams new read is are has =
+    subst (All (HasGranules granules)) (sym is) (All-append (HasGranules granules) streams (read ∷ []) are (All-cons (HasGranules granules) read [] has (All-nil (HasGranules granules))))
+
+pub pointwise_long : {A B : Type 0} (R : A → B → Type 0) (xs : List A) (ys : List B) → Pointwise R xs ys → length ys ≡ length xs
+pointwise_long R [] [] p = refl
+pointwise_long R [] (y ∷ ys) p = absurd p
+pointwise_long R (x ∷ xs) [] p = absurd p
+pointwise_long R (x ∷ xs) (y ∷ ys) p = ap (λ (n : ℕ). suc n) (pointwise_long R xs ys p.1)
+
+pub order_long : {A B E : Type 0} (step : A → Result B E) (xs : List A) (ys : List B) → in_order step xs ≡ Ok ys → length ys ≡ length xs
+order_long step xs ys e = pointwise_long (λ x y. step x ≡ Ok y) xs ys (order_each step xs ys e)
+
+pub streams_long : (names : List (List ℕ)) (streams : List Payloads) (step : List ℕ → Judged (List (List ℕ))) → in_order step names ≡ Ok (streams_in streams) → length streams ≡ length names
+streams_long names streams step e = sym (length-map streams (λ (r : Payloads). (payloads_in r).payloads)) ∙ order_long step names (streams_in streams) e
+
+-- a granule has a payload for each substream of the type
+pub slices_long : (column : Column) (names : List (List ℕ)) (streams : List Payloads) (granule : ℕ) (payloads seen : List Payload) (slices given : List (Bor (List ℕ)))
+    → names ≡ stream_names column → length streams ≡ length names → map bytes_of payloads ≡ payloads_at granule (streams_in streams) → seen ≡ payloads → slice_bytes slices ≡ map bytes_of seen → given ≡ slices → length given ≡ length (streams_of column.ty)
+slices_long column names streams granule payloads seen slices given names_are complete payloads_are same slices_are given_is =
+    ap (λ (l : List (Bor (List ℕ))). length l) given_is ∙ sym (length-map slices (λ (s : Bor (List ℕ)). s.now)) ∙ ap (λ (l : List (List ℕ)). length l) slices_are
+    ∙ ap (λ (l : List Payload). length (map bytes_of l)) same ∙ ap (λ (l : List (List ℕ)). length l) payloads_are
+    ∙ length-map (streams_in streams) (λ (ps : List (List ℕ)). slice_index_or ps granule []) ∙ length-map streams (λ (r : Payloads). (payloads_in r).payloads)
+    ∙ complete ∙ ap (λ (l : List (List ℕ)). length l) names_are ∙ names_count column
+
+-- ---- granules
+
+pub lengths_more : (granules : List ℕ) (i : ℕ) (values new : List (List Value)) (here : List Value) (rows : ℕ) → i < length granules → rows ≡ get_or granules i rows → new ≡ values ++ here ∷ [] → length here ≡ rows
+    → map (λ (h : List Value). length h) values ≡ take i granules → map (λ (h : List Value). length h) new ≡ take (i + 1) granules
+lengths_more granules i values new here rows h at new_is many so_far =
+    ap (map (λ (h : List Value). length h)) new_is ∙ map-append (λ (h : List Value). length h) values (here ∷ [])
+    ∙ ap (λ (l : List ℕ). l ++ length here ∷ []) so_far ∙ ap (λ (n : ℕ). take i granules ++ n ∷ []) (many ∙ at) ∙ sym (take_more granules i rows h)
+
+-- ---- columns
+
+-- the columns before are read, and the rows have their values
+pub record IsReadSoFar (folder : Folder) (granules : List ℕ) (count : ℕ) (columns : List Column) (rows : List Row) : Type 0 where
+  pub values : List (List (List Value))
+  pub so_far : in_order (column_reading folder granules) columns ≡ Ok values
+  pub rows_are : rows ≡ rows_of count (map all_values values)
+
+pub none_read : (folder : Folder) (granules : List ℕ) (count : ℕ) (rows : List Row) → rows ≡ rows_of count [] → IsReadSoFar folder granules count [] rows
+none_read folder granules count rows is = record { values = []; so_far = refl; rows_are = is }
+
+pub values_fit : (count : ℕ) (granules : List ℕ) (values : List (List Value)) → map (λ (h : List Value). length h) values ≡ granules → sum granules ≡ count → length (all_values values) ≡ count
+values_fit count granules values each all = length-all_values values ∙ ap sum each ∙ all
+
+pub rows_many : (folder : Folder) (granules : List ℕ) (count : ℕ) (columns : List Column) (rows : List Row) → IsReadSoFar folder granules count columns rows → length rows ≡ count
+rows_many folder granules count columns rows had = ap (λ (l : List Row). length l) had.rows_are ∙ length-rows_of count (map all_values had.values)
+
+pub column_read : (folder : Folder) (granules : List ℕ) (count : ℕ) (columns : List Column) (i : ℕ) (column : Column) (rows new : List Row) (values : List (List Value)) → i < length columns → column ≡ get_or columns i column
+    → column_reading folder granules column ≡ Ok values → map (λ (h : List Value). length h) values ≡ granules → sum granules ≡ count → new ≡ with_column rows (all_values values)
+    → IsReadSoFar folder granules count (take i columns) rows → IsReadSoFar folder granules count (take (i + 1) columns) new
+column_read folder granules count columns i column rows new values h at is each all new_is had = record {
+  values = had.values ++ values ∷ [];
+  so_far = order_continues (column_reading folder granules) columns i column had.values values h at had.so_far is;
+  rows_are = new_is ∙ ap (λ (l : List Row). with_column l (all_values values)) had.rows_are
+      ∙ sym (column_added count (map all_values had.values) (all_values values) (values_fit count granules values each all))
+      ∙ ap (rows_of count) (sym (map-append all_values had.values (values ∷ [])));
+}
+
+pub all_read : (folder : Folder) (granules : List ℕ) (count : ℕ) (columns : List Column) (i : ℕ) (rows : List Row) → length columns ≤ i → IsReadSoFar folder granules count (take i columns) rows → rows_reading folder granules count columns ≡ Ok rows
+all_read folder granules count columns i rows h had =
+    then_of (in_order (column_reading folder granules) columns) had.values (λ values. Ok (rows_of count (map all_values values))) (order_ends (column_reading folder granules) columns i had.values h had.so_far)
+    ∙ ap (λ (l : List Row). let r : Judged (List Row) = Ok l in r) (sym had.rows_are)
+
+-- ---- the whole part
+
+pub part_read : (folder given : Folder) (count : ℕ) (columns : List Column) (granules : List ℕ) (rows shown : List Row) → folder ≡ given → wide_granules folder count columns ≡ Ok granules → rows_reading folder granules count columns ≡ Ok rows → shown ≡ rows
+    → wide_reading given count columns ≡ Ok (shown, granules)
+part_read folder given count columns granules rows shown same first read is =
+    subst (λ (f : Folder). wide_reading f count columns ≡ Ok (shown, granules)) same
+    (then_of (wide_granules folder count columns) granules (λ granules. rows_reading folder granules count columns >>= λ rows. Ok (rows, granules)) first
+    ∙ then_of (rows_reading folder granules count columns) rows (λ rows. Ok (rows, granules)) read
+    ∙ ap (λ (l : List Row). let r : Judged (List Row × List ℕ) = Ok (l, granules) in r) (sym is))

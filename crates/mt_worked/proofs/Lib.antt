@@ -1,0 +1,5 @@
+mod ItemLemmas
+mod NumberLemmas
+mod HeldLemmas
+mod NoRowsLemmas
+mod ExampleLemmas

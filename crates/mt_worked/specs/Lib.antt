@@ -1,0 +1,2 @@
+pub mod NumberColumns
+pub mod WrongFolders
