@@ -1,9 +1,9 @@
 -- The cells of projections: one of some columns has no more than the rows, and one of aggregates holds no array.
-use Rattle.std.proofs.Common.{◌≡◌, ℕ, zero, suc, ◌+◌, ◌*◌, ◌<◌, ◌≤◌, Bool, true, false, List, [], ◌∷◌, ◌++◌, length, map, drop, get_or, refl, ap, sym, ◌∙◌, subst, arith, inl, inr, lit<, ◌^◌}
-use Rattle.std.specs.Prelude.{All, IsTrue, cond, not, nat_le, nat_lt, ◌==◌}
-use Rattle.std.specs.List.{count_by, filter, list_any, range_with_len, sum_by}
+use Rattle.std.proofs.Common.{◌≡◌, ℕ, zero, suc, ◌+◌, ◌*◌, ◌<◌, ◌≤◌, Bool, true, false, List, [], ◌∷◌, length, map, drop, get_or, refl, ap, sym, ◌∙◌, arith, inl, inr, lit<, ◌^◌}
+use Rattle.std.specs.Prelude.{All, cond, not, nat_le, nat_lt, ◌==◌}
+use Rattle.std.specs.List.{filter, list_any, range_with_len, sum_by}
 use Rattle.std.proofs.lemmas.Bool.{cases_Bool, leb-true, leb-false, lt-ltb, le-ltb}
-use Rattle.std.proofs.lemmas.List.{drop_more, get_or_default, length-map, length-append}
+use Rattle.std.proofs.lemmas.List.{get_or_default, length-map, length-append}
 use Rattle.std.proofs.lemmas.List.Elements.{All-nil, All-cons, All-head, All-tail, All-append, All-map, All-weaker, All-filter}
 use Rattle.std.proofs.lemmas.List.Sums.{sum_by-cons, sum_by-drop_more, length-filter, count_by-le-length}
 use Rattle.std.proofs.lemmas.List.FromFn.{length-range_with_len}
@@ -17,7 +17,7 @@ use Rattle.mt_types.specs.declared.value.Value.TheVariants.{Null, State, outs-St
 use Rattle.mt_types.specs.Fits.{fits_of, num_at, text_at}
 use Rattle.mt_types.proofs.StepLemmas.{both_true}
 use Rattle.mt_agg.proofs.StateLemmas.{fits_at}
-use Rattle.mt_item.specs.ItemTypes.{is_scalar, is_scalar_at}
+use Rattle.mt_item.specs.ItemTypes.{is_scalar_at}
 use Rattle.mt_table.specs.declared.column.Column.{Column}
 use Rattle.mt_table.specs.declared.definition.Table.{Table}
 use Rattle.mt_table.specs.declared.limits.TheConstants.{MAX_CELLS, MAX_KEY}
@@ -58,7 +58,7 @@ chosen_least g keep xs d a (suc n) within =
     ]
 
 -- a row of so many columns
-row_length : (columns : List Column) (row : Row) → RowFits columns row → length row ≡ length columns
+pub row_length : (columns : List Column) (row : Row) → RowFits columns row → length row ≡ length columns
 row_length [] [] fits = refl
 row_length [] (value ∷ row) fits = absurd fits
 row_length (column ∷ columns) [] fits = absurd fits

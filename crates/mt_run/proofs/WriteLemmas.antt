@@ -1,5 +1,5 @@
 -- The exits of `write` once the folder is made, each as the plan has it.
-use Rattle.std.proofs.Common.{◌≡◌, ◌⊎◌, inl, inr, ℕ, true, false, List, [], map, Option, Some, None, IfSome, IsSome, Result, Ok, Err, refl, ap, sym, ◌∙◌, arith, subst}
+use Rattle.std.proofs.Common.{◌≡◌, ◌⊎◌, inl, inr, ℕ, true, false, List, [], map, Option, Some, None, IfSome, IsSome, Result, Ok, Err, refl, ap, sym, ◌∙◌, subst}
 use Rattle.std.proofs.lemmas.List.{append-nil}
 use Rattle.std.specs.Option.{option_map}
 use Rattle.std.specs.Io.KnownBytes.{append_known, IsAtEnd}
@@ -9,7 +9,7 @@ use Rattle.mt_shelf.specs.Streams.{GrowsByPrefix}
 use Rattle.mt_shelf.specs.Files.{Files, gained_files}
 use Rattle.mt_shelf.specs.Held.{pair_of}
 use Rattle.mt_run.specs.Status.{is_outside, ◌>>=◌}
-use Rattle.mt_run.specs.Plans.{Meets, Leaves, Gains, Prints, PrintsPrefix, Answers, refusal_of, world, or_else, status_of, answer_of}
+use Rattle.mt_run.specs.Plans.{Meets, Leaves, Answers, refusal_of, world, or_else, status_of, answer_of}
 use Rattle.mt_run.specs.Steps.{Counts, StepCausedBy, Stored}
 use Rattle.mt_run.specs.Write.{refusal, table_in, table_for, free_target, folder_for, with_folder, write_plan}
 use Rattle.mt_run.specs.declared.status.Status.{Status}

@@ -1,6 +1,7 @@
 //! What a run returns, and the exit code of each status.
 ghost use Rattle.std.specs.Prelude.{◌≡◌};
-ghost use Rattle.mt_run.specs.Status.{code_of, status_of_shelf, status_of_source, status_of_rows};
+ghost use Rattle.mt_run.specs.Status.{code_of, status_of_rows, status_of_shelf};
+ghost use Rattle.mt_run.specs.Status.{status_of_sink, status_of_source};
 
 use mt_shelf::{CallError, Fault};
 use mt_table::TableWhy;
@@ -109,6 +110,16 @@ pub(crate) fn status_of_source(error: CallError) -> Status
 {
     match error {
         CallError::Failed => Status::SourceFault,
+        CallError::NoMemory => Status::NoMemory,
+    }
+}
+
+/// The status of an output's error.
+pub(crate) fn status_of_sink(error: CallError) -> Status
+    ensures { result ≡ status_of_sink error }
+{
+    match error {
+        CallError::Failed => Status::SinkFault,
         CallError::NoMemory => Status::NoMemory,
     }
 }

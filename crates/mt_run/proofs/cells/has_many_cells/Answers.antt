@@ -1,4 +1,4 @@
-use Rattle.std.proofs.Common.{◌≡◌, ◌+◌, ◌*◌, ◌≤◌, length, sym, ap, subst, ◌∙◌, arith}
+use Rattle.std.proofs.Common.{◌+◌, ◌*◌, ◌≤◌, length, sym, ap, subst, ◌∙◌, arith}
 use Rattle.std.specs.Prelude.{nat_le}
 use Rattle.std.proofs.lemmas.Bool.{leb-true}
 use Rattle.mt_types.proofs.StepLemmas.{both_true}
@@ -7,7 +7,7 @@ use Rattle.mt_table.specs.declared.projection.Projection.TheVariants.{Normal, Gr
 use Rattle.mt_table.specs.Kept.{keeps_grouped}
 use Rattle.mt_defs.specs.Writer.{projection_rows}
 use Rattle.mt_run.specs.Write.{has_many_cells}
-use Rattle.mt_run.proofs.CellLemmas.{IsAt, read_at, grouped_width, grouped_few, grouped_many, normal_few}
+use Rattle.mt_run.proofs.CellLemmas.{read_at, grouped_width, grouped_few, grouped_many, normal_few}
 use Rattle.mt_run.proofs.cells.has_many_cells.Goals as goal
 
 pub overflow_add-columns : goal.overflow_add-columns

@@ -1,4 +1,4 @@
-use Rattle.std.proofs.Common.{◌≡◌, ◌^◌, ◌-◌, min, take, ap, sum_by, length}
+use Rattle.std.proofs.Common.{◌≡◌, ◌^◌, ◌-◌, min, take}
 use Rattle.mt_run.specs.Write.{folder_bytes}
 use Rattle.mt_run.proofs.folder.is_above_limit.Given as goal
 
