@@ -115,7 +115,14 @@ fn read_projection<F: Shelf>(
     let compact = size_of(listing, marks.as_slice()).is_some();
     let names = own_names(alloc, &definition, compact)?;
     know(alloc, prefix.as_slice(), names.as_slice(), known)?;
-    read_named(alloc, part, prefix.as_slice(), names.as_slice(), listing, shelf)
+    read_named(
+        alloc,
+        part,
+        prefix.as_slice(),
+        names.as_slice(),
+        listing,
+        shelf,
+    )
 }
 
 /// The files of some names below a prefix that are listed.

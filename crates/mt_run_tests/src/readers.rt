@@ -54,7 +54,10 @@ fn reads_what_was_written(rt: HostRuntime) -> Result<(), Fail> {
         assert_eq!(rt; code, 0);
         let (code, printed, notes) = outcome(&rt, alloc, &CHECK, INPUT, &mut shelf)?;
         assert_eq!(rt; code, 0);
-        assert_eq!(rt; printed.as_slice(), b"accepted 3 rows in 2 granules\n".as_slice());
+        assert_eq!(rt;
+            printed.as_slice(),
+            b"accepted 3 rows in 2 granules\n".as_slice()
+        );
         assert!(rt; notes.is_empty());
         let (code, printed, _) = outcome(&rt, alloc, &ROWS, INPUT, &mut shelf)?;
         assert_eq!(rt; code, 0);
@@ -105,11 +108,23 @@ fn failing<R: Threads + Sync>(
     let files = files_of(
         alloc,
         &[
-            ("u.sql", "CREATE TABLE t (k UInt8) ENGINE = MergeTree ORDER BY k SETTINGS min_bytes_for_wide_part = 0"),
-            ("p/columns.txt", "columns format version: 1\n1 columns:\n`k` UInt8\n"),
+            (
+                "u.sql",
+                "CREATE TABLE t (k UInt8) ENGINE = MergeTree ORDER BY k SETTINGS min_bytes_for_wide_part = 0",
+            ),
+            (
+                "p/columns.txt",
+                "columns format version: 1\n1 columns:\n`k` UInt8\n",
+            ),
             ("p/count.txt", "1"),
-            ("p/k.bin", "\0\0\0\0\0\0\0\0\0\0\0\0\0\0\0\0\x02\x0a\0\0\0\x01\0\0\0\x07"),
-            ("p/k.mrk2", "\0\0\0\0\0\0\0\0\0\0\0\0\0\0\0\0\x01\0\0\0\0\0\0\0\x1a\0\0\0\0\0\0\0\0\0\0\0\0\0\0\0\0\0\0\0\0\0\0\0"),
+            (
+                "p/k.bin",
+                "\0\0\0\0\0\0\0\0\0\0\0\0\0\0\0\0\x02\x0a\0\0\0\x01\0\0\0\x07",
+            ),
+            (
+                "p/k.mrk2",
+                "\0\0\0\0\0\0\0\0\0\0\0\0\0\0\0\0\x01\0\0\0\0\0\0\0\x1a\0\0\0\0\0\0\0\0\0\0\0\0\0\0\0\0\0\0\0\0\0\0\0",
+            ),
             ("p/primary.idx", "\x07\x07"),
         ],
     )?;
