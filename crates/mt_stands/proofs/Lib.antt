@@ -9,4 +9,5 @@ pub mod SkipLists
 pub mod SkipFiles
 pub mod SkipIndexLaw
 pub mod SkipLaw
+pub mod ReadLaw
 pub mod JoinLaw

@@ -1,8 +1,7 @@
 //! Laws of the checks, each the contract of a function that does nothing.
 
-ghost use Rattle.std.specs.Prelude.{◌≡◌, ◌↔◌, ℕ, All, List, Err, Ok};
+ghost use Rattle.std.specs.Prelude.{◌≡◌, ℕ, List, Err, Ok};
 ghost use Rattle.mt_shelf.specs.declared.fault.Fault.{Fault};
-ghost use Rattle.mt_table.specs.declared.definition.PartDef.{PartDef};
 ghost use Rattle.mt_table.specs.declared.definition.Table.{Table};
 ghost use Rattle.mt_defs.specs.Folder.{Folder};
 ghost use Rattle.mt_defs.specs.Part.{StandsFor};
@@ -10,28 +9,34 @@ ghost use Rattle.mt_defs.specs.Rows.{Row};
 ghost use Rattle.mt_granules.specs.ByteFiles.{HasByteFiles};
 ghost use Rattle.mt_check.specs.declared.accepted.Accepted.{Accepted};
 ghost use Rattle.mt_check.specs.FolderChecks.{folder_checks};
-ghost use Rattle.mt_stands.specs.Listed.{HasNames, AreReadExactly};
+ghost use Rattle.mt_stands.specs.Listed.{HasNames};
 
 use mt_check::{folders_have_one_answer, partitions_are_checked};
+use mt_held::{definitions_are_read_exactly, definitions_are_readable};
 
 /// The checks accept exactly the rows for which the folder stands, and a folder that stands for rows has no fault.
 pub fn folders_are_checked_exactly()
     ensures accepted { (table : Table) (folder : Folder) (names : List (List ℕ)) (accepted : Accepted)
-        → AreReadExactly table folder → HasByteFiles folder → HasNames folder names
+        → HasByteFiles folder → HasNames folder names
         → folder_checks table folder names (Ok accepted) → StandsFor table folder accepted.rows }
     ensures stands { (table : Table) (folder : Folder) (names : List (List ℕ)) (rows : List Row)
-        → AreReadExactly table folder → HasByteFiles folder → HasNames folder names → StandsFor table folder rows
+        → HasByteFiles folder → HasNames folder names → StandsFor table folder rows
         → (accepted : Accepted) × folder_checks table folder names (Ok accepted) × (accepted.rows ≡ rows) }
     ensures no_fault { (table : Table) (folder : Folder) (names : List (List ℕ)) (rows : List Row) (fault : Fault)
-        → AreReadExactly table folder → HasByteFiles folder → HasNames folder names → StandsFor table folder rows
+        → HasByteFiles folder → HasNames folder names → StandsFor table folder rows
         → folder_checks table folder names (Err fault) → ⊥ }
 {
+    definitions_are_readable();
+    definitions_are_read_exactly();
     partitions_are_checked();
     folders_have_one_answer();
 }
 
 /// No folder stands for two lists of rows.
 pub fn folders_stand_for_one_list_of_rows()
-    ensures { (table : Table) (folder : Folder) (rows others : List Row) → AreReadExactly table folder
+    ensures { (table : Table) (folder : Folder) (rows others : List Row) → HasByteFiles folder
         → StandsFor table folder rows → StandsFor table folder others → rows ≡ others }
-{}
+{
+    definitions_are_readable();
+    definitions_are_read_exactly();
+}

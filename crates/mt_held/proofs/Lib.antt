@@ -1,0 +1,7 @@
+pub mod IndexLemmas
+pub mod OrderLemmas
+pub mod FileLemmas
+pub mod DataLemmas
+pub mod ReadLemmas
+pub mod HeldLemmas
+pub mod ReadableLemmas
