@@ -10,4 +10,5 @@ pub mod SkipFiles
 pub mod SkipIndexLaw
 pub mod SkipLaw
 pub mod ReadLaw
+pub mod AnswerLaw
 pub mod JoinLaw

@@ -14,7 +14,8 @@ ghost use Rattle.mt_stands.specs.Listed.{HasNames};
 use mt_check::{folders_have_one_answer, partitions_are_checked};
 use mt_held::{definitions_are_read_exactly, definitions_are_readable};
 
-/// The checks accept exactly the rows for which the folder stands, and a folder that stands for rows has no fault.
+/// The checks accept exactly the rows for which the folder stands. A folder that stands for rows has no fault, and
+/// one that stands for none isn't without a fault.
 pub fn folders_are_checked_exactly()
     ensures accepted { (table : Table) (folder : Folder) (names : List (List ℕ)) (accepted : Accepted)
         → HasByteFiles folder → HasNames folder names
@@ -25,6 +26,9 @@ pub fn folders_are_checked_exactly()
     ensures no_fault { (table : Table) (folder : Folder) (names : List (List ℕ)) (rows : List Row) (fault : Fault)
         → HasByteFiles folder → HasNames folder names → StandsFor table folder rows
         → folder_checks table folder names (Err fault) → ⊥ }
+    ensures fault { (table : Table) (folder : Folder) (names : List (List ℕ))
+        → HasByteFiles folder → HasNames folder names → ((rows : List Row) → StandsFor table folder rows → ⊥)
+        → ((fault : Fault) → folder_checks table folder names (Err fault) → ⊥) → ⊥ }
 {
     definitions_are_readable();
     definitions_are_read_exactly();
