@@ -1,6 +1,6 @@
 -- Files of folders that are read.
 use Rattle.std.proofs.Common.{◌≡◌, ℕ, List, ◌++◌, ap, Option, Some, None}
-use Rattle.std.specs.Prelude.{Result, Ok}
+use Rattle.std.specs.Prelude.{Ok}
 use Rattle.mt_shelf.specs.declared.fault.Why.TheVariants.{Missing}
 use Rattle.mt_types.specs.Steps.{ok_or}
 use Rattle.mt_defs.specs.Folder.{Folder, folder_below}

@@ -7,7 +7,6 @@ use Rattle.mt_shelf.specs.declared.fault.Why.TheVariants as why
 use Rattle.mt_table.specs.declared.definition.PartDef.{PartDef}
 use Rattle.mt_table.specs.declared.definition.Table.{Table}
 use Rattle.mt_defs.specs.Folder.{Folder}
-use Rattle.mt_defs.specs.Granules.{AreGranules}
 use Rattle.mt_defs.specs.Metadata.{column_at}
 use Rattle.mt_defs.specs.Part.{HasColumns, HoldsRows, StandsFor, known_names}
 use Rattle.mt_defs.specs.Partition.{HasPartition, HaveOnePartition, partition_name}

@@ -1,5 +1,5 @@
 -- The checks of projections hold exactly where each has its projection's rows.
-use Rattle.std.proofs.Common.{◌≡◌, ℕ, List, [], ◌∷◌, map, refl, sym, ap, ◌∙◌, inl}
+use Rattle.std.proofs.Common.{◌≡◌, ℕ, List, [], ◌∷◌, map, refl, sym, ap, inl}
 use Rattle.std.specs.Prelude.{All, ◌↔◌, Result, Ok, Err}
 use Rattle.std.proofs.lemmas.List.Elements.{All-nil, All-cons, All-head, All-tail}
 use Rattle.mt_shelf.specs.declared.fault.Fault.{Fault}
@@ -11,7 +11,7 @@ use Rattle.mt_defs.specs.Folder.{Folder, folder_below}
 use Rattle.mt_defs.specs.Part.{HasProjection, HoldsRows}
 use Rattle.mt_defs.specs.Projections.{IsProjectionOf, inner_of, projection_prefix}
 use Rattle.mt_check.specs.declared.accepted.Accepted.{Accepted}
-use Rattle.mt_check.specs.Checks.{Checks, ◌>>=◌, gives, holds}
+use Rattle.mt_check.specs.Checks.{Checks, gives, holds}
 use Rattle.mt_check.specs.DefinitionReading.{definition_reading}
 use Rattle.mt_check.specs.Faults.{fault_of, named_below}
 use Rattle.mt_check.specs.FolderChecks.{projection_checks, projection_folder, projections_checks}

@@ -1,5 +1,5 @@
 -- The files of a skip index are read exactly where they hold its entries.
-use Rattle.std.proofs.Common.{◌≡◌, ℕ, ◌+◌, ◌^◌, ◌<◌, ◌≤◌, List, [], ◌∷◌, ◌++◌, length, map, refl, sym, ap, ◌∙◌, subst, arith, length-append, Some, None, inl, inr}
+use Rattle.std.proofs.Common.{◌≡◌, ℕ, ◌^◌, ◌<◌, ◌≤◌, List, [], ◌∷◌, ◌++◌, length, map, refl, sym, ap, ◌∙◌, subst, arith, length-append, Some, None, inl, inr}
 use Rattle.std.specs.Prelude.{All, Result, Ok}
 use Rattle.std.specs.List.{concat, flat_map}
 use Rattle.std.specs.List.Sorted.{IsNonDecreasingBy}
@@ -11,7 +11,6 @@ use Rattle.mt_types.specs.Steps.{◌>>=◌}
 use Rattle.mt_types.proofs.StepLemmas.{ok_one, ok_then, then_of}
 use Rattle.mt_table.specs.Rows.{Pointwise}
 use Rattle.mt_table.specs.declared.skip.Skip.{Skip}
-use Rattle.mt_defs.specs.declared.frame.TheConstants.{MAX_PAYLOAD}
 use Rattle.mt_defs.specs.declared.mark.Mark.{Mark}
 use Rattle.mt_defs.specs.Folder.{Folder}
 use Rattle.mt_defs.specs.Frames.{Block, IsBlock, IsFileOf, IsFramed, block_bytes, file_of, payload_of}
@@ -23,7 +22,6 @@ use Rattle.mt_marks.specs.Positions.{position_from}
 use Rattle.mt_marks.proofs.DenotedLemmas.{position_complete, position_sound}
 use Rattle.mt_marks.proofs.RecutLemmas.{marked_within}
 use Rattle.mt_granules.specs.ByteFiles.{HasByteFiles}
-use Rattle.mt_granules.proofs.CutLemmas.{sizes_of}
 use Rattle.mt_granules.proofs.DataFileLemmas.{length-offsets}
 use Rattle.mt_granules.proofs.EntriesLemmas.{never_fall}
 use Rattle.mt_granules.proofs.KeptRulesLemmas.{offsets_rise}
@@ -31,10 +29,10 @@ use Rattle.mt_check.specs.Faults.{file_reading}
 use Rattle.mt_check.specs.SkipMarks.{blocks_reading, index_entries, marks_reading, pieces_at, positions_reading}
 use Rattle.mt_stands.proofs.FileLaw.{file_is, file_there}
 use Rattle.mt_stands.proofs.SkipBytes.{AreSkipMarks, HasWords, mark_of, skip_marks_are, skip_marks_read}
-use Rattle.mt_stands.proofs.SkipFiles.{HasBlocks, HasEntries, blocks_held, blocks_there, marks_held, marks_there}
+use Rattle.mt_stands.proofs.SkipFiles.{HasBlocks, blocks_held, blocks_there, marks_held, marks_there}
 use Rattle.mt_stands.proofs.SkipLists.{all_firsts, all_seconds, order_mapped, order_unmapped, pointwise_long, pointwise_mapped, pointwise_to, pointwise_unmapped}
 use Rattle.mt_stands.proofs.SkipPieces.{entries_back, entries_joined, entries_start, length-pieces_at, offsets_climb}
-use Rattle.mt_stands.proofs.SkipPositions.{Begins, Climbs, Denote, positions_climb, positions_read}
+use Rattle.mt_stands.proofs.SkipPositions.{Begins, Climbs, positions_climb, positions_read}
 
 -- the files of an index hold these entries
 pub record HoldsEntries (folder : Folder) (ending : List ℕ) (skip : Skip) (entries : List (List ℕ)) : Type 0 where

@@ -1,5 +1,5 @@
 -- The checks of skip indexes hold exactly where the folder has each index.
-use Rattle.std.proofs.Common.{◌≡◌, ℕ, suc, ◌+◌, ◌≤◌, List, [], ◌∷◌, length, refl, sym, subst, ◌∙◌, arith, inl}
+use Rattle.std.proofs.Common.{◌≡◌, ℕ, ◌+◌, ◌≤◌, List, [], ◌∷◌, length, refl, sym, arith, inl}
 use Rattle.std.specs.Prelude.{All, Ok}
 use Rattle.std.proofs.lemmas.List.Elements.{All-nil, All-cons, All-head, All-tail}
 use Rattle.mt_types.specs.declared.ty.Ty.{Ty}
@@ -14,7 +14,7 @@ use Rattle.mt_defs.specs.Rows.{Row, column_values}
 use Rattle.mt_defs.specs.SkipIndexes.{HasSkipIndex, Summarizes, entry_rows, skip_data_name}
 use Rattle.mt_granules.specs.ByteFiles.{HasByteFiles}
 use Rattle.mt_check.specs.declared.accepted.Accepted.{Accepted}
-use Rattle.mt_check.specs.Checks.{Checks, ◌>>=◌, each, gives, holds}
+use Rattle.mt_check.specs.Checks.{Checks, each, gives, holds}
 use Rattle.mt_check.specs.Faults.{fault_in}
 use Rattle.mt_check.specs.FolderChecks.{entries_checks, skip_checks}
 use Rattle.mt_check.specs.SkipMarks.{index_entries}

@@ -1,8 +1,8 @@
 -- No name is a stray exactly where each name is known.
-use Rattle.std.proofs.Common.{◌≡◌, ℕ, zero, suc, Bool, true, false, ◌||◌, List, [], ◌∷◌, length, refl, sym, ap, ◌∙◌, subst, arith, inl, inr}
-use Rattle.std.specs.Prelude.{◌↔◌, None, Option, Some, Contains, IsSome, if◌then◌else◌}
+use Rattle.std.proofs.Common.{◌≡◌, ℕ, zero, suc, Bool, true, false, ◌||◌, List, [], ◌∷◌, refl, sym, ap, ◌∙◌, subst, arith, inl, inr}
+use Rattle.std.specs.Prelude.{◌↔◌, None, Option, Some, Contains, if◌then◌else◌}
 use Rattle.std.proofs.lemmas.Bool.{cases_Bool}
-use Rattle.mt_defs.specs.Folder.{Folder, is_name}
+use Rattle.mt_defs.specs.Folder.{is_name}
 use Rattle.mt_check.specs.FolderChecks.{is_known, first_unknown}
 use Rattle.mt_written.proofs.LookupLemmas.{name_is, same_name}
 
