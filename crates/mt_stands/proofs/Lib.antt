@@ -11,4 +11,5 @@ pub mod SkipIndexLaw
 pub mod SkipLaw
 pub mod ReadLaw
 pub mod AnswerLaw
+pub mod FilesLaw
 pub mod JoinLaw

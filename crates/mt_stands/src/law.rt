@@ -1,12 +1,13 @@
 //! Laws of the checks, each the contract of a function that does nothing.
 
-ghost use Rattle.std.specs.Prelude.{◌≡◌, ℕ, List, Err, Ok};
+ghost use Rattle.std.specs.Prelude.{◌≡◌, ℕ, All, List, map, Err, Ok};
+ghost use Rattle.mt_shelf.specs.declared.file.FileBytes.{FileBytes};
 ghost use Rattle.mt_shelf.specs.declared.fault.Fault.{Fault};
 ghost use Rattle.mt_table.specs.declared.definition.Table.{Table};
-ghost use Rattle.mt_defs.specs.Folder.{Folder};
+ghost use Rattle.mt_defs.specs.Folder.{Folder, folder_of};
 ghost use Rattle.mt_defs.specs.Part.{StandsFor};
 ghost use Rattle.mt_defs.specs.Rows.{Row};
-ghost use Rattle.mt_granules.specs.ByteFiles.{HasByteFiles};
+ghost use Rattle.mt_granules.specs.ByteFiles.{HasByteFiles, IsByteFile};
 ghost use Rattle.mt_check.specs.declared.accepted.Accepted.{Accepted};
 ghost use Rattle.mt_check.specs.FolderChecks.{folder_checks};
 ghost use Rattle.mt_stands.specs.Listed.{HasNames};
@@ -44,3 +45,10 @@ pub fn folders_stand_for_one_list_of_rows()
     definitions_are_readable();
     definitions_are_read_exactly();
 }
+
+/// Of such folders are those of files in memory, whose names are the files' own.
+pub fn listed_files_make_a_folder()
+    ensures names { (files : List FileBytes) → HasNames (folder_of files) (map (λ file. file.name) files) }
+    ensures bytes { (files : List FileBytes) → All (λ file. IsByteFile file.bytes) files
+        → HasByteFiles (folder_of files) }
+{}

@@ -5,4 +5,6 @@
 
 mod law;
 
-pub use law::{folders_are_checked_exactly, folders_stand_for_one_list_of_rows};
+pub use law::{
+    folders_are_checked_exactly, folders_stand_for_one_list_of_rows, listed_files_make_a_folder,
+};
