@@ -22,7 +22,7 @@ use Rattle.mt_check.proofs.DefinitionLaw.{part_rows}
 use Rattle.mt_check.proofs.LoopLemmas.{same_default}
 use Rattle.mt_check.proofs.StoredLemmas.{order_is, ordered_profile, rows_fit, rows_long}
 use Rattle.mt_held.specs.Readable.{IsReadable}
-use Rattle.mt_held.proofs.DataLemmas.{CanBeRead, CompactIsExact, HasRows, WideIsExact, data_is_read}
+use Rattle.mt_held.proofs.DataLemmas.{CanBeRead, CompactIsExact, WideIsExact, data_is_read}
 use Rattle.mt_held.proofs.FileLemmas.{CountsAreRead, HasCount, HasOrder, OnlyLists, count_is_read, index_is_read, order_is_read}
 use Rattle.mt_held.proofs.OrderLemmas.{rows_there}
 
