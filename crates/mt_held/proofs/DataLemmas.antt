@@ -1,15 +1,13 @@
 -- The data and marks of columns, read exactly in both layouts.
-use Rattle.std.proofs.Common.{◌≡◌, ℕ, ◌≤◌, true, false, List, length, sym, subst, ◌∙◌, inl, inr}
-use Rattle.std.specs.Prelude.{All, IsTrue, Ok, ◌↔◌, ◌⊎◌}
+use Rattle.std.proofs.Common.{◌≡◌, ℕ, ◌≤◌, true, false, List, length, sym, ◌∙◌, inl, inr}
+use Rattle.std.specs.Prelude.{All, IsTrue, Ok, ◌↔◌}
 use Rattle.std.proofs.lemmas.Bool.{cases_Bool}
 use Rattle.mt_types.specs.Profile.{is_profile}
 use Rattle.mt_table.specs.declared.column.Column.{Column}
 use Rattle.mt_table.specs.declared.limits.TheConstants.{MAX_COLUMNS, MAX_ROWS}
 use Rattle.mt_defs.specs.Folder.{Folder}
-use Rattle.mt_defs.specs.Compact.{IsCompact}
 use Rattle.mt_defs.specs.Part.{HasColumns, is_compact}
 use Rattle.mt_defs.specs.Rows.{Row, RowFits}
-use Rattle.mt_defs.specs.Wide.{IsWide}
 use Rattle.mt_granules.specs.ByteFiles.{HasByteFiles}
 use Rattle.mt_wide.specs.HeldRows as wide
 use Rattle.mt_wide.specs.WideReading.{wide_reading}

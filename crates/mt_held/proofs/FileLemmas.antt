@@ -1,5 +1,5 @@
 -- columns.txt, count.txt and primary.idx, read exactly.
-use Rattle.std.proofs.Common.{◌≡◌, ℕ, List, length, map, sym, ap, subst, ◌∙◌}
+use Rattle.std.proofs.Common.{◌≡◌, ℕ, List, length, ap, ◌∙◌}
 use Rattle.std.specs.Prelude.{◌↔◌, Option, Some, None, Result, Ok, Err}
 use Rattle.mt_shelf.specs.declared.fault.Fault.{Fault}
 use Rattle.mt_shelf.specs.declared.fault.Why.{Why}
@@ -11,7 +11,6 @@ use Rattle.mt_table.specs.declared.definition.PartDef.{PartDef}
 use Rattle.mt_defs.specs.Folder.{Folder}
 use Rattle.mt_defs.specs.Metadata.{columns_name, count_name}
 use Rattle.mt_defs.specs.PrimaryIndex.{index_name, index_rows, key_bytes, primary_index_of}
-use Rattle.mt_defs.specs.Rows.{Row}
 use Rattle.mt_meta.specs.declared.count.CountWhy.{CountWhy}
 use Rattle.mt_meta.specs.declared.count.CountWhy.TheVariants.{Syntax, TooLong}
 use Rattle.mt_meta.specs.ColumnsReading.{CanBeListed, Lists, columns_reading}

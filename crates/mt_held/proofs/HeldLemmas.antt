@@ -1,20 +1,18 @@
 -- What a definition's folder holds, is read of it.
-use Rattle.std.proofs.Common.{◌≡◌, ◌≢◌, ℕ, suc, ◌+◌, ◌*◌, ◌<◌, ◌≤◌, Bool, false, List, [], ◌∷◌, length, map, get_or, refl, sym, ap, subst, ◌∙◌, arith}
-use Rattle.std.specs.Prelude.{All, IsSorted, None, Ok, Option, Some, nat_le, sum_by}
+use Rattle.std.proofs.Common.{◌≡◌, ◌≢◌, ℕ, suc, ◌+◌, ◌<◌, ◌≤◌, List, [], ◌∷◌, length, map, get_or, refl, ap, subst, ◌∙◌, arith}
+use Rattle.std.specs.Prelude.{All, IsSorted, None, Ok, Option, nat_le}
 use Rattle.std.specs.Fmt.{decimal}
 use Rattle.std.specs.Ordering.{is_lt}
 use Rattle.std.proofs.lemmas.Bool.{le-leb}
 use Rattle.std.proofs.lemmas.List.{length-map}
 use Rattle.mt_types.proofs.StepLemmas.{require_is}
-use Rattle.mt_shelf.specs.declared.fault.Fault.{Fault}
 use Rattle.mt_shelf.specs.declared.fault.Why.TheVariants as why
-use Rattle.mt_table.specs.declared.column.Column.{Column}
 use Rattle.mt_table.specs.declared.definition.PartDef.{PartDef}
 use Rattle.mt_table.specs.declared.limits.TheConstants.{MAX_CELLS}
 use Rattle.mt_defs.specs.Folder.{Folder}
 use Rattle.mt_defs.specs.Metadata.{column_at, columns_text, count_name}
 use Rattle.mt_defs.specs.Part.{HoldsRows}
-use Rattle.mt_defs.specs.Rows.{ArePartRows, Row, cell_count, element_count, key_cmp, key_of}
+use Rattle.mt_defs.specs.Rows.{ArePartRows, Row, cell_count, key_cmp, key_of}
 use Rattle.mt_granules.specs.ByteFiles.{HasByteFiles}
 use Rattle.mt_check.specs.declared.accepted.Accepted.{Accepted}
 use Rattle.mt_check.specs.DataReading.{data_reading}

@@ -1,20 +1,18 @@
 -- What each folder of a table stores can be read.
-use Rattle.std.proofs.Common.{◌≡◌, ◌≢◌, ℕ, ◌<◌, ◌≤◌, Bool, true, false, not, List, [], ◌∷◌, ◌++◌, length, map, get_or, refl, sym, ap, ◌∙◌, inl, inr, eqb}
-use Rattle.std.specs.Prelude.{All, AllPairs, IsTrue, codes, ◌==◌}
+use Rattle.std.proofs.Common.{◌≡◌, ◌≢◌, ℕ, ◌<◌, true, false, not, List, [], ◌∷◌, ◌++◌, length, map, get_or, refl, sym, ap, ◌∙◌, inl, inr, eqb}
+use Rattle.std.specs.Prelude.{All, codes, ◌==◌}
 use Rattle.std.specs.List.{list_all}
 use Rattle.std.proofs.lemmas.Bool.{and_parts, cases_order, ne_eqb}
 use Rattle.std.proofs.lemmas.List.Folds.{list_all-append}
 use Rattle.std.proofs.lemmas.List.Elements.{All-append, All-map, All-weaker}
 use Rattle.mt_types.specs.declared.ty.Agg.{Agg}
 use Rattle.mt_types.specs.declared.ty.Agg.TheVariants.{Sum, Min, Max}
-use Rattle.mt_types.specs.Profile.{is_profile}
 use Rattle.mt_types.proofs.StepLemmas.{both_of}
 use Rattle.mt_tokens.specs.Bytes.{is_word_byte}
 use Rattle.mt_tokens.specs.Words.{is_name}
 use Rattle.mt_table.specs.declared.column.Column.{Column}
 use Rattle.mt_table.specs.declared.definition.PartDef.{PartDef}
 use Rattle.mt_table.specs.declared.definition.Table.{Table}
-use Rattle.mt_table.specs.declared.limits.TheConstants.{MAX_COLUMNS}
 use Rattle.mt_table.specs.declared.projection.Aggregate.{Aggregate}
 use Rattle.mt_table.specs.declared.projection.Aggregate.TheVariants.{Count, Of}
 use Rattle.mt_table.specs.declared.projection.Projection.{Projection}
@@ -25,7 +23,7 @@ use Rattle.mt_table.proofs.KeptLemmas.{each_of}
 use Rattle.mt_defs.specs.Metadata.{column_at, no_column}
 use Rattle.mt_defs.specs.Projections.{aggregate_word, base_of, inner_of, state_column, stored_columns}
 use Rattle.mt_meta.specs.declared.ascii.TheConstants.{LINE_END, BACKQUOTE}
-use Rattle.mt_meta.specs.ColumnsReading.{CanBeListed, lacks}
+use Rattle.mt_meta.specs.ColumnsReading.{lacks}
 use Rattle.mt_check.specs.Definitions.{IsDefinition}
 use Rattle.mt_check.proofs.InnerLemmas.{projections_kept, stored_known}
 use Rattle.mt_check.proofs.TableLemmas.{base_checked, projections_checked}
