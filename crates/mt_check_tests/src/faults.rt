@@ -4,6 +4,7 @@ use crate::examples::{COMPACT, INDEXED, MONTH, PROJECTED, WIDE};
 use crate::files::Content::{Absent, Bytes, Frames, Numbers};
 use crate::files::File;
 use crate::parts::{Part, text_of};
+use crate::shelf::shelf_text_of;
 use std::test::Fail;
 
 /// A part, what is changed in its files and in those of its projection, and its first fault.
@@ -255,6 +256,8 @@ fn the_first_fault_is_named(rt: HostRuntime) -> Result<(), Fail> {
     for cases in [TEXTS, PARTITIONS, INDEXES, PROJECTIONS] {
         for (part, changed, inside, text) in cases {
             let found = text_of(rt.alloc(), part, changed, inside)?;
+            assert_eq!(rt; found.as_slice(), text.as_bytes());
+            let found = shelf_text_of(rt.alloc(), part, changed, inside, &[], &[])?;
             assert_eq!(rt; found.as_slice(), text.as_bytes());
         }
     }

@@ -13,3 +13,7 @@ mod files;
 mod parts;
 #[cfg(test)]
 mod rows;
+#[cfg(test)]
+mod shelf;
+#[cfg(test)]
+mod strays;

@@ -51,7 +51,8 @@ fn projections_of(
     Ok(projections)
 }
 
-fn written(
+/// What a check answered, in words.
+pub fn written(
     alloc: Global,
     columns: &[Column],
     checked: Result<Accepted, ReadError>,
@@ -70,6 +71,7 @@ fn written(
             }
         }
         Err(ReadError::AtFault(fault)) => out.append(format!(in alloc; "{fault}")?.as_bytes())?,
+        Err(ReadError::Shelf) => out.append(b"Shelf")?,
         Err(error) => return Err(Fail::new(error)),
     }
     Ok(out)

@@ -4,6 +4,7 @@ use crate::examples::{COMPACT, INDEXED, MONTH, PROJECTED, WIDE};
 use crate::files::Content::{Bytes, Frames, Numbers};
 use crate::files::File;
 use crate::parts::text_of;
+use crate::shelf::shelf_text_of;
 use std::test::Fail;
 
 const THREE: &str = "1\ta\n2\tb\n3\tc\n2 1 ";
@@ -18,6 +19,8 @@ fn parts_are_accepted(rt: HostRuntime) -> Result<(), Fail> {
         (PROJECTED, "1\t18446744073709551615\n1\t2\n2 "),
     ] {
         let read = text_of(rt.alloc(), &part, &[], &[])?;
+        assert_eq!(rt; read.as_slice(), text.as_bytes());
+        let read = shelf_text_of(rt.alloc(), &part, &[], &[], &[], &[])?;
         assert_eq!(rt; read.as_slice(), text.as_bytes());
     }
     Ok(())

@@ -1,0 +1,74 @@
+//! A part on a shelf: its files are read, and then checked.
+
+ghost use Rattle.std.specs.Prelude.{◌≡◌, ◌≤◌, All, IfOk, IfSome, IsTrue, length, map};
+ghost use Rattle.std.specs.FinMap.{get};
+ghost use Rattle.std.specs.List.{sum_by};
+ghost use Rattle.mt_defs.specs.Granules.{AreGranules};
+ghost use Rattle.mt_defs.specs.Partition.{HaveOnePartition};
+ghost use Rattle.mt_defs.specs.Projections.{base_of};
+ghost use Rattle.mt_defs.specs.Rows.{ArePartRows};
+ghost use Rattle.mt_shelf.specs.Files.{IsListing, entries_below};
+ghost use Rattle.mt_shelf.specs.Paths.{is_path, joined_path};
+ghost use Rattle.mt_shelf.specs.State.{files_of};
+ghost use Rattle.mt_table.specs.Rows.{RowFits};
+ghost use Rattle.mt_check.specs.FolderChecks.{folder_checks};
+ghost use Rattle.mt_check.specs.Listings.{listed_checks};
+ghost use Rattle.mt_check.specs.Results.{Answers};
+ghost use Rattle.mt_check.specs.ShelfResults.{AnswersFrom, ReadFails};
+
+use crate::accepted::Accepted;
+use crate::folder::{PartFiles, check_files};
+use crate::reading::read_part;
+use crate::strays::check_names;
+use mt_shelf::{CallError, Entry, ReadError, Shelf};
+use mt_table::Table;
+use std::alloc::Global;
+
+/// The rows and granules for which a part on a shelf stands, or its first fault (docs/FORMAT.md, "The first
+/// fault"). Each file that the table expects is read once; all others are known by their names.
+pub fn check<F: Shelf>(
+    alloc: Global,
+    table: &Table,
+    part: &str,
+    listing: &[Entry],
+    shelf: &mut F,
+) -> Result<Accepted, ReadError>
+    requires path { IsTrue (is_path part.now) }
+    requires form { IsListing listing.now }
+    requires few { sum_by (λ entry. entry.size) listing.now ≤ 536870912 }
+    requires known { IfSome (files_of (F.state shelf.old)) (λ files. listing.now ≡ entries_below part.now files) }
+    ensures answers { IfSome (files_of (F.state shelf.old)) (λ files. AnswersFrom result
+        (folder_checks table.now (λ name. get files (joined_path part.now name)) (map (λ entry. entry.name) listing.now))) }
+    ensures rows { IfOk result (λ accepted. ArePartRows (base_of table.now) accepted.rows) }
+    ensures one { IfOk result (λ accepted. HaveOnePartition table.now accepted.rows) }
+    ensures cut { IfOk result (λ accepted. AreGranules accepted.granules accepted.rows) }
+    ensures fit { IfOk result (λ accepted. All (RowFits table.now.columns) accepted.rows) }
+    ensures files { files_of (F.state shelf.new) ≡ files_of (F.state shelf.old) }
+    ensures cause { ReadFails (F.faults shelf.old) (F.faults shelf.new) result }
+{
+    match read_part(alloc, table, part, listing, shelf) {
+        Ok(files) => check_listed(alloc, table, &files, listing),
+        Err(CallError::Failed) => Err(ReadError::Shelf),
+        Err(CallError::NoMemory) => Err(ReadError::NoMemory),
+    }
+}
+
+/// The rows and granules for which files stand, in a part that is listed so, or the first fault. It never
+/// returns `Shelf`.
+fn check_listed(
+    alloc: Global,
+    table: &Table,
+    files: &PartFiles,
+    listing: &[Entry],
+) -> Result<Accepted, ReadError>
+    requires form { IsListing listing.now }
+    requires each { length files.now.projections ≡ length table.now.projections }
+    ensures answers { Answers result (listed_checks table.now files.now listing.now) }
+    ensures rows { IfOk result (λ accepted. ArePartRows (base_of table.now) accepted.rows) }
+    ensures one { IfOk result (λ accepted. HaveOnePartition table.now accepted.rows) }
+    ensures cut { IfOk result (λ accepted. AreGranules accepted.granules accepted.rows) }
+{
+    let accepted = check_files(alloc, table, files)?;
+    check_names(alloc, table, listing)?;
+    Ok(accepted)
+}
