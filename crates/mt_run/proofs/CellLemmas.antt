@@ -58,7 +58,7 @@ chosen_least g keep xs d a (suc n) within =
     ]
 
 -- a row of so many columns
-row_length : (columns : List Column) (row : Row) → RowFits columns row → length row ≡ length columns
+pub row_length : (columns : List Column) (row : Row) → RowFits columns row → length row ≡ length columns
 row_length [] [] fits = refl
 row_length [] (value ∷ row) fits = absurd fits
 row_length (column ∷ columns) [] fits = absurd fits

@@ -1,14 +1,18 @@
 -- What stays true as the answer of a command is reported.
-use Rattle.std.proofs.Common.{◌≡◌, ◌⊎◌, inl, inr, ℕ, List, [], length, Option, Some, None, IfSome, IsSome, refl, ap, sym, ◌∙◌, subst}
+use Rattle.std.proofs.Common.{◌≡◌, ◌⊎◌, inl, inr, ℕ, List, [], length, Option, Some, None, IfSome, IsSome, Result, refl, ap, sym, ◌∙◌, subst}
 use Rattle.std.proofs.lemmas.List.{append-nil}
 use Rattle.std.proofs.Math.Seq.{take-length}
 use Rattle.std.specs.Io.KnownBytes.{append_known}
 use Rattle.mt_shelf.specs.Streams.{GrowsByPrefix}
 use Rattle.mt_shelf.specs.Causes.{Rose}
 use Rattle.mt_run.specs.Notes.{Noted, IsReported, line_of}
+use Rattle.mt_shelf.specs.declared.fault.Fault.{Fault}
+use Rattle.mt_check.specs.declared.accepted.Accepted.{Accepted}
+use Rattle.mt_run.specs.Status.{is_outside}
+use Rattle.mt_run.specs.Commands.{Command, Paths, IsChecked, Runs}
 use Rattle.mt_run.specs.Plans.{Plan, World, Leaves, CausedBy, Performs, PrintsPrefix, Answers, refusal_of}
 use Rattle.mt_run.specs.declared.status.Status.{Status}
-use Rattle.mt_run.specs.declared.status.Status.TheVariants.{Done, BadWords, NoTable, BadTable, Exists, NoRows, BadRows, ManyPartitions, TooMuch, SourceFault, ShelfFault, SinkFault, NoMemory}
+use Rattle.mt_run.specs.declared.status.Status.TheVariants.{Done, AtFault, BadWords, NoTable, NoPart, BadTable, Exists, NoRows, BadRows, ManyPartitions, TooMuch, SourceFault, ShelfFault, SinkFault, NoMemory}
 
 -- nothing is a prefix of every text
 pub grew_by_nothing : (known now : Option (List ℕ)) (text : List ℕ) → now ≡ known → GrowsByPrefix text known now
@@ -18,7 +22,7 @@ grew_by_nothing known now text same = (0, same ∙ sym (nothing known))
     nothing None = refl
     nothing (Some xs) = ap Some (append-nil xs)
 
-printed_nothing : (plan : Plan) (old new : World) → new.written ≡ old.written → PrintsPrefix plan old new
+pub printed_nothing : (plan : Plan) (old new : World) → new.written ≡ old.written → PrintsPrefix plan old new
 printed_nothing plan old new same = both old.files old.left
   where
     both : (files : _) (left : _) → IfSome files (λ f. IfSome left (λ input. GrowsByPrefix (plan.text f input) old.written new.written))
@@ -38,7 +42,9 @@ left_of_memory plan old new SinkFault refused cause left = (inr left.0, left.1)
 left_of_memory plan old new NoMemory refused cause left = left
 left_of_memory plan old new SourceFault refused cause left = (inr left.0, printed_nothing plan old new left.1)
 left_of_memory plan old new BadWords refused cause left = (inr left.0, printed_nothing plan old new left.1)
+left_of_memory plan old new (AtFault part fault) refused cause left = (inr left.0, printed_nothing plan old new left.1)
 left_of_memory plan old new NoTable refused cause left = (inr left.0, printed_nothing plan old new left.1)
+left_of_memory plan old new (NoPart part) refused cause left = (inr left.0, printed_nothing plan old new left.1)
 left_of_memory plan old new (BadTable why) refused cause left = (inr left.0, printed_nothing plan old new left.1)
 left_of_memory plan old new Exists refused cause left = (inr left.0, printed_nothing plan old new left.1)
 left_of_memory plan old new NoRows refused cause left = (inr left.0, printed_nothing plan old new left.1)
@@ -81,6 +87,18 @@ performs_reported plan old new status reported (inl same) performs = let P : Sta
 performs_reported plan old new status reported (inr memory) performs =
     let P : Status → Type 0 = λ s. Performs plan old new s in subst P (sym memory.0) (performed_memory plan old new status memory.1 performs)
 
+checked_reported : (checks : Option Paths) (old new : World) (status reported : Status) (answer : Result Accepted Fault) → IsReported status reported → IsChecked checks old new status answer → IsChecked checks old new reported answer
+checked_reported None old new status reported answer is checked = tt
+checked_reported (Some paths) old new status reported answer is (inl known) = inl known
+checked_reported (Some paths) old new status reported answer (inl same) (inr early) = inr (ap is_outside same ∙ early.0, early.1)
+checked_reported (Some paths) old new status reported answer (inr memory) (inr early) = inr (ap is_outside memory.0, early.1)
+
+-- and so does what a run does
+pub runs_reported : (command : Option Command) (old new : World) (status reported : Status) → IsReported status reported → Runs command old new status → Runs command old new reported
+runs_reported None old new status reported is runs = performs_reported None old new status reported is runs
+runs_reported (Some command) old new status reported is runs =
+    (runs.0, checked_reported command.checks old new status reported runs.0 is runs.1, performs_reported (Some (command.plan runs.0)) old new status reported is runs.2)
+
 -- ---- the notes
 
 pub whole_prefix : (line : List ℕ) (old new : Option (List ℕ)) → new ≡ append_known old line → GrowsByPrefix line old new
@@ -91,7 +109,9 @@ pub noted_whole : (status : Status) (old new : Option (List ℕ)) (before now : 
 noted_whole Done old new before now refused is = absurd (refused refl)
 noted_whole NoMemory old new before now refused is = (NoMemory, whole_prefix _ old new is)
 noted_whole BadWords old new before now refused is = (whole_prefix _ old new is, inr is)
+noted_whole (AtFault part fault) old new before now refused is = (whole_prefix _ old new is, inr is)
 noted_whole NoTable old new before now refused is = (whole_prefix _ old new is, inr is)
+noted_whole (NoPart part) old new before now refused is = (whole_prefix _ old new is, inr is)
 noted_whole (BadTable why) old new before now refused is = (whole_prefix _ old new is, inr is)
 noted_whole Exists old new before now refused is = (whole_prefix _ old new is, inr is)
 noted_whole NoRows old new before now refused is = (whole_prefix _ old new is, inr is)
@@ -107,7 +127,9 @@ pub noted_prefix : (status : Status) (old new : Option (List ℕ)) (before now :
 noted_prefix Done old new before now refused rose prefix = absurd (refused refl)
 noted_prefix NoMemory old new before now refused rose prefix = (NoMemory, prefix)
 noted_prefix BadWords old new before now refused rose prefix = (prefix, inl rose)
+noted_prefix (AtFault part fault) old new before now refused rose prefix = (prefix, inl rose)
 noted_prefix NoTable old new before now refused rose prefix = (prefix, inl rose)
+noted_prefix (NoPart part) old new before now refused rose prefix = (prefix, inl rose)
 noted_prefix (BadTable why) old new before now refused rose prefix = (prefix, inl rose)
 noted_prefix Exists old new before now refused rose prefix = (prefix, inl rose)
 noted_prefix NoRows old new before now refused rose prefix = (prefix, inl rose)

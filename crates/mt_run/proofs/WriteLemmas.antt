@@ -13,7 +13,7 @@ use Rattle.mt_run.specs.Plans.{Meets, Leaves, Answers, refusal_of, world, or_els
 use Rattle.mt_run.specs.Steps.{Counts, StepCausedBy, Stored}
 use Rattle.mt_run.specs.Write.{refusal, table_in, table_for, free_target, folder_for, with_folder, write_plan}
 use Rattle.mt_run.specs.declared.status.Status.{Status}
-use Rattle.mt_run.specs.declared.status.Status.TheVariants.{Done, BadWords, NoTable, BadTable, Exists, NoRows, BadRows, ManyPartitions, TooMuch, SourceFault, ShelfFault, SinkFault, NoMemory}
+use Rattle.mt_run.specs.declared.status.Status.TheVariants.{Done, AtFault, BadWords, NoTable, NoPart, BadTable, Exists, NoRows, BadRows, ManyPartitions, TooMuch, SourceFault, ShelfFault, SinkFault, NoMemory}
 use Rattle.mt_run.proofs.Reported.{grew_by_nothing}
 
 -- ---- where the outside shows enough
@@ -108,7 +108,9 @@ folder_stored path part table folder (Err NoMemory) left left' written files mid
 }
 folder_stored path part table folder (Err Done) left left' written files mid new a b c a' b' c' known same gives ended stored = absurd stored
 folder_stored path part table folder (Err BadWords) left left' written files mid new a b c a' b' c' known same gives ended stored = absurd stored
+folder_stored path part table folder (Err (AtFault word fault)) left left' written files mid new a b c a' b' c' known same gives ended stored = absurd stored
 folder_stored path part table folder (Err NoTable) left left' written files mid new a b c a' b' c' known same gives ended stored = absurd stored
+folder_stored path part table folder (Err (NoPart word)) left left' written files mid new a b c a' b' c' known same gives ended stored = absurd stored
 folder_stored path part table folder (Err (BadTable why)) left left' written files mid new a b c a' b' c' known same gives ended stored = absurd stored
 folder_stored path part table folder (Err Exists) left left' written files mid new a b c a' b' c' known same gives ended stored = absurd stored
 folder_stored path part table folder (Err NoRows) left left' written files mid new a b c a' b' c' known same gives ended stored = absurd stored
@@ -146,7 +148,9 @@ left_before path part files mid left left' written a b c a' b' c' BadWords befor
 left_before path part files mid left left' written a b c a' b' c' ShelfFault before now same cause = ((inr same, refl), λ e. cc)
 left_before path part files mid left left' written a b c a' b' c' SinkFault before now same cause = ((same, printed_prefix path part files left written), λ e. cc)
 left_before path part files mid left left' written a b c a' b' c' NoMemory before now same cause = ((inr same, printed_prefix path part files left written), λ e. cc)
+left_before path part files mid left left' written a b c a' b' c' (AtFault word fault) before now same cause = ((same, refl), λ e. cc)
 left_before path part files mid left left' written a b c a' b' c' NoTable before now same cause = ((same, refl), λ e. cc)
+left_before path part files mid left left' written a b c a' b' c' (NoPart word) before now same cause = ((same, refl), λ e. cc)
 left_before path part files mid left left' written a b c a' b' c' (BadTable why) before now same cause = ((same, refl), λ e. cc)
 left_before path part files mid left left' written a b c a' b' c' Exists before now same cause = ((same, refl), λ e. cc)
 left_before path part files mid left left' written a b c a' b' c' NoRows before now same cause = ((same, refl), λ e. cc)

@@ -4,4 +4,7 @@ pub mod Plans
 pub mod Steps
 pub mod Partitions
 pub mod Write
+pub mod Parts
+pub mod Reading
+pub mod Commands
 pub mod Words

@@ -1,5 +1,5 @@
 -- What a run returns, the exit codes, and the errors of the layers below as statuses.
-use Rattle.std.specs.Prelude.{◌≡◌, ℕ, Bool, true, false, Result, Ok, Err}
+use Rattle.std.specs.Prelude.{◌≡◌, ◌⊎◌, ℕ, Bool, true, false, Result, Ok, Err}
 use Rattle.mt_shelf.specs.declared.causes.CallError.{CallError}
 use Rattle.mt_shelf.specs.declared.causes.CallError.TheVariants as call
 use Rattle.mt_tsv.specs.declared.fault.RowError.{RowError}
@@ -7,11 +7,12 @@ use Rattle.mt_tsv.specs.declared.fault.RowError.TheVariants as row
 use Rattle.mt_table.specs.declared.limits.TheConstants.{MAX_ROWS, MAX_CELLS}
 use Rattle.mt_run.specs.declared.status.What.TheVariants as what
 use Rattle.mt_run.specs.declared.status.Status.{Status}
-use Rattle.mt_run.specs.declared.status.Status.TheVariants.{Done, BadRows, TooMuch, SourceFault, ShelfFault, SinkFault, NoMemory}
+use Rattle.mt_run.specs.declared.status.Status.TheVariants.{Done, AtFault, BadRows, TooMuch, SourceFault, ShelfFault, SinkFault, NoMemory}
 
 -- the code that the program ends with
 abbrev pub code_of : Status → ℕ
 code_of Done = 0
+code_of (AtFault part fault) = 1
 code_of SourceFault = 3
 code_of ShelfFault = 3
 code_of SinkFault = 3
@@ -42,6 +43,15 @@ abbrev pub Gives : {A : Type 0} → Result A Status → Result A Status → Type
 Gives (Ok x) wanted = wanted ≡ Ok x
 Gives (Err status) wanted = is_outside status ≡ false → wanted ≡ Err status
 
+-- a call returns what a step makes of an answer of which this holds, unless it ends from outside
+abbrev pub GivesBy : {X A : Type 0} → Result A Status → (X → Type 0) → (X → Result A Status) → Type 0
+GivesBy {X} (Ok x) IsAnswer step = (answer : X) × IsAnswer answer × (step answer ≡ Ok x)
+GivesBy {X} (Err status) IsAnswer step = is_outside status ≡ false → (answer : X) × IsAnswer answer × (step answer ≡ Err status)
+
+-- this refusal, or out of memory for the name in it
+abbrev pub IsNamed : Status → Status → Type 0
+IsNamed wanted status = (status ≡ wanted) ⊎ (status ≡ NoMemory)
+
 -- a shelf's error
 abbrev pub status_of_shelf : CallError → Status
 status_of_shelf call.Failed = ShelfFault
@@ -51,6 +61,11 @@ status_of_shelf call.NoMemory = NoMemory
 abbrev pub status_of_source : CallError → Status
 status_of_source call.Failed = SourceFault
 status_of_source call.NoMemory = NoMemory
+
+-- an output's error
+abbrev pub status_of_sink : CallError → Status
+status_of_sink call.Failed = SinkFault
+status_of_sink call.NoMemory = NoMemory
 
 -- why lines are no rows
 abbrev pub status_of_rows : RowError → Status

@@ -1,6 +1,8 @@
 -- The steps of a command: each uses one object, or none.
-use Rattle.std.specs.Prelude.{◌≡◌, ◌⊎◌, ℕ, Option, Result, Ok, Err}
+use Rattle.std.specs.Prelude.{◌≡◌, ◌⊎◌, ℕ, List, Option, Result, Ok, Err}
+use Rattle.std.specs.Io.KnownBytes.{append_known}
 use Rattle.mt_shelf.specs.Causes.{Rose}
+use Rattle.mt_shelf.specs.Streams.{GrowsByPrefix}
 use Rattle.mt_shelf.specs.Files.{Files}
 use Rattle.mt_run.specs.declared.status.Status.{Status}
 use Rattle.mt_run.specs.declared.status.Status.TheVariants.{Done, BadWords, SourceFault, ShelfFault, SinkFault, NoMemory}
@@ -37,6 +39,13 @@ StepCausedBy (Err SinkFault) before now = Rose before.output now.output × (now.
 StepCausedBy (Err ShelfFault) before now = Rose before.shelf now.shelf × (now.source ≡ before.source) × (now.output ≡ before.output)
 StepCausedBy (Err NoMemory) before now = Unit {0}
 StepCausedBy (Err status) before now = now ≡ before
+
+-- after a step that prints: the text, or a prefix of it where the step failed
+abbrev pub Printed : List ℕ → Option (List ℕ) → Option (List ℕ) → Result Unit Status → Type 0
+Printed text old new (Ok done) = new ≡ append_known old text
+Printed text old new (Err SinkFault) = GrowsByPrefix text old new
+Printed text old new (Err NoMemory) = GrowsByPrefix text old new
+Printed text old new (Err status) = ⊥
 
 -- after a step that publishes: these files, or those from before where it failed
 abbrev pub Stored : Option Files → Option Files → Option Files → Result Unit Status → Type 0

@@ -2,7 +2,8 @@
 use Rattle.std.specs.Prelude.{ℕ, ◌+◌, ◌-◌, ◌*◌, nat_le, Bool, ◌&&◌, List, [], ◌∷◌, Option, None, Some, is_some, if◌then◌else◌, codes}
 use Rattle.std.specs.Str.{bytes_eq}
 use Rattle.mt_shelf.specs.Paths.{is_path}
-use Rattle.mt_run.specs.Plans.{Plan}
+use Rattle.mt_run.specs.Commands.{Command, unchecked, reading}
+use Rattle.mt_run.specs.Reading.{check_text, lines_text}
 use Rattle.mt_run.specs.Write.{write_plan}
 use Rattle.mt_run.specs.declared.limits.TheConstants.{MAX_WORKERS}
 
@@ -24,11 +25,22 @@ workers_in (a ∷ []) = workers_if (is_first_digit a) (a - 48)
 workers_in (a ∷ b ∷ []) = workers_if (is_first_digit a && is_digit b) (10 * (a - 48) + (b - 48))
 workers_in word = None
 
--- write TABLE PART WORKERS
-abbrev pub is_write : List ℕ → List ℕ → List ℕ → List ℕ → Bool
-is_write name path part workers = bytes_eq name (codes "write") && is_path path && is_path part && is_some (workers_in workers)
+-- both are paths
+abbrev pub are_paths : List ℕ → List ℕ → Bool
+are_paths path part = is_path path && is_path part
 
--- the plan of the command that the words are, if they are one
-abbrev pub plan_of : List (List ℕ) → Option Plan
-plan_of (name ∷ path ∷ part ∷ workers ∷ []) = if is_write name path part workers then Some (write_plan path part) else None
-plan_of words = None
+-- write TABLE PART WORKERS and check TABLE PART WORKERS, where the words after the first are good
+abbrev pub command_with_workers : List ℕ → List ℕ → List ℕ → Option Command
+command_with_workers name path part =
+    if bytes_eq name (codes "write") then Some (unchecked (write_plan path part))
+    else if bytes_eq name (codes "check") then Some (reading check_text path part) else None
+
+-- rows TABLE PART, where the words after the first are good
+abbrev pub command_without_workers : List ℕ → List ℕ → List ℕ → Option Command
+command_without_workers name path part = if bytes_eq name (codes "rows") then Some (reading lines_text path part) else None
+
+-- the command that the words are, if they are one
+abbrev pub command_of : List (List ℕ) → Option Command
+command_of (name ∷ path ∷ part ∷ []) = if are_paths path part then command_without_workers name path part else None
+command_of (name ∷ path ∷ part ∷ workers ∷ []) = if are_paths path part && is_some (workers_in workers) then command_with_workers name path part else None
+command_of words = None

@@ -1,10 +1,12 @@
 //! What a run returns, and the exit code of each status.
 ghost use Rattle.std.specs.Prelude.{◌≡◌};
-ghost use Rattle.mt_run.specs.Status.{code_of, status_of_shelf, status_of_source, status_of_rows};
+ghost use Rattle.mt_run.specs.Status.{code_of, status_of_rows, status_of_shelf};
+ghost use Rattle.mt_run.specs.Status.{status_of_sink, status_of_source};
 
-use mt_shelf::CallError;
+use mt_shelf::{CallError, Fault};
 use mt_table::TableWhy;
 use mt_tsv::{MAX_CELLS, MAX_ROWS, RowError, RowWhy};
+use mt_types::List;
 
 /// A quantity that has a limit.
 #[derive(Clone, Copy, Debug, PartialEq, Eq)]
@@ -22,14 +24,26 @@ pub enum What {
 }
 
 /// What a run returns.
-#[derive(Debug, PartialEq, Eq, Drop)]
+#[derive(Debug, Drop)]
 pub enum Status {
     /// All that the command says was done.
     Done,
+    /// A part stands for no rows: its first fault.
+    AtFault {
+        /// The word that names the part.
+        part: List<u8>,
+        /// What is wrong, and where.
+        fault: Fault,
+    },
     /// The words are no command.
     BadWords,
     /// The shelf has no file of the table's path.
     NoTable,
+    /// No file stands below a part.
+    NoPart {
+        /// The word that names the part.
+        part: List<u8>,
+    },
     /// The text is no table's, by the first rule that it breaks.
     BadTable(TableWhy),
     /// A file stands at the target or below it.
@@ -72,6 +86,7 @@ impl Status {
     {
         match self {
             Status::Done => 0,
+            Status::AtFault { .. } => 1,
             Status::SourceFault | Status::ShelfFault | Status::SinkFault => 3,
             Status::NoMemory => 4,
             _ => 2,
@@ -95,6 +110,16 @@ pub(crate) fn status_of_source(error: CallError) -> Status
 {
     match error {
         CallError::Failed => Status::SourceFault,
+        CallError::NoMemory => Status::NoMemory,
+    }
+}
+
+/// The status of an output's error.
+pub(crate) fn status_of_sink(error: CallError) -> Status
+    ensures { result ≡ status_of_sink error }
+{
+    match error {
+        CallError::Failed => Status::SinkFault,
         CallError::NoMemory => Status::NoMemory,
     }
 }
