@@ -13,3 +13,4 @@ pub mod RowGroups
 pub mod FolderChecks
 pub mod OwnNames
 pub mod Results
+pub mod ShelfResults

@@ -14,6 +14,7 @@ mod folder;
 mod law;
 mod names;
 mod own_names;
+mod part_on_shelf;
 mod partition;
 mod primary_index;
 mod projection;
@@ -25,4 +26,5 @@ mod texts;
 
 pub use accepted::Accepted;
 pub use folder::{PartFiles, check_files};
+pub use part_on_shelf::check;
 pub use law::{folders_have_one_answer, partitions_are_checked};

@@ -2,10 +2,10 @@
 use Rattle.std.proofs.Common.{◌≡◌, ◌⊎◌, inl, inr, false, ℕ, List, Option, Some, None, IfSome, refl, ap, ◌∙◌, subst}
 use Rattle.mt_shelf.specs.Causes.{Rose}
 use Rattle.mt_shelf.specs.Files.{Files}
-use Rattle.mt_run.specs.Status.{is_outside}
-use Rattle.mt_run.specs.Plans.{Plan, World, Performs, CausedBy, Answers, refusal_of, status_of}
-use Rattle.mt_run.specs.declared.status.Status.{Status}
-use Rattle.mt_run.specs.declared.status.Status.TheVariants.{Done, AtFault, BadWords, NoTable, NoPart, BadTable, Exists, NoRows, BadRows, ManyPartitions, TooMuch, SourceFault, ShelfFault, SinkFault, NoMemory}
+use Rattle.mt_command.specs.Status.{is_outside}
+use Rattle.mt_command.specs.Plans.{Plan, World, Performs, CausedBy, Answers, refusal_of, status_of}
+use Rattle.mt_command.specs.declared.status.Status.{Status}
+use Rattle.mt_command.specs.declared.status.Status.TheVariants.{Done, AtFault, BadWords, NoTable, NoPart, BadTable, Exists, NoRows, BadRows, ManyPartitions, TooMuch, SourceFault, ShelfFault, SinkFault, NoMemory}
 
 -- what holds of a known value
 at_some : {A : Type 0} (P : A → Type 0) (o : Option A) (a : A) → o ≡ Some a → IfSome o P → P a

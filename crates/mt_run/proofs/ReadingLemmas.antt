@@ -9,17 +9,17 @@ use Rattle.mt_shelf.specs.Causes.{Rose}
 use Rattle.mt_shelf.specs.Files.{Files}
 use Rattle.mt_shelf.specs.Streams.{GrowsByPrefix}
 use Rattle.mt_check.specs.declared.accepted.Accepted.{Accepted}
-use Rattle.mt_run.specs.Status.{GivesBy, is_outside}
-use Rattle.mt_run.specs.Plans.{Plan, World, Meets, Leaves, CausedBy, Answers, world, or_else, refusal_of, status_of, answer_of}
-use Rattle.mt_run.specs.Steps.{Counts, StepCausedBy, Printed, of_shelf, of_output}
+use Rattle.mt_command.specs.Status.{GivesBy, is_outside}
+use Rattle.mt_command.specs.Plans.{Plan, World, Meets, Leaves, CausedBy, Answers, world, or_else, refusal_of, status_of, answer_of}
+use Rattle.mt_command.specs.Steps.{Counts, StepCausedBy, Printed, of_shelf, of_output}
 use Rattle.mt_run.specs.Write.{refusal, write_plan}
 use Rattle.mt_run.specs.Parts.{IsAnswerIn, part_in}
 use Rattle.mt_run.specs.Reading.{PartText, check_text, reading_plan, text_of}
 use Rattle.mt_run.specs.Commands.{Runs, reading, unchecked}
 use Rattle.mt_run.specs.Words.{command_with_workers}
-use Rattle.mt_run.specs.declared.status.Status.{Status}
-use Rattle.mt_run.specs.declared.status.Status.TheVariants.{Done, AtFault, BadWords, NoTable, NoPart, BadTable, Exists, NoRows, BadRows, ManyPartitions, TooMuch, SourceFault, ShelfFault, SinkFault, NoMemory}
-use Rattle.mt_run.proofs.PartLemmas.{no_answer}
+use Rattle.mt_command.specs.declared.status.Status.{Status}
+use Rattle.mt_command.specs.declared.status.Status.TheVariants.{Done, AtFault, BadWords, NoTable, NoPart, BadTable, Exists, NoRows, BadRows, ManyPartitions, TooMuch, SourceFault, ShelfFault, SinkFault, NoMemory}
+use Rattle.mt_command.proofs.PartLemmas.{no_answer}
 use Rattle.mt_run.proofs.Reported.{printed_nothing}
 
 abbrev Read : Type 0

@@ -8,11 +8,11 @@ use Rattle.mt_shelf.specs.Causes.{Rose}
 use Rattle.mt_run.specs.Notes.{Noted, IsReported, line_of}
 use Rattle.mt_shelf.specs.declared.fault.Fault.{Fault}
 use Rattle.mt_check.specs.declared.accepted.Accepted.{Accepted}
-use Rattle.mt_run.specs.Status.{is_outside}
+use Rattle.mt_command.specs.Status.{is_outside}
 use Rattle.mt_run.specs.Commands.{Command, Paths, IsChecked, Runs}
-use Rattle.mt_run.specs.Plans.{Plan, World, Leaves, CausedBy, Performs, PrintsPrefix, Answers, refusal_of}
-use Rattle.mt_run.specs.declared.status.Status.{Status}
-use Rattle.mt_run.specs.declared.status.Status.TheVariants.{Done, AtFault, BadWords, NoTable, NoPart, BadTable, Exists, NoRows, BadRows, ManyPartitions, TooMuch, SourceFault, ShelfFault, SinkFault, NoMemory}
+use Rattle.mt_command.specs.Plans.{Plan, World, Leaves, CausedBy, Performs, PrintsPrefix, Answers, refusal_of}
+use Rattle.mt_command.specs.declared.status.Status.{Status}
+use Rattle.mt_command.specs.declared.status.Status.TheVariants.{Done, AtFault, BadWords, NoTable, NoPart, BadTable, Exists, NoRows, BadRows, ManyPartitions, TooMuch, SourceFault, ShelfFault, SinkFault, NoMemory}
 
 -- nothing is a prefix of every text
 pub grew_by_nothing : (known now : Option (List ℕ)) (text : List ℕ) → now ≡ known → GrowsByPrefix text known now

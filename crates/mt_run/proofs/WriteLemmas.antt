@@ -8,12 +8,12 @@ use Rattle.mt_shelf.specs.declared.file.FileBytes.{FileBytes}
 use Rattle.mt_shelf.specs.Streams.{GrowsByPrefix}
 use Rattle.mt_shelf.specs.Files.{Files, gained_files}
 use Rattle.mt_shelf.specs.Held.{pair_of}
-use Rattle.mt_run.specs.Status.{is_outside, ◌>>=◌}
-use Rattle.mt_run.specs.Plans.{Meets, Leaves, Answers, refusal_of, world, or_else, status_of, answer_of}
-use Rattle.mt_run.specs.Steps.{Counts, StepCausedBy, Stored}
+use Rattle.mt_command.specs.Status.{is_outside, ◌>>=◌}
+use Rattle.mt_command.specs.Plans.{Meets, Leaves, Answers, refusal_of, world, or_else, status_of, answer_of}
+use Rattle.mt_command.specs.Steps.{Counts, StepCausedBy, Stored}
 use Rattle.mt_run.specs.Write.{refusal, table_in, table_for, free_target, folder_for, with_folder, write_plan}
-use Rattle.mt_run.specs.declared.status.Status.{Status}
-use Rattle.mt_run.specs.declared.status.Status.TheVariants.{Done, AtFault, BadWords, NoTable, NoPart, BadTable, Exists, NoRows, BadRows, ManyPartitions, TooMuch, SourceFault, ShelfFault, SinkFault, NoMemory}
+use Rattle.mt_command.specs.declared.status.Status.{Status}
+use Rattle.mt_command.specs.declared.status.Status.TheVariants.{Done, AtFault, BadWords, NoTable, NoPart, BadTable, Exists, NoRows, BadRows, ManyPartitions, TooMuch, SourceFault, ShelfFault, SinkFault, NoMemory}
 use Rattle.mt_run.proofs.Reported.{grew_by_nothing}
 
 -- ---- where the outside shows enough

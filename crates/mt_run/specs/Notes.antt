@@ -8,12 +8,14 @@ use Rattle.mt_shelf.specs.declared.fault.Why.{Why}
 use Rattle.mt_shelf.specs.declared.fault.Why.TheVariants as why
 use Rattle.mt_table.specs.declared.why.TableWhy.{TableWhy}
 use Rattle.mt_table.specs.declared.why.TableWhy.TheVariants as table
+use Rattle.mt_query.specs.declared.why.QueryWhy.{QueryWhy}
+use Rattle.mt_query.specs.declared.why.QueryWhy.TheVariants as query
 use Rattle.mt_tsv.specs.declared.fault.RowWhy.{RowWhy}
 use Rattle.mt_tsv.specs.declared.fault.RowWhy.TheVariants as row
-use Rattle.mt_run.specs.declared.status.What.{What}
-use Rattle.mt_run.specs.declared.status.What.TheVariants as what
-use Rattle.mt_run.specs.declared.status.Status.{Status}
-use Rattle.mt_run.specs.declared.status.Status.TheVariants.{Done, AtFault, BadWords, NoTable, NoPart, BadTable, Exists, NoRows, BadRows, ManyPartitions, TooMuch, SourceFault, ShelfFault, SinkFault, NoMemory}
+use Rattle.mt_command.specs.declared.status.What.{What}
+use Rattle.mt_command.specs.declared.status.What.TheVariants as what
+use Rattle.mt_command.specs.declared.status.Status.{Status}
+use Rattle.mt_command.specs.declared.status.Status.TheVariants.{Done, AtFault, BadWords, NoTable, NoPart, BadTable, BadQuery, Exists, NoRows, BadRows, ManyPartitions, MixedPartitions, TooMuch, SourceFault, ShelfFault, SinkFault, NoMemory}
 
 -- the rule of a table text, by its variant's name
 abbrev pub table_why_name : TableWhy → List ℕ
@@ -28,6 +30,15 @@ table_why_name table.BadProjection = codes "BadProjection"
 table_why_name table.Codec = codes "Codec"
 table_why_name table.Setting = codes "Setting"
 table_why_name table.TooMany = codes "TooMany"
+
+-- the rule of a query, by its variant's name
+abbrev pub query_why_name : QueryWhy → List ℕ
+query_why_name query.TooMany = codes "TooMany"
+query_why_name query.Syntax = codes "Syntax"
+query_why_name query.NoSuchColumn = codes "NoSuchColumn"
+query_why_name query.NotGrouped = codes "NotGrouped"
+query_why_name query.BadLiteral = codes "BadLiteral"
+query_why_name query.BadAggregate = codes "BadAggregate"
 
 -- what is wrong with a line, by its variant's name
 abbrev pub row_why_name : RowWhy → List ℕ
@@ -95,10 +106,12 @@ line_of BadWords = codes "mtpart: words are no command\n"
 line_of NoTable = codes "mtpart: no table\n"
 line_of (NoPart part) = codes "mtpart: " ++ part ++ codes ": no part\n"
 line_of (BadTable why) = codes "mtpart: bad table: " ++ table_why_name why ++ codes "\n"
+line_of (BadQuery why) = codes "mtpart: bad query: " ++ query_why_name why ++ codes "\n"
 line_of Exists = codes "mtpart: target exists\n"
 line_of NoRows = codes "mtpart: no rows\n"
 line_of (BadRows line why) = codes "mtpart: line " ++ decimal line ++ codes ": " ++ row_why_name why ++ codes "\n"
 line_of (ManyPartitions line) = codes "mtpart: line " ++ decimal line ++ codes ": another partition\n"
+line_of (MixedPartitions input) = codes "mtpart: input " ++ decimal input ++ codes ": another partition\n"
 line_of (TooMuch what limit) = codes "mtpart: too much: " ++ what_name what ++ codes " above " ++ decimal limit ++ codes "\n"
 line_of SourceFault = codes "mtpart: input failed\n"
 line_of ShelfFault = codes "mtpart: shelf failed\n"

@@ -2,10 +2,8 @@
 use Rattle.std.specs.Prelude.{ℕ, ◌+◌, ◌-◌, ◌*◌, nat_le, Bool, ◌&&◌, List, [], ◌∷◌, Option, None, Some, is_some, if◌then◌else◌, codes}
 use Rattle.std.specs.Str.{bytes_eq}
 use Rattle.mt_shelf.specs.Paths.{is_path}
-use Rattle.mt_run.specs.Commands.{Command, unchecked, reading}
-use Rattle.mt_run.specs.Reading.{check_text, lines_text}
-use Rattle.mt_run.specs.Write.{write_plan}
-use Rattle.mt_run.specs.declared.limits.TheConstants.{MAX_WORKERS}
+use Rattle.mt_command.specs.declared.limits.TheConstants.{MAX_WORKERS}
+use Rattle.mt_run.specs.Commands.{Command, Write, Check, Rows}
 
 -- a digit from 1 to 9, in ASCII
 abbrev pub is_first_digit : ℕ → Bool
@@ -27,20 +25,20 @@ workers_in word = None
 
 -- both are paths
 abbrev pub are_paths : List ℕ → List ℕ → Bool
-are_paths path part = is_path path && is_path part
+are_paths table part = is_path table && is_path part
 
--- write TABLE PART WORKERS and check TABLE PART WORKERS, where the words after the first are good
+-- write and check, where the words after the first are good
 abbrev pub command_with_workers : List ℕ → List ℕ → List ℕ → Option Command
-command_with_workers name path part =
-    if bytes_eq name (codes "write") then Some (unchecked (write_plan path part))
-    else if bytes_eq name (codes "check") then Some (reading check_text path part) else None
+command_with_workers name table part =
+    if bytes_eq name (codes "write") then Some (Write table part)
+    else if bytes_eq name (codes "check") then Some (Check table part) else None
 
--- rows TABLE PART, where the words after the first are good
+-- rows, where the words after the first are good
 abbrev pub command_without_workers : List ℕ → List ℕ → List ℕ → Option Command
-command_without_workers name path part = if bytes_eq name (codes "rows") then Some (reading lines_text path part) else None
+command_without_workers name table part = if bytes_eq name (codes "rows") then Some (Rows table part) else None
 
 -- the command that the words are, if they are one
 abbrev pub command_of : List (List ℕ) → Option Command
-command_of (name ∷ path ∷ part ∷ []) = if are_paths path part then command_without_workers name path part else None
-command_of (name ∷ path ∷ part ∷ workers ∷ []) = if are_paths path part && is_some (workers_in workers) then command_with_workers name path part else None
+command_of (name ∷ table ∷ part ∷ []) = if are_paths table part then command_without_workers name table part else None
+command_of (name ∷ table ∷ part ∷ workers ∷ []) = if are_paths table part && is_some (workers_in workers) then command_with_workers name table part else None
 command_of words = None

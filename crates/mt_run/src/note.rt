@@ -1,11 +1,12 @@
 //! The line that the notes get of a status (docs/CLI.md, "Notes").
 ghost use Rattle.std.specs.Prelude.{◌≡◌, ◌++◌, IfOk, OnOk, codes, decimal};
-ghost use Rattle.mt_run.specs.Notes.{fault_text, granule_text, line_of, offset_text, row_why_name};
+ghost use Rattle.mt_run.specs.Notes.{fault_text, granule_text, line_of, offset_text, query_why_name, row_why_name};
 ghost use Rattle.mt_run.specs.Notes.{table_why_name, what_name, why_name};
 
-use crate::status::{Status, What};
+use mt_command::{Status, What};
 use itoa::Buffer;
 use mt_shelf::{Fault, Why};
+use mt_query::QueryWhy;
 use mt_table::TableWhy;
 use mt_tsv::RowWhy;
 use mt_types::{List, NoMemory};
@@ -26,6 +27,19 @@ fn table_why_name(why: TableWhy) -> &'static str
         TableWhy::Codec => "Codec",
         TableWhy::Setting => "Setting",
         TableWhy::TooMany => "TooMany",
+    }
+}
+
+fn query_why_name(why: QueryWhy) -> &'static str
+    ensures { result.now ≡ query_why_name why }
+{
+    match why {
+        QueryWhy::TooMany => "TooMany",
+        QueryWhy::Syntax => "Syntax",
+        QueryWhy::NoSuchColumn => "NoSuchColumn",
+        QueryWhy::NotGrouped => "NotGrouped",
+        QueryWhy::BadLiteral => "BadLiteral",
+        QueryWhy::BadAggregate => "BadAggregate",
     }
 }
 
@@ -158,6 +172,15 @@ fn bad_table_line(alloc: Global, why: TableWhy) -> Result<List<u8>, NoMemory>
     Ok(line)
 }
 
+fn bad_query_line(alloc: Global, why: QueryWhy) -> Result<List<u8>, NoMemory>
+    ensures { IfOk result (λ line. line ≡ codes "mtpart: bad query: " ++ query_why_name why ++ codes "\n") }
+{
+    let mut line = List::of_bytes(alloc, b"mtpart: bad query: ")?;
+    line.append(query_why_name(why).as_bytes())?;
+    line.append(b"\n")?;
+    Ok(line)
+}
+
 fn bad_rows_line(alloc: Global, number: u64, why: RowWhy) -> Result<List<u8>, NoMemory>
     ensures { IfOk result (λ line. line
         ≡ codes "mtpart: line " ++ decimal number ++ codes ": " ++ row_why_name why ++ codes "\n") }
@@ -175,6 +198,16 @@ fn other_partition_line(alloc: Global, number: u64) -> Result<List<u8>, NoMemory
         ≡ codes "mtpart: line " ++ decimal number ++ codes ": another partition\n") }
 {
     let mut line = List::of_bytes(alloc, b"mtpart: line ")?;
+    append_decimal(&mut line, number)?;
+    line.append(b": another partition\n")?;
+    Ok(line)
+}
+
+fn mixed_partitions_line(alloc: Global, number: u64) -> Result<List<u8>, NoMemory>
+    ensures { IfOk result (λ line. line
+        ≡ codes "mtpart: input " ++ decimal number ++ codes ": another partition\n") }
+{
+    let mut line = List::of_bytes(alloc, b"mtpart: input ")?;
     append_decimal(&mut line, number)?;
     line.append(b": another partition\n")?;
     Ok(line)
@@ -203,10 +236,12 @@ pub(crate) fn line_of(alloc: Global, status: &Status) -> Result<List<u8>, NoMemo
         Status::NoTable => List::of_bytes(alloc, b"mtpart: no table\n"),
         Status::NoPart { part } => no_part_line(alloc, part.as_slice()),
         Status::BadTable(why) => bad_table_line(alloc, *why),
+        Status::BadQuery(why) => bad_query_line(alloc, *why),
         Status::Exists => List::of_bytes(alloc, b"mtpart: target exists\n"),
         Status::NoRows => List::of_bytes(alloc, b"mtpart: no rows\n"),
         Status::BadRows { line, why } => bad_rows_line(alloc, *line, *why),
         Status::ManyPartitions { line } => other_partition_line(alloc, *line),
+        Status::MixedPartitions { input } => mixed_partitions_line(alloc, *input),
         Status::TooMuch { what, limit } => too_much_line(alloc, *what, *limit),
         Status::SourceFault => List::of_bytes(alloc, b"mtpart: input failed\n"),
         Status::ShelfFault => List::of_bytes(alloc, b"mtpart: shelf failed\n"),

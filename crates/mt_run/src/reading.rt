@@ -1,27 +1,27 @@
 //! The commands `check` and `rows`: a part is read, and a text of it is printed.
-ghost use Rattle.std.specs.Prelude.{◌≡◌, ◌++◌, All, IfOk, IsTrue, Some, codes, decimal, length};
+
+ghost use Rattle.std.specs.Prelude.{◌≡◌, All, IfOk, IfSome, IsTrue, length};
 ghost use Rattle.mt_shelf.specs.Paths.{is_path};
 ghost use Rattle.mt_shelf.specs.State.{files_of};
 ghost use Rattle.mt_tsv.specs.Printing.{rows_text};
-ghost use Rattle.mt_run.specs.Commands.{Runs, reading};
-ghost use Rattle.mt_run.specs.Plans.{answer_of, world};
-ghost use Rattle.mt_run.specs.Reading as text;
-ghost use Rattle.mt_run.specs.Steps.{Printed, StepCausedBy, of_output};
+ghost use Rattle.mt_command.specs.Commands.{PrintsTextOf};
+ghost use Rattle.mt_command.specs.Outcomes.{Returns};
+ghost use Rattle.mt_command.specs.Plans.{world};
+ghost use Rattle.mt_command.specs.Steps.{StepCausedBy, of_shelf};
+ghost use Rattle.mt_run.specs.Reading.{accepted_line, check_steps, rows_steps};
 
-use crate::part::read_part;
-use crate::status::{Status, status_of_sink};
 use itoa::Buffer;
 use mt_check::Accepted;
-use mt_shelf::{Shelf, Sink, Source, write_all};
+use mt_command::{Status, finished, print, read_part};
+use mt_shelf::{Shelf, Sink, Source};
 use mt_table::Column;
 use mt_tsv::write_row;
 use mt_types::{List, NoMemory, Row};
 use std::alloc::Global;
 
 /// How many rows and granules were accepted, as a line.
-fn check_text(alloc: Global, accepted: &Accepted) -> Result<List<u8>, NoMemory>
-    ensures { IfOk result (λ line. line ≡ codes "accepted " ++ decimal (length accepted.now.rows)
-        ++ codes " rows in " ++ decimal (length accepted.now.granules) ++ codes " granules\n") }
+fn accepted_line(alloc: Global, accepted: &Accepted) -> Result<List<u8>, NoMemory>
+    ensures { IfOk result (λ line. line ≡ accepted_line accepted.now) }
 {
     let mut buffer = Buffer::new();
     let mut line = List::of_bytes(alloc, b"accepted ")?;
@@ -33,7 +33,7 @@ fn check_text(alloc: Global, accepted: &Accepted) -> Result<List<u8>, NoMemory>
 }
 
 /// The lines of rows.
-fn lines_text(alloc: Global, columns: &[Column], rows: &[Row]) -> Result<List<u8>, NoMemory>
+fn rows_text(alloc: Global, columns: &[Column], rows: &[Row]) -> Result<List<u8>, NoMemory>
     requires { All (λ row. length row ≡ length columns.now) rows.now }
     ensures { IfOk result (λ lines. lines ≡ rows_text columns.now rows.now) }
 {
@@ -44,67 +44,48 @@ fn lines_text(alloc: Global, columns: &[Column], rows: &[Row]) -> Result<List<u8
     Ok(lines)
 }
 
-/// Prints a text.
-fn print<K: Sink>(output: &mut K, text: &[u8]) -> Result<(), Status>
-    ensures printed { Printed text.now (K.written output.old) (K.written output.new) result }
-    ensures cause { StepCausedBy result (of_output (K.faults output.old)) (of_output (K.faults output.new)) }
-{
-    match write_all(output, text) {
-        Ok(()) => Ok(()),
-        Err(error) => Err(status_of_sink(error)),
-    }
-}
-
-/// The steps of `check`, up to the first that ends it.
-fn check_steps<S: Source, K: Sink, F: Shelf>(
+/// What `check` prints, or its refusal.
+fn check_text<F: Shelf>(
     alloc: Global,
+    shelf: &mut F,
     path: &str,
     part: &str,
-    _input: &mut S,
-    output: &mut K,
-    shelf: &mut F,
-) -> Result<(), Status>
+) -> Result<List<u8>, Status>
     requires path { IsTrue (is_path path.now) }
     requires part { IsTrue (is_path part.now) }
-    ensures { Runs (Some (reading text.check_text path.now part.now))
-        (world (S.left _input.old) (K.written output.old) (files_of (F.state shelf.old))
-        (S.faults _input.old) (K.faults output.old) (F.faults shelf.old))
-        (world (S.left _input.new) (K.written output.new) (files_of (F.state shelf.new))
-        (S.faults _input.new) (K.faults output.new) (F.faults shelf.new)) (answer_of result) }
+    ensures gives { IfSome (files_of (F.state shelf.old)) (λ files. Returns result (check_steps path.now part.now files)) }
+    ensures files { files_of (F.state shelf.new) ≡ files_of (F.state shelf.old) }
+    ensures cause { StepCausedBy result (of_shelf (F.faults shelf.old)) (of_shelf (F.faults shelf.new)) }
 {
     let read = match read_part(alloc, shelf, path, part) {
         Ok(read) => read,
         Err(status) => return Err(status),
     };
-    match check_text(alloc, &read.1) {
-        Ok(text) => print(output, text.as_slice()),
+    match accepted_line(alloc, &read.1) {
+        Ok(line) => Ok(line),
         Err(_) => Err(Status::NoMemory),
     }
 }
 
-/// The steps of `rows`, up to the first that ends it.
-fn rows_steps<S: Source, K: Sink, F: Shelf>(
+/// What `rows` prints, or its refusal.
+fn lines_of_part<F: Shelf>(
     alloc: Global,
+    shelf: &mut F,
     path: &str,
     part: &str,
-    _input: &mut S,
-    output: &mut K,
-    shelf: &mut F,
-) -> Result<(), Status>
+) -> Result<List<u8>, Status>
     requires path { IsTrue (is_path path.now) }
     requires part { IsTrue (is_path part.now) }
-    ensures { Runs (Some (reading text.lines_text path.now part.now))
-        (world (S.left _input.old) (K.written output.old) (files_of (F.state shelf.old))
-        (S.faults _input.old) (K.faults output.old) (F.faults shelf.old))
-        (world (S.left _input.new) (K.written output.new) (files_of (F.state shelf.new))
-        (S.faults _input.new) (K.faults output.new) (F.faults shelf.new)) (answer_of result) }
+    ensures gives { IfSome (files_of (F.state shelf.old)) (λ files. Returns result (rows_steps path.now part.now files)) }
+    ensures files { files_of (F.state shelf.new) ≡ files_of (F.state shelf.old) }
+    ensures cause { StepCausedBy result (of_shelf (F.faults shelf.old)) (of_shelf (F.faults shelf.new)) }
 {
     let read = match read_part(alloc, shelf, path, part) {
         Ok(read) => read,
         Err(status) => return Err(status),
     };
-    match lines_text(alloc, read.0.columns.as_slice(), read.1.rows.as_slice()) {
-        Ok(text) => print(output, text.as_slice()),
+    match rows_text(alloc, read.0.columns.as_slice(), read.1.rows.as_slice()) {
+        Ok(lines) => Ok(lines),
         Err(_) => Err(Status::NoMemory),
     }
 }
@@ -114,20 +95,20 @@ pub(crate) fn check<S: Source, K: Sink, F: Shelf>(
     alloc: Global,
     path: &str,
     part: &str,
-    input: &mut S,
+    _input: &mut S,
     output: &mut K,
     shelf: &mut F,
 ) -> Status
     requires path { IsTrue (is_path path.now) }
     requires part { IsTrue (is_path part.now) }
-    ensures { Runs (Some (reading text.check_text path.now part.now))
-        (world (S.left input.old) (K.written output.old) (files_of (F.state shelf.old))
-        (S.faults input.old) (K.faults output.old) (F.faults shelf.old))
-        (world (S.left input.new) (K.written output.new) (files_of (F.state shelf.new))
-        (S.faults input.new) (K.faults output.new) (F.faults shelf.new)) result }
+    ensures { PrintsTextOf (check_steps path.now part.now)
+        (world (S.left _input.old) (K.written output.old) (files_of (F.state shelf.old))
+        (S.faults _input.old) (K.faults output.old) (F.faults shelf.old))
+        (world (S.left _input.new) (K.written output.new) (files_of (F.state shelf.new))
+        (S.faults _input.new) (K.faults output.new) (F.faults shelf.new)) result }
 {
-    match check_steps(alloc, path, part, input, output, shelf) {
-        Ok(()) => Status::Done,
+    match check_text(alloc, shelf, path, part) {
+        Ok(text) => finished(print(output, text.as_slice())),
         Err(status) => status,
     }
 }
@@ -137,20 +118,20 @@ pub(crate) fn rows<S: Source, K: Sink, F: Shelf>(
     alloc: Global,
     path: &str,
     part: &str,
-    input: &mut S,
+    _input: &mut S,
     output: &mut K,
     shelf: &mut F,
 ) -> Status
     requires path { IsTrue (is_path path.now) }
     requires part { IsTrue (is_path part.now) }
-    ensures { Runs (Some (reading text.lines_text path.now part.now))
-        (world (S.left input.old) (K.written output.old) (files_of (F.state shelf.old))
-        (S.faults input.old) (K.faults output.old) (F.faults shelf.old))
-        (world (S.left input.new) (K.written output.new) (files_of (F.state shelf.new))
-        (S.faults input.new) (K.faults output.new) (F.faults shelf.new)) result }
+    ensures { PrintsTextOf (rows_steps path.now part.now)
+        (world (S.left _input.old) (K.written output.old) (files_of (F.state shelf.old))
+        (S.faults _input.old) (K.faults output.old) (F.faults shelf.old))
+        (world (S.left _input.new) (K.written output.new) (files_of (F.state shelf.new))
+        (S.faults _input.new) (K.faults output.new) (F.faults shelf.new)) result }
 {
-    match rows_steps(alloc, path, part, input, output, shelf) {
-        Ok(()) => Status::Done,
+    match lines_of_part(alloc, shelf, path, part) {
+        Ok(text) => finished(print(output, text.as_slice())),
         Err(status) => status,
     }
 }

@@ -5,12 +5,12 @@ ghost use Rattle.mt_shelf.specs.Paths.{is_path};
 ghost use Rattle.mt_shelf.specs.State.{files_of};
 ghost use Rattle.mt_run.specs.Notes.{Noted, IsReported};
 ghost use Rattle.mt_run.specs.Commands.{Runs};
-ghost use Rattle.mt_run.specs.Plans.{world};
+ghost use Rattle.mt_command.specs.Plans.{world};
 ghost use Rattle.mt_run.specs.Words.{are_paths, command_of, command_with_workers, command_without_workers};
 
 use crate::note::line_of;
 use crate::reading::{check, rows};
-use crate::status::Status;
+use mt_command::Status;
 use crate::words::workers_in;
 use crate::write::write;
 use mt_shelf::{CallError, Gate, Shelf, Sink, Source, is_path, write_all};

@@ -2,7 +2,7 @@
 ghost use Rattle.std.specs.Prelude.{◌≡◌, ◌<◌, ◌≤◌, IfSome};
 ghost use Rattle.mt_run.specs.Words.{workers_in, is_first_digit, is_digit};
 
-use crate::limits::MAX_WORKERS;
+use mt_command::MAX_WORKERS;
 
 fn is_first_digit(byte: u8) -> bool
     ensures { result ≡ is_first_digit byte }

@@ -1,0 +1,6 @@
+pub mod CellLemmas
+pub mod DoneLemmas
+pub mod FolderLemmas
+pub mod PartLemmas
+pub mod ProjectionParts
+pub mod RefusedLemmas
