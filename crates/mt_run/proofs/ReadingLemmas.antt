@@ -1,5 +1,5 @@
 -- What `check` and `rows` print of a part that was read, or its refusal.
-use Rattle.std.proofs.Common.{◌≡◌, inl, inr, ℕ, List, Option, Some, None, IfSome, Result, Ok, Err, refl}
+use Rattle.std.proofs.Common.{◌≡◌, inl, inr, ℕ, List, Option, Some, None, IfSome, Result, Ok, Err, refl, ap}
 use Rattle.mt_table.specs.declared.definition.Table.{Table}
 use Rattle.mt_shelf.specs.Files.{Files}
 use Rattle.mt_check.specs.declared.accepted.Accepted.{Accepted}
@@ -18,7 +18,7 @@ read_refused text path part status None gives = tt
 read_refused text path part status (Some f) gives = λ inside. inr (status, gives inside, refl)
 
 -- its text
-pub text_given : (text : Table × Accepted → List ℕ) (path part : List ℕ) (read : Table × Accepted) (files : Option Files) → IfSome files (λ f. table_part_steps path part f (Ok read))
-    → IfSome files (λ f. text_steps text path part f (Ok (text read)))
-text_given text path part read None gives = tt
-text_given text path part read (Some f) gives = inl (read, gives, refl)
+pub text_given : (text : Table × Accepted → List ℕ) (path part : List ℕ) (read : Table × Accepted) (made : List ℕ) (files : Option Files) → IfSome files (λ f. table_part_steps path part f (Ok read)) → made ≡ text read
+    → IfSome files (λ f. text_steps text path part f (Ok made))
+text_given text path part read made None gives same = tt
+text_given text path part read made (Some f) gives same = inl (read, gives, ap Ok same)

@@ -7,4 +7,4 @@ returns-in-Ok-clause-gives g c = checks_listed c.args.table.now c.args.part.now 
 
 pub returns-in-Err-AtFault-clause-gives : goal.returns-in-Err-AtFault-clause-gives
 returns-in-Err-AtFault-clause-gives g c =
-    fault_listed c.args.table.now c.args.part.now c.args.listing.now c.in-Err-AtFault.fault c.at_fault.result _ c.requires.known c.in-Err-AtFault.ensures.answers c.at_fault.ensures
+    fault_listed c.args.table.now c.args.part.now c.args.listing.now c.in-Err-AtFault.fault c.at_fault.result _ c.requires.known (rw c.in-Err-AtFault.field-0-is at c.in-Err-AtFault.ensures.answers) c.at_fault.ensures
