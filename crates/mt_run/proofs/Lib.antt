@@ -1,8 +1,7 @@
-pub mod CellLemmas
 pub mod Completeness
-pub mod FolderLemmas
 pub mod PartitionLemmas
-pub mod ProjectionParts
+pub mod ReadingLemmas
 pub mod Reported
+pub mod WordLemmas
 pub mod WriteLemmas
 pub mod WrittenParts

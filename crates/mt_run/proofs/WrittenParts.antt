@@ -20,15 +20,16 @@ use Rattle.mt_defs.proofs.Sorted.{IsSorted-sorted_rows, All-sorted_rows, cell_co
 use Rattle.mt_written.specs.Texts.{HoldBytes, holds_bytes}
 use Rattle.mt_written.proofs.StandLemmas.{written_stands}
 use Rattle.mt_build.proofs.InnerLemmas.{projections_kept}
-use Rattle.mt_run.specs.Status.{◌>>=◌, refused_by, status_of_rows}
+use Rattle.mt_command.specs.Status.{◌>>=◌, refused_by, status_of_rows}
 use Rattle.mt_run.specs.Partitions.{one_partition}
-use Rattle.mt_run.specs.Write.{few_cells, folder_bytes, folder_of, has_many_cells, rows_of, within_limit}
-use Rattle.mt_run.specs.declared.limits.TheConstants.{MAX_FOLDER}
-use Rattle.mt_run.specs.declared.status.Status.{Status}
-use Rattle.mt_run.specs.declared.status.Status.TheVariants.{TooMuch}
-use Rattle.mt_run.specs.declared.status.What.TheVariants as what
+use Rattle.mt_run.specs.Write.{folder_of, rows_of}
+use Rattle.mt_command.specs.Targets.{few_cells, folder_bytes, has_many_cells, within_limit}
+use Rattle.mt_command.specs.declared.limits.TheConstants.{MAX_FOLDER}
+use Rattle.mt_command.specs.declared.status.Status.{Status}
+use Rattle.mt_command.specs.declared.status.Status.TheVariants.{TooMuch}
+use Rattle.mt_command.specs.declared.status.What.TheVariants as what
 use Rattle.mt_run.proofs.PartitionLemmas.{have_one, sorted_one}
-use Rattle.mt_run.proofs.ProjectionParts.{projection_part}
+use Rattle.mt_command.proofs.ProjectionParts.{projection_part}
 
 -- ---- steps that were passed
 

@@ -1,7 +1,6 @@
-pub mod Status
 pub mod Notes
-pub mod Plans
-pub mod Steps
 pub mod Partitions
 pub mod Write
+pub mod Reading
+pub mod Commands
 pub mod Words

@@ -4,8 +4,8 @@ use Rattle.std.specs.Str.{bytes_eq}
 use Rattle.mt_table.specs.declared.definition.Table.{Table}
 use Rattle.mt_defs.specs.Partition.{partition_bytes}
 use Rattle.mt_defs.specs.Rows.{Row}
-use Rattle.mt_run.specs.declared.status.Status.{Status}
-use Rattle.mt_run.specs.declared.status.Status.TheVariants.{ManyPartitions}
+use Rattle.mt_command.specs.declared.status.Status.{Status}
+use Rattle.mt_command.specs.declared.status.Status.TheVariants.{ManyPartitions}
 
 -- whether two rows have the same partition value
 abbrev pub are_together : Table → Row → Row → Bool

@@ -2,9 +2,8 @@
 use Rattle.std.specs.Prelude.{ℕ, ◌+◌, ◌-◌, ◌*◌, nat_le, Bool, ◌&&◌, List, [], ◌∷◌, Option, None, Some, is_some, if◌then◌else◌, codes}
 use Rattle.std.specs.Str.{bytes_eq}
 use Rattle.mt_shelf.specs.Paths.{is_path}
-use Rattle.mt_run.specs.Plans.{Plan}
-use Rattle.mt_run.specs.Write.{write_plan}
-use Rattle.mt_run.specs.declared.limits.TheConstants.{MAX_WORKERS}
+use Rattle.mt_command.specs.declared.limits.TheConstants.{MAX_WORKERS}
+use Rattle.mt_run.specs.Commands.{Command, Write, Check, Rows}
 
 -- a digit from 1 to 9, in ASCII
 abbrev pub is_first_digit : ℕ → Bool
@@ -24,11 +23,33 @@ workers_in (a ∷ []) = workers_if (is_first_digit a) (a - 48)
 workers_in (a ∷ b ∷ []) = workers_if (is_first_digit a && is_digit b) (10 * (a - 48) + (b - 48))
 workers_in word = None
 
--- write TABLE PART WORKERS
-abbrev pub is_write : List ℕ → List ℕ → List ℕ → List ℕ → Bool
-is_write name path part workers = bytes_eq name (codes "write") && is_path path && is_path part && is_some (workers_in workers)
+-- both are paths
+abbrev pub are_paths : List ℕ → List ℕ → Bool
+are_paths table part = is_path table && is_path part
 
--- the plan of the command that the words are, if they are one
-abbrev pub plan_of : List (List ℕ) → Option Plan
-plan_of (name ∷ path ∷ part ∷ workers ∷ []) = if is_write name path part workers then Some (write_plan path part) else None
-plan_of words = None
+-- write TABLE PART WORKERS
+abbrev pub write_command : List (List ℕ) → Option Command
+write_command (table ∷ part ∷ workers ∷ []) = if are_paths table part && is_some (workers_in workers) then Some (Write table part) else None
+write_command operands = None
+
+-- check TABLE PART WORKERS
+abbrev pub check_command : List (List ℕ) → Option Command
+check_command (table ∷ part ∷ workers ∷ []) = if are_paths table part && is_some (workers_in workers) then Some (Check table part) else None
+check_command operands = None
+
+-- rows TABLE PART
+abbrev pub rows_command : List (List ℕ) → Option Command
+rows_command (table ∷ part ∷ []) = if are_paths table part then Some (Rows table part) else None
+rows_command operands = None
+
+-- the command of a name, where the words after it have its form
+abbrev pub command_named : List ℕ → List (List ℕ) → Option Command
+command_named name operands =
+    if bytes_eq name (codes "write") then write_command operands
+    else if bytes_eq name (codes "check") then check_command operands
+    else if bytes_eq name (codes "rows") then rows_command operands else None
+
+-- the command that the words are, if they are one
+abbrev pub command_of : List (List ℕ) → Option Command
+command_of (name ∷ operands) = command_named name operands
+command_of [] = None

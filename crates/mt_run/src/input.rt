@@ -1,12 +1,11 @@
 //! The step that reads the input to its end.
 ghost use Rattle.std.specs.Prelude.{◌≢◌, [], IfOk, IfSome, OnOk};
 ghost use Rattle.std.specs.Io.KnownBytes.{IsAtEnd};
-ghost use Rattle.mt_run.specs.Status.{Gives};
-ghost use Rattle.mt_run.specs.Steps.{StepCausedBy, of_source};
+ghost use Rattle.mt_command.specs.Status.{Gives};
+ghost use Rattle.mt_command.specs.Steps.{StepCausedBy, of_source};
 ghost use Rattle.mt_run.specs.Write.{input_text};
 
-use crate::limits::MAX_INPUT;
-use crate::status::{Status, What, status_of_source};
+use mt_command::{MAX_INPUT, Status, What, status_of_source};
 use mt_shelf::{Input, Source, read_all};
 use mt_types::List;
 use std::alloc::Global;

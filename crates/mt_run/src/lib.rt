@@ -3,20 +3,17 @@
 //! Its contract has each refusal in order, the effect, when faults come and what stands afterwards.
 #![tactic(auto)]
 
-mod cells;
 mod folder;
 mod input;
 mod law;
-mod limits;
 mod note;
 mod partition;
-mod status;
-mod table;
+mod perform;
+mod reading;
 mod top;
 mod words;
 mod write;
 
 pub use law::published_folders_stand;
-pub use limits::{MAX_FOLDER, MAX_INPUT, MAX_TABLE_TEXT, MAX_WORKERS};
-pub use status::{Status, What};
+pub use mt_command::{MAX_FOLDER, MAX_INPUT, MAX_TABLE_TEXT, MAX_WORKERS, Status, What};
 pub use top::run;

@@ -4,10 +4,10 @@ ghost use Rattle.std.specs.Prelude.{◌≡◌, All};
 ghost use Rattle.mt_defs.specs.Rows.{RowFits};
 ghost use Rattle.mt_meta.specs.PartitionKeys.{ArePartitionKeys};
 ghost use Rattle.mt_run.specs.Partitions.{other_line, one_partition};
-ghost use Rattle.mt_run.specs.Status.{Gives};
-ghost use Rattle.mt_run.specs.Steps.{StepCausedBy, of_nothing};
+ghost use Rattle.mt_command.specs.Status.{Gives};
+ghost use Rattle.mt_command.specs.Steps.{StepCausedBy, of_nothing};
 
-use crate::status::Status;
+use mt_command::Status;
 use mt_meta::same_partition;
 use mt_table::Table;
 use mt_types::Row;

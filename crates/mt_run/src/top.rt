@@ -2,56 +2,17 @@
 ghost use Rattle.std.specs.Prelude.{◌≡◌, map};
 ghost use Rattle.std.specs.String.{string_bytes};
 ghost use Rattle.mt_shelf.specs.State.{files_of};
+ghost use Rattle.mt_command.specs.Plans.{world};
+ghost use Rattle.mt_run.specs.Commands.{Runs};
 ghost use Rattle.mt_run.specs.Notes.{Noted, IsReported};
-ghost use Rattle.mt_run.specs.Plans.{Performs, world};
-ghost use Rattle.mt_run.specs.Words.{plan_of};
+ghost use Rattle.mt_run.specs.Words.{command_of};
 
 use crate::note::line_of;
-use crate::status::Status;
-use crate::words::workers_in;
-use crate::write::write;
-use mt_shelf::{CallError, Gate, Shelf, Sink, Source, is_path, write_all};
+use crate::perform::perform;
+use mt_command::Status;
+use mt_shelf::{CallError, Gate, Shelf, Sink, Source, write_all};
 use std::alloc::Global;
 use std::thread::Threads;
-
-/// Does what the words say, but for the notes.
-fn perform<R: Threads + Sync, S: Source, K: Sink, F: Shelf, G: Gate + Sync>(
-    rt: &R,
-    alloc: Global,
-    words: &[String],
-    input: &mut S,
-    output: &mut K,
-    shelf: &mut F,
-    gate: &G,
-) -> Status
-    ensures { Performs (plan_of (map string_bytes words.now))
-        (world (S.left input.old) (K.written output.old) (files_of (F.state shelf.old))
-        (S.faults input.old) (K.faults output.old) (F.faults shelf.old))
-        (world (S.left input.new) (K.written output.new) (files_of (F.state shelf.new))
-        (S.faults input.new) (K.faults output.new) (F.faults shelf.new)) result }
-{
-    let [name, path, part, workers] = words else {
-        return Status::BadWords;
-    };
-    let Some(workers) = workers_in(workers.as_str().as_bytes()) else {
-        return Status::BadWords;
-    };
-    if name.as_str() == "write" && is_path(path.as_str()) && is_path(part.as_str()) {
-        write(
-            rt,
-            alloc,
-            path.as_str(),
-            part.as_str(),
-            workers,
-            input,
-            output,
-            shelf,
-            gate,
-        )
-    } else {
-        Status::BadWords
-    }
-}
 
 /// Writes the line of a status, and gives the status of the run.
 fn report<N: Sink>(alloc: Global, notes: &mut N, status: Status) -> Status
@@ -98,7 +59,7 @@ pub fn run<R: Threads + Sync, S: Source, K: Sink, N: Sink, F: Shelf, G: Gate + S
     shelf: &mut F,
     gate: &G,
 ) -> Status
-    ensures meets { Performs (plan_of (map string_bytes words.now))
+    ensures meets { Runs (command_of (map string_bytes words.now))
         (world (S.left input.old) (K.written output.old) (files_of (F.state shelf.old))
         (S.faults input.old) (K.faults output.old) (F.faults shelf.old))
         (world (S.left input.new) (K.written output.new) (files_of (F.state shelf.new))

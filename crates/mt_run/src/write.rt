@@ -6,34 +6,19 @@ ghost use Rattle.mt_shelf.specs.Paths.{is_path};
 ghost use Rattle.mt_shelf.specs.Files.{gained_files};
 ghost use Rattle.mt_shelf.specs.Held.{pair_of, HasName};
 ghost use Rattle.mt_shelf.specs.State.{files_of};
-ghost use Rattle.mt_run.specs.Status.{Gives};
-ghost use Rattle.mt_run.specs.Plans.{Meets, CausedBy, world, answer_of};
-ghost use Rattle.mt_run.specs.Steps.{StepCausedBy, Stored, of_shelf, of_source};
-ghost use Rattle.mt_run.specs.Write.{free_target, table_for, folder_for, write_plan};
+ghost use Rattle.mt_command.specs.Status.{Gives};
+ghost use Rattle.mt_command.specs.Plans.{Meets, CausedBy, world, answer_of};
+ghost use Rattle.mt_command.specs.Steps.{StepCausedBy, Stored, of_shelf, of_source};
+ghost use Rattle.mt_run.specs.Write.{table_for, folder_for, write_plan};
 
 use crate::folder::folder_of;
 use crate::input::read_input;
-use crate::status::{Status, status_of_shelf};
-use crate::table::read_table;
-use mt_shelf::{FileBytes, Gate, Shelf, Sink, Source, store};
+use mt_command::{Status, finished, free_target, read_table, store_folder};
+use mt_shelf::{FileBytes, Gate, Shelf, Sink, Source};
 use mt_table::Table;
 use mt_types::List;
 use std::alloc::Global;
 use std::thread::Threads;
-
-/// Refuses a target where a file stands, or below it.
-fn free_target<F: Shelf>(shelf: &mut F, part: &str) -> Result<(), Status>
-    requires { IsTrue (is_path part.now) }
-    ensures gives { IfSome (files_of (F.state shelf.old)) (λ files. Gives result (free_target part.now files)) }
-    ensures state { F.state shelf.new ≡ F.state shelf.old }
-    ensures cause { StepCausedBy result (of_shelf (F.faults shelf.old)) (of_shelf (F.faults shelf.new)) }
-{
-    match shelf.exists(part) {
-        Ok(false) => Ok(()),
-        Ok(true) => Err(Status::Exists),
-        Err(error) => Err(status_of_shelf(error)),
-    }
-}
 
 /// Reads the table of a file, and then tries the target.
 fn table_for<F: Shelf>(
@@ -74,21 +59,6 @@ fn folder_for<R: Threads + Sync, S: Source, G: Gate + Sync>(
 {
     let text = read_input(alloc, input)?;
     folder_of(rt, alloc, table, text.as_slice(), workers, gate)
-}
-
-/// Publishes a folder at a part.
-fn store_folder<F: Shelf>(shelf: &mut F, part: &str, folder: &[FileBytes]) -> Result<(), Status>
-    requires part { IsTrue (is_path part.now) }
-    requires names { All HasName folder.now }
-    ensures stored { Stored
-        (option_map (gained_files part.now (map pair_of folder.now)) (files_of (F.state shelf.old)))
-        (files_of (F.state shelf.old)) (files_of (F.state shelf.new)) result }
-    ensures cause { StepCausedBy result (of_shelf (F.faults shelf.old)) (of_shelf (F.faults shelf.new)) }
-{
-    match store(shelf, part, folder) {
-        Ok(()) => Ok(()),
-        Err(error) => Err(status_of_shelf(error)),
-    }
 }
 
 /// The steps of the command, up to the first that ends it.
@@ -153,8 +123,5 @@ pub(crate) fn write<R: Threads + Sync, S: Source, K: Sink, F: Shelf, G: Gate + S
         (world (S.left input.new) (K.written output.new) (files_of (F.state shelf.new))
         (S.faults input.new) (K.faults output.new) (F.faults shelf.new)) result }
 {
-    match write_steps(rt, alloc, path, part, workers, input, output, shelf, gate) {
-        Ok(()) => Status::Done,
-        Err(status) => status,
-    }
+    finished(write_steps(rt, alloc, path, part, workers, input, output, shelf, gate))
 }

@@ -40,12 +40,12 @@ fn input_fails_at_each_call(rt: HostRuntime) -> Result<(), Fail> {
             &mut shelf,
             &NoGate,
         );
-        if status == Status::Done {
+        if matches!(status, Status::Done) {
             // Four bytes a call, and a call at the end.
             assert_eq!(rt; n, 6);
             return Ok(());
         }
-        assert_eq!(rt; status, Status::SourceFault, "call {n}");
+        assert!(rt; matches!(status, Status::SourceFault), "call {n}");
         assert_eq!(rt; notes.shown(), b"mtpart: input failed\n".as_slice());
         assert_eq!(rt; shelf.held().len(), 1, "call {n}");
         assert!(rt; output.shown().is_empty());
@@ -77,13 +77,13 @@ fn shelf_fails_at_each_call(rt: HostRuntime) -> Result<(), Fail> {
             &mut shelf,
             &NoGate,
         );
-        if status == Status::Done {
+        if matches!(status, Status::Done) {
             // The table's size and text, the target, the draft, seven files, and its end.
             assert_eq!(rt; n, 13);
             assert_eq!(rt; shelf.held().len(), 8);
             return Ok(());
         }
-        assert_eq!(rt; status, Status::ShelfFault, "call {n}");
+        assert!(rt; matches!(status, Status::ShelfFault), "call {n}");
         assert_eq!(rt; notes.shown(), b"mtpart: shelf failed\n".as_slice());
         let held = shelf.held().len();
         assert!(rt; held == 1 || (n == 12 && held == 8), "call {n}");
@@ -117,7 +117,7 @@ fn notes_that_fail_change_no_status(rt: HostRuntime) -> Result<(), Fail> {
             &mut shelf,
             &NoGate,
         );
-        assert_eq!(rt; status, Status::NoTable, "call {n}");
+        assert!(rt; matches!(status, Status::NoTable), "call {n}");
         assert!(rt; line.starts_with(notes.shown()), "call {n}");
         if notes.shown().len() == line.len() {
             // Seventeen bytes, four a call.

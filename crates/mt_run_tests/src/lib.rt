@@ -8,6 +8,8 @@ mod failures;
 #[cfg(test)]
 mod objects;
 #[cfg(test)]
+mod readers;
+#[cfg(test)]
 mod refusals;
 #[cfg(test)]
 mod worked_part;

@@ -1,5 +1,5 @@
 use Rattle.mt_run.proofs.Reported.{whole_prefix}
-use Rattle.mt_run.specs.declared.status.Status.TheVariants.{NoMemory}
+use Rattle.mt_command.specs.declared.status.Status.TheVariants.{NoMemory}
 use Rattle.mt_run.proofs.top.report_no_memory.Goals as goal
 
 pub returns-in-Ok-clause-noted : goal.returns-in-Ok-clause-noted

@@ -1,0 +1,20 @@
+-- The commands, and what it means that a run does one.
+use Rattle.std.specs.Prelude.{ℕ, List, Option, None, Some}
+use Rattle.mt_command.specs.Plans.{World, Performs}
+use Rattle.mt_command.specs.Commands.{PrintsTextOf}
+use Rattle.mt_command.specs.declared.status.Status.{Status}
+use Rattle.mt_run.specs.Reading.{check_steps, rows_steps}
+use Rattle.mt_run.specs.Write.{write_plan}
+
+-- a command, by the words that change what it does
+pub data Command : Type 0 where
+  Write : (table part : List ℕ) → Command
+  Check : (table part : List ℕ) → Command
+  Rows : (table part : List ℕ) → Command
+
+-- what a run does of the command that its words are; words that are none are refused
+abbrev pub Runs : Option Command → World → World → Status → Type 0
+Runs None old new status = Performs None old new status
+Runs (Some (Write table part)) old new status = Performs (Some (write_plan table part)) old new status
+Runs (Some (Check table part)) old new status = PrintsTextOf (check_steps table part) old new status
+Runs (Some (Rows table part)) old new status = PrintsTextOf (rows_steps table part) old new status
