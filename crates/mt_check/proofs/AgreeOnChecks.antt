@@ -14,7 +14,7 @@ use Rattle.mt_table.specs.declared.partition.PartExpr.{PartExpr}
 use Rattle.mt_defs.specs.Lists.{distinct_by}
 use Rattle.mt_defs.specs.Folder.{Folder}
 use Rattle.mt_defs.specs.Metadata.{column_at}
-use Rattle.mt_defs.specs.Part.{is_compact, marks_ending, partition_names}
+use Rattle.mt_defs.specs.Part.{is_compact, marks_ending}
 use Rattle.mt_defs.specs.Partition.{expression_column, minmax_name, partition_bytes, partition_name}
 use Rattle.mt_defs.specs.Projections.{base_of, inner_of, projection_prefix, IsProjectionOf}
 use Rattle.mt_defs.specs.Rows.{Row}
@@ -27,6 +27,7 @@ use Rattle.mt_check.specs.Definitions.{IsDefinition}
 use Rattle.mt_check.specs.DefinitionReading.{definition_reading}
 use Rattle.mt_check.specs.Faults.{fault_in, fault_of, file_reading, named_below, none_found}
 use Rattle.mt_check.specs.FolderChecks.{entries_checks, files_checks, projection_checks, projection_folder, projections_checks, skip_checks}
+use Rattle.mt_check.specs.OwnNames as own
 use Rattle.mt_check.specs.OwnNames.{base_names, own_names, skip_names_in}
 use Rattle.mt_check.specs.PartitionReading.{files_reading, other_partition, partition_reading}
 use Rattle.mt_check.specs.RowsReading.{granule_of}
@@ -71,8 +72,8 @@ checks_by base partition skips projections =
 pub part_same : (f g : Folder) (table : Table) (fs gs : List Folder) → IsDefinition (base_of table) → is_compact f ≡ is_compact g → AgreeAt f g (base_names table (is_compact f))
     → ((accepted : Accepted) → projections_checks table accepted table.projections fs ≡ projections_checks table accepted table.projections gs) → files_checks table f fs ≡ files_checks table g gs
 part_same f g table fs gs is kind all projections =
-    let parts = agree_split f g (own_names (base_of table) (is_compact f)) (partition_names table ++ flat_map (skip_names_in (is_compact f)) table.skips) all in
-    let more = agree_split f g (partition_names table) (flat_map (skip_names_in (is_compact f)) table.skips) parts.1 in
+    let parts = agree_split f g (own_names (base_of table) (is_compact f)) (own.partition_files table ++ flat_map (skip_names_in (is_compact f)) table.skips) all in
+    let more = agree_split f g (own.partition_files table) (flat_map (skip_names_in (is_compact f)) table.skips) parts.1 in
     ap (λ base. checks_by base (partition_reading table f) (λ accepted. each (skip_checks table f accepted) table.skips) (λ accepted. projections_checks table accepted table.projections fs)) (definition_same f g (base_of table) is kind parts.0)
     ∙ ap (λ partition. checks_by (definition_reading (base_of table) g) partition (λ accepted. each (skip_checks table f accepted) table.skips) (λ accepted. projections_checks table accepted table.projections fs))
     (fun_ext λ accepted. partition_same f g table accepted more.0)
