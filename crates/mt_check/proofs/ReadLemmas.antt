@@ -18,14 +18,14 @@ use Rattle.mt_defs.specs.Part.{is_compact}
 use Rattle.mt_defs.specs.Projections.{base_of, inner_of, projection_prefix}
 use Rattle.mt_check.specs.declared.accepted.Accepted.{Accepted}
 use Rattle.mt_check.specs.Checks.{Checks, ◌>>=◌}
-use Rattle.mt_check.specs.Definitions.{HasProjections, IsDefinition}
+use Rattle.mt_check.specs.Definitions.{IsDefinition}
 use Rattle.mt_check.specs.FolderChecks.{files_checks, is_known, projection_checks, projection_folders, projections_checks}
 use Rattle.mt_check.specs.OwnNames as own
 use Rattle.mt_check.specs.OwnNames.{base_names, own_names, skip_names_in}
 use Rattle.mt_check.specs.PartFiles.{base_files, file_named, file_names, files_named, inner_files, part_files, part_folder, projection_files}
 use Rattle.mt_check.proofs.AgreeLemmas.{AgreeAt}
 use Rattle.mt_check.proofs.AgreeOnChecks.{part_same, projection_same}
-use Rattle.mt_check.proofs.FileLemmas.{name_is, other_name, same_name}
+use Rattle.mt_check.proofs.FileLemmas.{name_is, same_name}
 use Rattle.mt_check.proofs.TableLemmas.{base_checked, projections_checked}
 
 -- ---- the folder of the files of some names
