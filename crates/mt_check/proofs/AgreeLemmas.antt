@@ -1,20 +1,16 @@
 -- Folders that agree at the names that are asked for.
-use Rattle.std.proofs.Common.{◌≡◌, ℕ, zero, suc, ◌+◌, ◌<◌, ◌≤◌, Bool, true, false, ◌||◌, List, [], ◌∷◌, ◌++◌, length, map, refl, ap, sym, subst, ◌∙◌, get_or, arith, inl, inr}
-use Rattle.std.specs.Prelude.{Option, Some, None, Result, Ok, Err, ◌==◌, if◌then◌else◌, cond, is_some, All, sum}
-use Rattle.std.specs.List.{AllByRecursion, enumerate_from, flat_map, position}
-use Rattle.std.proofs.lemmas.List.{length-map}
-use Rattle.std.proofs.lemmas.List.Quantifiers.{position-Some}
+use Rattle.std.proofs.Common.{◌≡◌, ℕ, zero, suc, ◌<◌, ◌≤◌, List, [], ◌∷◌, ◌++◌, length, map, refl, ap, sym, subst, ◌∙◌, get_or, arith}
+use Rattle.std.specs.Prelude.{Option, Result, Ok, Err, ◌==◌, sum}
+use Rattle.std.specs.List.{AllByRecursion, enumerate_from, flat_map}
 use Rattle.mt_types.specs.declared.value.Value.{Value}
 use Rattle.mt_granules.specs.ColumnRows.{all_values, rows_of}
 use Rattle.mt_types.specs.Steps.{◌>>=◌, onto, ok_or, require}
-use Rattle.mt_shelf.specs.declared.fault.Fault.{Fault}
 use Rattle.mt_shelf.specs.declared.fault.Why.TheVariants as why
 use Rattle.mt_table.specs.declared.column.Column.{Column}
 use Rattle.mt_defs.specs.Folder.{Folder}
 use Rattle.mt_defs.specs.Compact.{compact_data_name, compact_marks_name}
 use Rattle.mt_defs.specs.FileNames.{stream_names, data_name, marks_name}
-use Rattle.mt_defs.specs.Metadata.{column_at, no_column}
-use Rattle.mt_defs.specs.Part.{is_compact, wide_names}
+use Rattle.mt_defs.specs.Part.{wide_names}
 use Rattle.mt_defs.specs.Rows.{Row}
 use Rattle.mt_frame.specs.declared.frames.Frames.{Frames}
 use Rattle.mt_granules.specs.FileFaults.{Judged, blame, file_fault, frame_fault, in_order, marks_fault}
@@ -26,7 +22,6 @@ use Rattle.mt_wide.proofs.CountLemmas.{names_count}
 use Rattle.mt_wide.proofs.EncodedCountLemmas.{streams_some}
 use Rattle.mt_compact.specs.CompactReading as compact
 use Rattle.mt_compact.specs.CompactReading.{compact_reading}
-use Rattle.mt_check.specs.DataReading.{data_reading}
 
 -- ---- lists
 

@@ -1,38 +1,33 @@
 -- The files of a partition and of skip indexes: folders that agree at their names are read alike.
-use Rattle.std.proofs.Common.{◌≡◌, ℕ, Bool, true, false, List, [], ◌∷◌, ◌++◌, length, map, take, refl, ap, sym, subst, ◌∙◌}
+use Rattle.std.proofs.Common.{◌≡◌, ℕ, Bool, true, false, ◌||◌, List, [], ◌∷◌, length, map, take, refl, ap, sym, subst, ◌∙◌}
 use Rattle.std.specs.Prelude.{Option, None, Result, Ok, ◌==◌, if◌then◌else◌, cond, filter, not}
-use Rattle.std.specs.List.{flat_map}
+use Rattle.std.specs.List.{flat_map, list_any}
+use Rattle.std.proofs.lemmas.Bool.{eqb-true}
 use Rattle.std.specs.Str.{bytes_eq}
 use Rattle.mt_types.specs.Steps.{◌>>=◌, ok_or, require}
 use Rattle.mt_shelf.specs.declared.fault.Fault.{Fault}
 use Rattle.mt_shelf.specs.declared.fault.Why.TheVariants as why
 use Rattle.mt_shelf.specs.declared.file.FileBytes.{FileBytes}
 use Rattle.mt_table.specs.declared.definition.Table.{Table}
-use Rattle.mt_table.specs.declared.projection.Projection.{Projection}
 use Rattle.mt_table.specs.declared.skip.Skip.{Skip}
-use Rattle.mt_table.specs.declared.partition.PartExpr.{PartExpr}
 use Rattle.mt_defs.specs.Lists.{distinct_by}
 use Rattle.mt_defs.specs.Folder.{Folder}
-use Rattle.mt_defs.specs.Metadata.{column_at}
-use Rattle.mt_defs.specs.Part.{is_compact, marks_ending, partition_names}
+use Rattle.mt_defs.specs.Part.{is_compact, marks_ending}
 use Rattle.mt_defs.specs.Partition.{expression_column, minmax_name, partition_bytes, partition_name}
-use Rattle.mt_defs.specs.Projections.{base_of, inner_of, projection_prefix, IsProjectionOf}
 use Rattle.mt_defs.specs.Rows.{Row}
-use Rattle.mt_defs.specs.SkipIndexes.{entry_rows, skip_data_name, skip_marks_name}
+use Rattle.mt_defs.specs.SkipIndexes.{skip_data_name, skip_marks_name}
 use Rattle.mt_defs.specs.WrittenColumns.{file}
 use Rattle.mt_defs.specs.WrittenPartition.{minmax_file, partition_files}
 use Rattle.mt_check.specs.declared.accepted.Accepted.{Accepted}
-use Rattle.mt_check.specs.Definitions.{IsDefinition}
-use Rattle.mt_check.specs.DefinitionReading.{definition_reading}
-use Rattle.mt_check.specs.Faults.{fault_in, fault_of, file_reading, named_below, none_found}
-use Rattle.mt_check.specs.FolderChecks.{entries_checks, files_checks, projection_checks, projection_folder, projections_checks, skip_checks}
-use Rattle.mt_check.specs.OwnNames.{base_names, own_names, skip_names_in}
+use Rattle.mt_check.specs.Faults.{fault_in, fault_of, file_reading, none_found}
+use Rattle.mt_check.specs.OwnNames as own
+use Rattle.mt_check.specs.OwnNames.{each_once, skip_names_in}
 use Rattle.mt_check.specs.PartitionReading.{files_reading, other_partition, partition_reading}
 use Rattle.mt_check.specs.RowsReading.{granule_of}
 use Rattle.mt_check.specs.SkipMarks.{in_frames, index_entries, marks_reading, pieces_at, positions_reading}
-use Rattle.mt_check.proofs.AgreeLemmas.{AgreeAt, agree_split, steps_same}
+use Rattle.mt_check.proofs.AgreeLemmas.{AgreeAt}
 use Rattle.mt_frame.specs.FrameReading.{frames_reading, layout}
-use Rattle.mt_defs.specs.Frames.{Block, file_of, payload_of}
+use Rattle.mt_defs.specs.Frames.{file_of, payload_of}
 
 -- ---- the partition
 
@@ -64,21 +59,33 @@ minmax_agree : (f g : Folder) (table : Table) (rows : List Row) (columns : List 
 minmax_agree f g table rows [] all = tt
 minmax_agree f g table rows (i ∷ columns) all = (all.0, minmax_agree f g table rows columns all.1)
 
-of_columns : (f g : Folder) (table : Table) (partition : List PartExpr) → AgreeAt f g (map (λ expression. minmax_name table (expression_column expression)) partition) → AgreeAt f g (map (minmax_name table) (map expression_column partition))
-of_columns f g table [] all = tt
-of_columns f g table (expression ∷ partition) all = (all.0, of_columns f g table partition all.1)
+one_of : (f g : Folder) (name : ℕ → List ℕ) (columns : List ℕ) (column : ℕ) → list_any (λ i. i == column) columns ≡ true → AgreeAt f g (map name columns) → f (name column) ≡ g (name column)
+one_of f g name [] column among all = cc
+one_of f g name (i ∷ columns) column among all = by_test (i == column) refl among (λ later. one_of f g name columns column later all.1)
+  where
+    by_test : (b : Bool) → (i == column) ≡ b → (b || list_any (λ j. j == column) columns) ≡ true → (list_any (λ j. j == column) columns ≡ true → f (name column) ≡ g (name column)) → f (name column) ≡ g (name column)
+    by_test true same among later = subst (λ k. f (name k) ≡ g (name k)) (eqb-true i column same) all.0
+    by_test false other among later = later among
+
+once_agree : (f g : Folder) (name : ℕ → List ℕ) (columns : List ℕ) → AgreeAt f g (map name (each_once columns)) → AgreeAt f g (map name columns)
+once_agree f g name [] all = tt
+once_agree f g name (i ∷ columns) all = by_test (list_any (λ j. j == i) columns) refl all (λ later. once_agree f g name columns later)
+  where
+    by_test : (b : Bool) → list_any (λ j. j == i) columns ≡ b → AgreeAt f g (map name (cond b (each_once columns) (i ∷ each_once columns))) → (AgreeAt f g (map name (each_once columns)) → AgreeAt f g (map name columns)) → AgreeAt f g (map name (i ∷ columns))
+    by_test true among all later = (one_of f g name columns i among (later all), later all)
+    by_test false last all later = (all.0, later all.1)
 
 abbrev value_file : Table → List Row → FileBytes
 value_file table rows = file partition_name (flat_map (partition_bytes table) (take 1 rows))
 
-written_agree : (f g : Folder) (table : Table) (rows : List Row) → AgreeAt f g (partition_names table) → AgreeAt f g (map (λ file. file.name) (partition_files table rows))
+written_agree : (f g : Folder) (table : Table) (rows : List Row) → AgreeAt f g (own.partition_files table) → AgreeAt f g (map (λ file. file.name) (partition_files table rows))
 written_agree f g table rows = by_test (length table.partition == 0)
   where
-    by_test : (b : Bool) → AgreeAt f g (if b then [] else partition_name ∷ map (λ expression. minmax_name table (expression_column expression)) table.partition)
+    by_test : (b : Bool) → AgreeAt f g (if b then [] else partition_name ∷ map (minmax_name table) (each_once (map expression_column table.partition)))
         → AgreeAt f g (map (λ file. file.name) (if b then [] else value_file table rows ∷ map (minmax_file table rows) (distinct (map expression_column table.partition))))
     by_test true all = tt
     by_test false all =
-        (all.0, minmax_agree f g table rows (distinct (map expression_column table.partition)) (distinct_agree f g (minmax_name table) (map expression_column table.partition) (of_columns f g table table.partition all.1)))
+        (all.0, minmax_agree f g table rows (distinct (map expression_column table.partition)) (distinct_agree f g (minmax_name table) (map expression_column table.partition) (once_agree f g (minmax_name table) (map expression_column table.partition) all.1)))
 
 abbrev partition_by : Bool → Table → Accepted → Option (List ℕ) → Result Unit Fault → Result Unit Fault
 partition_by none table accepted value files =
@@ -89,13 +96,13 @@ partition_is : (table : Table) (folder : Folder) (accepted : Accepted) → parti
 unfolding partition_reading
 partition_is table folder accepted = refl
 
-pub partition_same : (f g : Folder) (table : Table) (accepted : Accepted) → AgreeAt f g (partition_names table) → partition_reading table f accepted ≡ partition_reading table g accepted
+pub partition_same : (f g : Folder) (table : Table) (accepted : Accepted) → AgreeAt f g (own.partition_files table) → partition_reading table f accepted ≡ partition_reading table g accepted
 partition_same f g table accepted all =
     let files : files_reading f (partition_files table accepted.rows) ≡ files_reading g (partition_files table accepted.rows) = files_same f g (partition_files table accepted.rows) (written_agree f g table accepted.rows all) in
     partition_is table f accepted ∙ ap (partition_by (length table.partition == 0) table accepted (f partition_name)) files
     ∙ by_test (length table.partition == 0) all ∙ sym (partition_is table g accepted)
   where
-    by_test : (b : Bool) → AgreeAt f g (if b then [] else partition_name ∷ map (λ expression. minmax_name table (expression_column expression)) table.partition)
+    by_test : (b : Bool) → AgreeAt f g (if b then [] else partition_name ∷ map (minmax_name table) (each_once (map expression_column table.partition)))
         → partition_by b table accepted (f partition_name) (files_reading g (partition_files table accepted.rows)) ≡ partition_by b table accepted (g partition_name) (files_reading g (partition_files table accepted.rows))
     by_test true all = refl
     by_test false all = ap (λ o. partition_by false table accepted o (files_reading g (partition_files table accepted.rows))) all.0

@@ -22,6 +22,7 @@ pub mod TextLemmas
 pub mod PartitionLaw
 pub mod DefinitionLaw
 pub mod FolderLemmas
+pub mod OnceLemmas
 pub mod AgreeLemmas
 pub mod AgreeOnData
 pub mod AgreeOnPart

@@ -1,5 +1,5 @@
 -- Listings: how a name is found there, and what they say of a part's files.
-use Rattle.std.proofs.Common.{◌≡◌, ℕ, zero, suc, ◌+◌, ◌<◌, ◌≤◌, Bool, true, false, ◌&&◌, List, [], ◌∷◌, length, map, refl, ap, sym, subst, ◌∙◌, get_or, arith}
+use Rattle.std.proofs.Common.{◌≡◌, ℕ, zero, suc, ◌+◌, ◌<◌, ◌≤◌, Bool, true, false, List, [], ◌∷◌, length, map, refl, ap, sym, subst, ◌∙◌, get_or, arith}
 use Rattle.std.specs.Prelude.{Option, Some, None, option_map, if◌then◌else◌, cond, nat_lt, IfSome}
 use Rattle.std.proofs.lemmas.Bool.{ltb-false, ltb-true}
 use Rattle.std.specs.List.{cons_option, filter_map, list_all}
@@ -7,12 +7,12 @@ use Rattle.std.specs.Ordering.{nat_cmp, is_eq, is_lt, ordering_reverse}
 use Rattle.std.specs.Cmp.Lexicographic.{slice_cmp}
 use Rattle.std.specs.declared.cmp.Ordering.{Ordering}
 use Rattle.std.specs.declared.cmp.Ordering.TheVariants.{Less, Equal, Greater}
-use Rattle.std.specs.FinMap.{entries, find, get, get-entries, is_sorted}
+use Rattle.std.specs.FinMap.{entries, find, get-entries, is_sorted}
 use Rattle.std.specs.FinMap.Entries.{below_all}
 use Rattle.std.proofs.lemmas.Cmp.{nat_list_cmp_total}
 use Rattle.mt_types.proofs.StepLemmas.{both_true}
 use Rattle.mt_shelf.specs.declared.file.Entry.{Entry}
-use Rattle.mt_shelf.specs.Files.{Files, IsListing, entries_below, entry_of, is_file_name}
+use Rattle.mt_shelf.specs.Files.{Files, entries_below, entry_of, is_file_name}
 use Rattle.mt_shelf.specs.Paths.{joined_path, name_below}
 use Rattle.mt_shelf.proofs.Puts.{below_joined, joined_below}
 use Rattle.mt_defs.specs.Folder.{is_name}

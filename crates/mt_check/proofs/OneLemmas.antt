@@ -13,7 +13,7 @@ use Rattle.mt_defs.specs.Projections.{IsProjectionOf, base_of, inner_of, project
 use Rattle.mt_defs.specs.Rows.{Row, column_values}
 use Rattle.mt_defs.specs.SkipIndexes.{Summarizes, entry_rows, skip_data_name}
 use Rattle.mt_check.specs.declared.accepted.Accepted.{Accepted}
-use Rattle.mt_check.specs.Checks.{Checks, each, gives, holds, ◌>>=◌}
+use Rattle.mt_check.specs.Checks.{each, gives, holds}
 use Rattle.mt_check.specs.DefinitionReading.{definition_reading}
 use Rattle.mt_check.specs.Faults.{fault_in, fault_of, named_below, none_found}
 use Rattle.mt_check.specs.FolderChecks.{entries_checks, files_checks, first_unknown, folder_checks, projection_checks, projection_folder, projection_folders, projections_checks, skip_checks}

@@ -14,17 +14,18 @@ use Rattle.mt_table.specs.declared.definition.Table.{Table}
 use Rattle.mt_table.specs.declared.projection.Projection.{Projection}
 use Rattle.mt_defs.specs.Compact.{compact_marks_name}
 use Rattle.mt_defs.specs.Folder.{Folder, folder_below, folder_of, is_name}
-use Rattle.mt_defs.specs.Part.{is_compact, partition_names}
+use Rattle.mt_defs.specs.Part.{is_compact}
 use Rattle.mt_defs.specs.Projections.{base_of, inner_of, projection_prefix}
 use Rattle.mt_check.specs.declared.accepted.Accepted.{Accepted}
 use Rattle.mt_check.specs.Checks.{Checks, ◌>>=◌}
-use Rattle.mt_check.specs.Definitions.{HasProjections, IsDefinition}
+use Rattle.mt_check.specs.Definitions.{IsDefinition}
 use Rattle.mt_check.specs.FolderChecks.{files_checks, is_known, projection_checks, projection_folders, projections_checks}
+use Rattle.mt_check.specs.OwnNames as own
 use Rattle.mt_check.specs.OwnNames.{base_names, own_names, skip_names_in}
 use Rattle.mt_check.specs.PartFiles.{base_files, file_named, file_names, files_named, inner_files, part_files, part_folder, projection_files}
 use Rattle.mt_check.proofs.AgreeLemmas.{AgreeAt}
 use Rattle.mt_check.proofs.AgreeOnChecks.{part_same, projection_same}
-use Rattle.mt_check.proofs.FileLemmas.{name_is, other_name, same_name}
+use Rattle.mt_check.proofs.FileLemmas.{name_is, same_name}
 use Rattle.mt_check.proofs.TableLemmas.{base_checked, projections_checked}
 
 -- ---- the folder of the files of some names
@@ -120,7 +121,7 @@ projections_same table folder accepted (projection ∷ projections) are =
 -- ---- the part
 
 base_layout : (table : Table) (folder : Folder) → is_compact (folder_of (base_files table folder)) ≡ is_compact folder
-base_layout table folder = same_layout (base_of table) (partition_names table ++ flat_map (skip_names_in (is_compact folder)) table.skips) folder
+base_layout table folder = same_layout (base_of table) (own.partition_files table ++ flat_map (skip_names_in (is_compact folder)) table.skips) folder
 
 -- the files that are read are checked like the part
 pub part_read : (table : Table) (folder : Folder) → files_checks table (folder_of (part_files table folder).base) (map folder_of (part_files table folder).projections) ≡ files_checks table folder (projection_folders table folder)

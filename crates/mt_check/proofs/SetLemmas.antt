@@ -1,12 +1,11 @@
 -- Sets of names, and the first name that isn't in one.
-use Rattle.std.proofs.Common.{◌≡◌, ℕ, ◌+◌, ◌<◌, ◌≤◌, Bool, true, false, ◌||◌, List, [], ◌∷◌, ◌++◌, length, map, take, drop, refl, ap, sym, ◌∙◌, get_or}
-use Rattle.std.specs.Prelude.{Option, Some, None, if◌then◌else◌, Result, Ok, Err}
+use Rattle.std.proofs.Common.{◌≡◌, ℕ, ◌+◌, ◌<◌, ◌≤◌, Bool, true, false, ◌||◌, List, [], ◌∷◌, ◌++◌, length, take, drop, refl, ap, sym, ◌∙◌, get_or}
+use Rattle.std.specs.Prelude.{Some, if◌then◌else◌, Ok}
 use Rattle.std.specs.Borrow.{Bor}
 use Rattle.std.specs.List.{list_any}
 use Rattle.std.specs.Str.{bytes_eq}
 use Rattle.std.proofs.lemmas.List.{take_more, take_all}
 use Rattle.std.proofs.lemmas.List.Folds.{list_any-append}
-use Rattle.std.proofs.lemmas.Map.Text.{is_eq-slice_cmp}
 use Rattle.std.proofs.lemmas.Slice.Eq.{bytes_eq-Decides}
 use Rattle.mt_shelf.specs.declared.fault.Why.TheVariants.{Stray}
 use Rattle.mt_shelf.specs.declared.fault.ReadError.{ReadError}
@@ -17,7 +16,7 @@ use Rattle.mt_check.specs.Faults.{fault_of, none_found}
 use Rattle.mt_check.specs.FolderChecks.{first_unknown, is_known}
 use Rattle.mt_check.specs.Listings.{names_of}
 use Rattle.mt_check.specs.NameSets.{HasNames, is_in}
-use Rattle.mt_check.specs.Results.{FailsAs, Gives, IsFault}
+use Rattle.mt_check.specs.Results.{FailsAs, IsFault}
 use Rattle.mt_check.proofs.FaultLemmas.{fault_gives}
 use Rattle.mt_check.proofs.FileLemmas.{name_is, other_name, same_name}
 use Rattle.mt_check.proofs.LoopLemmas.{at_index, at_end}

@@ -1,13 +1,14 @@
 -- The names of a folder's files that are read.
-use Rattle.std.specs.Prelude.{ℕ, Bool, if◌then◌else◌, List, [], ◌∷◌, ◌++◌}
-use Rattle.std.specs.List.{flat_map}
+use Rattle.std.specs.Prelude.{ℕ, Bool, if◌then◌else◌, ◌==◌, List, [], ◌∷◌, ◌++◌, length, map}
+use Rattle.std.specs.List.{flat_map, list_any}
 use Rattle.mt_table.specs.declared.definition.PartDef.{PartDef}
 use Rattle.mt_table.specs.declared.definition.Table.{Table}
 use Rattle.mt_table.specs.declared.skip.Skip.{Skip}
 use Rattle.mt_defs.specs.Metadata.{columns_name, count_name}
 use Rattle.mt_defs.specs.PrimaryIndex.{index_name}
 use Rattle.mt_defs.specs.Compact.{compact_data_name, compact_marks_name}
-use Rattle.mt_defs.specs.Part.{wide_names, marks_ending, partition_names}
+use Rattle.mt_defs.specs.Part.{wide_names, marks_ending}
+use Rattle.mt_defs.specs.Partition.{minmax_name, partition_name, expression_column}
 use Rattle.mt_defs.specs.Projections.{base_of}
 use Rattle.mt_defs.specs.SkipIndexes.{skip_data_name, skip_marks_name}
 
@@ -23,6 +24,23 @@ own_names definition compact = columns_name ∷ count_name ∷ index_name ∷ da
 abbrev pub skip_names_in : Bool → Skip → List (List ℕ)
 skip_names_in compact skip = skip_data_name skip ∷ skip_marks_name skip (marks_ending compact) ∷ []
 
--- the files of a part in a layout, but for projections and side files
+-- each number once, where it stands last
+abbrev pub each_once : List ℕ → List ℕ
+each_once [] = []
+each_once (x ∷ xs) = if list_any (λ y. y == x) xs then each_once xs else x ∷ each_once xs
+
+-- the columns of a table's partition key, each once
+abbrev pub partition_columns : Table → List ℕ
+partition_columns table = each_once (map expression_column table.partition)
+
+-- the files of a table's partition key, each once
+abbrev pub partition_files : Table → List (List ℕ)
+partition_files table = if length table.partition == 0 then [] else partition_name ∷ map (minmax_name table) (partition_columns table)
+
+-- the files of a part in a layout, each once, but for projections and side files
 abbrev pub base_names : Table → Bool → List (List ℕ)
-base_names table compact = own_names (base_of table) compact ++ (partition_names table ++ flat_map (skip_names_in compact) table.skips)
+base_names table compact = own_names (base_of table) compact ++ (partition_files table ++ flat_map (skip_names_in compact) table.skips)
+
+-- the file of an expression's column, unless a later expression is over the column too
+abbrev pub last_use : Table → ℕ → List ℕ → List (List ℕ)
+last_use table column_index later = if list_any (λ i. i == column_index) later then [] else minmax_name table column_index ∷ []

@@ -9,7 +9,7 @@ use Rattle.mt_table.specs.declared.definition.Table.{Table}
 use Rattle.mt_table.specs.declared.projection.Projection.{Projection}
 use Rattle.mt_defs.specs.Folder.{Folder, folder_below}
 use Rattle.mt_defs.specs.Part.{is_compact}
-use Rattle.mt_defs.specs.Projections.{base_of, inner_of, projection_prefix}
+use Rattle.mt_defs.specs.Projections.{inner_of, projection_prefix}
 use Rattle.mt_check.specs.declared.folder.PartFiles.{PartFiles}
 use Rattle.mt_check.specs.OwnNames.{base_names, own_names}
 

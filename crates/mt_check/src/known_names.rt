@@ -41,7 +41,7 @@ pub(crate) fn known_names(
     ensures { IfOk result (λ names. names.items ≡ defined.known_names table.now (listed_folder listing.now)) }
 {
     let compact = is_compact_below(alloc, listing, b"")?;
-    let mut names = base_names(alloc, table, compact)?;
+    let mut names = part_names(alloc, table, compact)?;
     push_partition_names(alloc, table, &mut names)?;
     push_skip_names(alloc, table, compact, &mut names)?;
     push_projections(alloc, table, listing, &mut names)?;
@@ -49,7 +49,7 @@ pub(crate) fn known_names(
 }
 
 /// The names of the part's own definition, side files among them.
-fn base_names(alloc: Global, table: &Table, compact: bool) -> Result<Vec<List<u8>>, NoMemory>
+fn part_names(alloc: Global, table: &Table, compact: bool) -> Result<Vec<List<u8>>, NoMemory>
     ensures { IfOk result (λ names. names.items ≡ own.own_names (base_of table.now) compact ++ defined.side_names) }
 {
     let definition = table.base(alloc)?;

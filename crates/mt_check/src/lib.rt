@@ -4,6 +4,7 @@
 #![tactic(auto)]
 
 mod accepted;
+mod base_names;
 mod cells;
 mod column_order;
 mod data;

@@ -38,7 +38,12 @@ pub(crate) fn own_names(
     Ok(names)
 }
 
-fn push_name(alloc: Global, name: &[u8], names: &mut Vec<List<u8>>) -> Result<(), NoMemory>
+/// Appends a name.
+pub(crate) fn push_name(
+    alloc: Global,
+    name: &[u8],
+    names: &mut Vec<List<u8>>,
+) -> Result<(), NoMemory>
     ensures { OnOk result (names.new.items ≡ names.old.items ++ name.now ∷ []) }
 {
     names.push(List::of_bytes(alloc, name)?)?;
@@ -75,21 +80,6 @@ fn push_column_names(
         names.push(with_ending(alloc, stream.as_slice(), b".mrk2")?)?;
     }
     Ok(())
-}
-
-/// The files of a part that are read, but for those of projections; `compact` is its layout.
-pub(crate) fn base_names(
-    alloc: Global,
-    table: &Table,
-    compact: bool,
-) -> Result<Vec<List<u8>>, NoMemory>
-    ensures { IfOk result (λ names. names.items ≡ defined.base_names table.now compact) }
-{
-    let definition = table.base(alloc)?;
-    let mut names = own_names(alloc, &definition, compact)?;
-    push_partition_names(alloc, table, &mut names)?;
-    push_skip_names(alloc, table, compact, &mut names)?;
-    Ok(names)
 }
 
 /// Appends the names of the partition's files.

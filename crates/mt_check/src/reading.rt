@@ -11,10 +11,11 @@ ghost use Rattle.mt_check.specs.Listings.{listed_folder};
 ghost use Rattle.mt_check.specs.OwnNames as own;
 ghost use Rattle.mt_check.specs.PartFiles.{HaveSameNames, base_files, file_names, part_files, part_folder, projection_files};
 
+use crate::base_names::base_names;
 use crate::folder::PartFiles;
 use crate::listing::is_compact_below;
 use crate::named_files::read_named;
-use crate::own_names::{base_names, own_names};
+use crate::own_names::own_names;
 use crate::projection::prefix_at;
 use mt_shelf::{CallError, Entry, FileBytes, Shelf};
 use mt_table::Table;

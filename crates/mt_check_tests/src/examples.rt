@@ -68,6 +68,26 @@ pub const MONTH: Part = Part {
     projection: &[],
 };
 
+/// A day in a partition key of the day and its month.
+pub const DAY: Part = Part {
+    table: "CREATE TABLE t (d Date, k UInt8) ENGINE = MergeTree PARTITION BY (d, toYYYYMM(d)) ORDER BY k",
+    files: &[
+        (
+            "columns.txt",
+            Bytes(b"columns format version: 1\n2 columns:\n`d` Date\n`k` UInt8\n"),
+        ),
+        ("count.txt", Bytes(b"1")),
+        ("d.bin", Frames(&[b"\x0b\x4d"])),
+        ("d.mrk2", Numbers(&[0, 0, 1, 27, 0, 0])),
+        ("k.bin", Frames(&[b"\x01"])),
+        ("k.mrk2", Numbers(&[0, 0, 1, 26, 0, 0])),
+        ("minmax_d.idx", Bytes(b"\x0b\x4d\x0b\x4d")),
+        ("partition.dat", Bytes(b"\x0b\x4d\xa1\x16\x03\0")),
+        ("primary.idx", Bytes(b"\x01\x01")),
+    ],
+    projection: &[],
+};
+
 /// A set index over two granules an entry, and a minmax index.
 pub const INDEXED: Part = Part {
     table: "CREATE TABLE t (k UInt8, x UInt8, INDEX i x TYPE set(2) GRANULARITY 2, INDEX j k TYPE minmax) ENGINE = MergeTree ORDER BY k",

@@ -1,6 +1,6 @@
 //! Parts that stand for rows.
 
-use crate::examples::{COMPACT, INDEXED, MONTH, PROJECTED, WIDE};
+use crate::examples::{COMPACT, DAY, INDEXED, MONTH, PROJECTED, WIDE};
 use crate::files::Content::{Bytes, Frames, Numbers};
 use crate::files::File;
 use crate::parts::text_of;
@@ -15,6 +15,7 @@ fn parts_are_accepted(rt: HostRuntime) -> Result<(), Fail> {
         (WIDE, THREE),
         (COMPACT, THREE),
         (MONTH, "2024-01-01\t1\n2024-01-31\t2\n1 1 "),
+        (DAY, "2024-01-01\t1\n1 "),
         (INDEXED, "1\t7\n2\t8\n3\t9\n1 1 1 "),
         (PROJECTED, "1\t18446744073709551615\n1\t2\n2 "),
     ] {

@@ -48,6 +48,18 @@ pub fn shelf_text_of(
     written(alloc, table.columns.as_slice(), checked)
 }
 
+/// How many bytes a check of a part takes from the shelf. Other files are there too.
+pub fn bytes_taken_of(alloc: Global, part: &Part, more: &[&str]) -> Result<u64, Fail> {
+    let table = Table::read(alloc, part.table.as_bytes())?;
+    let files = files_on(alloc, part, &[], &[], more)?;
+    let mut shelf = MemShelf::new(alloc, files, List::new(alloc), READ_BYTES);
+    if !is_path(PART) {
+        return Err(Fail::new("no path"));
+    }
+    check_part(alloc, &mut shelf, &table, PART)?;
+    Ok(shelf.bytes_taken())
+}
+
 /// The files of a part by their paths.
 fn files_on(
     alloc: Global,

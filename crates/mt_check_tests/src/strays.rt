@@ -1,10 +1,10 @@
-//! Names that a part may have besides its own files, and those that it may not; and a shelf that fails.
+//! Names that a part may have besides its own files, and those that it may not; what is read, and a shelf that fails.
 
-use crate::examples::{COMPACT, INDEXED, PROJECTED, WIDE};
+use crate::examples::{COMPACT, DAY, INDEXED, PROJECTED, WIDE};
 use crate::files::Content::Absent;
 use crate::files::File;
 use crate::parts::Part;
-use crate::shelf::shelf_text_of;
+use crate::shelf::{bytes_taken_of, shelf_text_of};
 use std::test::Fail;
 
 /// A part, what is changed in its files, files that are there too, and what a check answers.
@@ -60,6 +60,18 @@ fn a_shelf_that_fails_is_no_fault(rt: HostRuntime) -> Result<(), Fail> {
     for call in [1, 2, 9] {
         let found = shelf_text_of(rt.alloc(), &WIDE, &[], &[], &["a"], &[call])?;
         assert_eq!(rt; found.as_slice(), "Shelf".as_bytes());
+    }
+    Ok(())
+}
+
+/// Parts and the bytes of their files together.
+const SIZES: &[(Part, u64)] = &[(WIDE, 334), (DAY, 218), (PROJECTED, 579)];
+
+#[test]
+fn each_file_is_read_once(rt: HostRuntime) -> Result<(), Fail> {
+    for (part, size) in SIZES {
+        let taken = bytes_taken_of(rt.alloc(), part, &["uuid.txt"])?;
+        assert_eq!(rt; taken, *size);
     }
     Ok(())
 }

@@ -1,4 +1,4 @@
-use Rattle.std.proofs.Common.{◌++◌, ◌∙◌, ap, map, sym, subst, List}
+use Rattle.std.proofs.Common.{◌++◌, ◌∙◌, ap, sym, subst, List}
 use Rattle.std.proofs.lemmas.Result.{IfOk-equal}
 use Rattle.mt_table.specs.Stored.{no_projection, projection_at}
 use Rattle.mt_defs.specs.Folder.{folder_below}
