@@ -3,6 +3,9 @@
 ghost use Rattle.std.specs.Prelude.{◌≡◌, ◌≤◌, All, IfOk, IfSome, IsTrue, map};
 ghost use Rattle.std.specs.FinMap.{get};
 ghost use Rattle.std.specs.List.{sum_by};
+ghost use Rattle.mt_defs.specs.Partition.{HaveOnePartition};
+ghost use Rattle.mt_defs.specs.Projections.{base_of};
+ghost use Rattle.mt_defs.specs.Rows.{ArePartRows};
 ghost use Rattle.mt_shelf.specs.Files.{IsListing, entries_below};
 ghost use Rattle.mt_shelf.specs.Paths.{is_path, joined_path};
 ghost use Rattle.mt_shelf.specs.State.{files_of};
@@ -53,6 +56,8 @@ pub fn check<F: Shelf>(
     requires known { IfSome (files_of (F.state shelf.old)) (λ files. listing.now ≡ entries_below part.now files) }
     ensures answers { IfSome (files_of (F.state shelf.old)) (λ files. AnswersFrom result
         (folder_checks table.now (λ name. get files (joined_path part.now name)) (map (λ entry. entry.name) listing.now))) }
+    ensures rows { IfOk result (λ accepted. ArePartRows (base_of table.now) accepted.rows) }
+    ensures one { IfOk result (λ accepted. HaveOnePartition table.now accepted.rows) }
     ensures fit { IfOk result (λ accepted. All (RowFits table.now.columns) accepted.rows) }
     ensures files { files_of (F.state shelf.new) ≡ files_of (F.state shelf.old) }
     ensures cause { ReadFails (F.faults shelf.old) (F.faults shelf.new) result }
