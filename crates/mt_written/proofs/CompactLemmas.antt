@@ -44,7 +44,7 @@ granule_encoded columns rows hold =
     Pointwise-mapped R (payload_of rows) (enumerate_from 0 columns)
     (All-weaker (λ (k, column). ColumnHolds column k rows) (λ p. R p (payload_of rows p)) (λ p holds. (written_streams p.1.ty (column_values p.0 rows), column_encodes p.1 p.0 rows holds, refl)) (enumerate_from 0 columns) hold)
 
-joined_bytes : (streams : List (List ℕ)) → All AreBytes streams → AreBytes (concat streams)
+pub joined_bytes : (streams : List (List ℕ)) → All AreBytes streams → AreBytes (concat streams)
 joined_bytes [] bytes = All-nil (λ byte. byte < 256)
 joined_bytes (stream ∷ streams) bytes = All-append (λ byte. byte < 256) stream (concat streams) (All-head AreBytes stream streams bytes) (joined_bytes streams (All-tail AreBytes stream streams bytes))
 

@@ -163,7 +163,7 @@ with_each P R [] all each = tt
 with_each P R (x ∷ xs) all each =
     (All-both P (R x) (λ y. P x × P y × R x y) (λ y p r. (All-head P x xs all, p, r)) xs (All-tail P x xs all) each.0, with_each P R xs (All-tail P x xs all) each.1)
 
-wide_apart : (columns : List Column) (rows : List Row) (granules : List ℕ) → AreOwn columns → AreApart (wide_files columns rows granules)
+pub wide_apart : (columns : List Column) (rows : List Row) (granules : List ℕ) → AreOwn columns → AreApart (wide_files columns rows granules)
 wide_apart columns rows granules own =
     let Profile : Column → Type 0 = λ column. IsTrue (is_profile column.ty) in
     let Both : Column → Column → Type 0 = λ a b. Profile a × Profile b × (a.name ≢ b.name) in
@@ -202,7 +202,7 @@ of_compact P columns rows granules one two = All-two P (compact_data columns row
 compact_named : (columns : List Column) (rows : List Row) (granules : List ℕ) → All IsData (compact_files columns rows granules)
 compact_named columns rows granules = of_compact IsData columns rows granules (record { no_slash = refl; ends = refl }) (record { no_slash = refl; ends = refl })
 
-compact_apart : (columns : List Column) (rows : List Row) (granules : List ℕ) → AreApart (compact_files columns rows granules)
+pub compact_apart : (columns : List Column) (rows : List Row) (granules : List ℕ) → AreApart (compact_files columns rows granules)
 compact_apart columns rows granules = ((refl, tt), (tt, tt))
 
 pub data_are : (columns : List Column) (rows : List Row) (granules : List ℕ) (compact : Bool) → All (λ column. IsTrue (is_profile column.ty)) columns → All IsData (data_files columns rows granules compact)

@@ -67,7 +67,7 @@ pub layout_is : (columns : List Column) (rows : List Row) (granules : List ℕ) 
 layout_is columns rows granules folder true none files = ap (λ (o : Option (List ℕ)). is_some o) (files 1 no_file (lit< tt))
 layout_is columns rows granules folder false none files = ap (λ (o : Option (List ℕ)). is_some o) (none refl)
 
-granules_of : (columns : List Column) (granules : List ℕ) (rows : List Row) → All (λ column. IsTrue (is_profile column.ty)) columns → All (RowFits columns) rows → HoldBytes rows
+pub granules_of : (columns : List Column) (granules : List ℕ) (rows : List Row) → All (λ column. IsTrue (is_profile column.ty)) columns → All (RowFits columns) rows → HoldBytes rows
     → All (λ granule. All (λ (column_index, column). ColumnHolds column column_index granule) (enumerate_from 0 columns)) (granule_rows granules rows)
 granules_of columns granules rows types fit bytes =
     let Bytes : Row → Type 0 = λ row. IsTrue (list_all holds_bytes row) in

@@ -26,3 +26,5 @@ pub mod StandLemmas
 pub mod TextLemmas
 pub mod PlainPaths
 pub mod PathLemmas
+pub mod FileByteLemmas
+pub mod ReadAgainLemmas

@@ -1,7 +1,8 @@
 -- The writer's folder of writable rows stands for these rows.
 use Rattle.std.proofs.Common.{◌≡◌, ◌≢◌, ℕ, suc, ◌<◌, ◌≤◌, List, [], ◌∷◌, ◌++◌, length, get_or, refl, sym, subst, arith}
-use Rattle.std.specs.Prelude.{All, AllPairs}
+use Rattle.std.specs.Prelude.{All, AllPairs, IsTrue}
 use Rattle.std.proofs.lemmas.List.Elements.{All-weaker}
+use Rattle.mt_types.specs.Profile.{is_profile}
 use Rattle.mt_shelf.specs.declared.file.FileBytes.{FileBytes}
 use Rattle.mt_table.specs.declared.column.Column.{Column}
 use Rattle.mt_table.specs.declared.definition.Table.{Table}
@@ -39,13 +40,16 @@ use Rattle.mt_written.proofs.KnownLemmas.{Layouts, names_known}
 
 -- ---- one definition
 
-own_of : (definition : PartDef) → IsStored definition → AreOwn definition.columns
-own_of definition stored = record { differ = later definition.columns stored.names; types = stored.types }
+pub own_columns : (columns : List Column) → AllPairs (λ a b. a.name ≢ b.name) columns → All (λ column. IsTrue (is_profile column.ty)) columns → AreOwn columns
+own_columns columns names types = record { differ = later columns names; types = types }
   where
     later : (columns : List Column) → AllPairs (λ a b. a.name ≢ b.name) columns → EachLater (λ a b. a.name ≢ b.name) columns
     later [] pairs = tt
     later (column ∷ columns) pairs =
         (λ k d inside. pairs 0 (suc k) d (omega arith) (omega (arith, inside)), later columns (λ i j d low inside. pairs (suc i) (suc j) d (omega (arith, low)) (omega (arith, inside))))
+
+own_of : (definition : PartDef) → IsStored definition → AreOwn definition.columns
+own_of definition stored = own_columns definition.columns stored.names stored.types
 
 stored_of : (definition : PartDef) → AreOwn definition.columns → IsStored definition
 stored_of definition own = record { names = pairs_of (λ a b. a.name ≢ b.name) definition.columns own.differ; types = own.types }

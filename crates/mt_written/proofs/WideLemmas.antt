@@ -100,7 +100,7 @@ stream_at [] i bytes = All-nil (λ byte. byte < 256)
 stream_at (stream ∷ streams) zero bytes = All-head AreBytes stream streams bytes
 stream_at (stream ∷ streams) (suc i) bytes = stream_at streams i (All-tail AreBytes stream streams bytes)
 
-payloads_bytes : (i : ℕ) (granules : List (List (List ℕ))) → All (All AreBytes) granules → All AreBytes (stream_payloads i granules)
+pub payloads_bytes : (i : ℕ) (granules : List (List (List ℕ))) → All (All AreBytes) granules → All AreBytes (stream_payloads i granules)
 payloads_bytes i [] bytes = All-nil AreBytes
 payloads_bytes i (streams ∷ granules) bytes =
     All-cons AreBytes (get_or streams i []) (stream_payloads i granules) (stream_at streams i (All-head (All AreBytes) streams granules bytes)) (payloads_bytes i granules (All-tail (All AreBytes) streams granules bytes))

@@ -1,9 +1,11 @@
 //! Laws of the writer's folder, each the contract of a function that does nothing.
 
-ghost use Rattle.std.specs.Prelude.{◌≡◌, ◌≢◌, ℕ, List, Some, All, AllPairs};
+ghost use Rattle.std.specs.Prelude.{◌≡◌, ◌≢◌, ◌≤◌, ℕ, List, length, Ok, Some, All, AllPairs};
 ghost use Rattle.mt_shelf.specs.Held.{HasName};
+ghost use Rattle.mt_table.specs.declared.column.Column.{Column};
 ghost use Rattle.mt_table.specs.declared.definition.PartDef.{PartDef};
 ghost use Rattle.mt_table.specs.declared.definition.Table.{Table};
+ghost use Rattle.mt_table.specs.declared.limits.TheConstants.{MAX_COLUMNS};
 ghost use Rattle.mt_table.specs.declared.settings.Settings.{Settings};
 ghost use Rattle.mt_defs.specs.Folder.{folder_of};
 ghost use Rattle.mt_defs.specs.Frames.{IsFramed};
@@ -12,14 +14,32 @@ ghost use Rattle.mt_defs.specs.Part.{HoldsRows, StandsFor};
 ghost use Rattle.mt_defs.specs.Projections.{base_of, inner_of};
 ghost use Rattle.mt_defs.specs.Rows.{Row, ArePartRows};
 ghost use Rattle.mt_defs.specs.Writer.{IsWritable, definition_files, written_folder};
+ghost use Rattle.mt_defs.specs.WrittenColumns.{compact_files, wide_files};
 ghost use Rattle.mt_defs.specs.WrittenFrames.{written_frames};
 ghost use Rattle.mt_defs.specs.WrittenGranules.{written_granules};
+ghost use Rattle.mt_wide.specs.WideReading.{wide_reading};
+ghost use Rattle.mt_compact.specs.CompactReading.{compact_reading};
+ghost use Rattle.mt_written.specs.Layouts.{AreLaidOut, AreShort, HaveNames};
 ghost use Rattle.mt_written.specs.Stored.{IsStored};
 ghost use Rattle.mt_written.specs.Texts.{HoldBytes};
 
 /// The writer's frames of a payload are frames of this payload.
 pub fn written_frames_have_their_payload()
     ensures { (payload : List ℕ) → AreBytes payload → IsFramed payload (written_frames payload) }
+{}
+
+/// The writer's Wide files of rows over any granules are read as these rows and granules.
+pub fn written_wide_files_are_read()
+    ensures { (columns : List Column) (rows : List Row) (granules : List ℕ)
+        → AreLaidOut columns rows granules → HaveNames columns → AreShort (wide_files columns rows granules)
+        → wide_reading (folder_of (wide_files columns rows granules)) (length rows) columns ≡ Ok (rows, granules) }
+{}
+
+/// The writer's Compact files of rows over any granules are read as these rows and granules.
+pub fn written_compact_files_are_read()
+    ensures { (columns : List Column) (rows : List Row) (granules : List ℕ)
+        → AreLaidOut columns rows granules → length columns ≤ MAX_COLUMNS → AreShort (compact_files columns rows granules)
+        → compact_reading (folder_of (compact_files columns rows granules)) (length rows) columns ≡ Ok (rows, granules) }
 {}
 
 /// What each folder of a table stores has columns of different names and of types of the profile.

@@ -8,8 +8,8 @@ mod law;
 mod rows;
 
 pub use law::{
-    definitions_are_stored, written_definition_holds_rows, written_files_are_found,
-    written_folder_stands, written_frames_have_their_payload, written_names_are_paths,
-    written_names_differ,
+    definitions_are_stored, written_compact_files_are_read, written_definition_holds_rows,
+    written_files_are_found, written_folder_stands, written_frames_have_their_payload,
+    written_names_are_paths, written_names_differ, written_wide_files_are_read,
 };
 pub use rows::{know_rows, rows_stand};
