@@ -1,5 +1,5 @@
 -- The command `select`: docs/CLI.md.
-use Rattle.std.specs.Prelude.{◌≡◌, ℕ, List, Result, Ok, Err}
+use Rattle.std.specs.Prelude.{◌≡◌, ℕ, List, Ok, Err}
 use Rattle.mt_table.specs.declared.definition.Table.{Table}
 use Rattle.mt_query.specs.declared.query.Query.{Query}
 use Rattle.mt_query.specs.declared.why.QueryWhy.{QueryWhy}
@@ -9,7 +9,6 @@ use Rattle.mt_shelf.specs.Files.{Files}
 use Rattle.mt_command.specs.Outcomes.{Outcomes, ◌>>=◌, gives}
 use Rattle.mt_command.specs.Parts.{part_steps}
 use Rattle.mt_command.specs.Tables.{table_in}
-use Rattle.mt_command.specs.declared.status.Status.{Status}
 use Rattle.mt_command.specs.declared.status.Status.TheVariants.{BadQuery}
 
 -- what a text asks of a table: its query, or the first rule that it breaks
