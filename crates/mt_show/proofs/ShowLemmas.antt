@@ -78,7 +78,7 @@ listed_given table part listing files accepted text (Some f) is are accepts made
     let whole = whole_answers table part listing (Some f) files answer is are accepts in
     let folder = part_folder part f in
     let same : text ≡ folder_text table folder accepted =
-        made ∙ ap (λ (fs : PartFiles). show_text table (shape_in table (folder_of fs.base) (map folder_of fs.projections)) accepted) are ∙ ap (λ (shape : Shape). show_text table shape accepted) (shape_same table folder) in
+    made ∙ ap (λ (fs : PartFiles). show_text table (shape_in table (folder_of fs.base) (map folder_of fs.projections)) accepted) are ∙ ap (λ (shape : Shape). show_text table shape accepted) (shape_same table folder) in
     inl (accepted, checks_listed table part listing (Ok accepted) (Some f) is whole, ok_is text (folder_text table folder accepted) same)
   where
     ok_is : (a b : List ℕ) → a ≡ b → (let r : Result (List ℕ) Status = Ok a in r) ≡ Ok b

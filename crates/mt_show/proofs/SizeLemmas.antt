@@ -19,9 +19,9 @@ sizes_step table folders i files bytes size out new whole long inside at same is
     let left : drop i folders ≡ files ∷ drop (i + 1) folders = drop_more folders i files inside ∙ ap (λ (f : List FileBytes). f ∷ drop (i + 1) folders) (sym at) in
     let here : size ≡ size_in table (projection_at table i) (folder_of files) = is ∙ ap (λ (f : List FileBytes). size_in table (projection_at table i) (folder_of f)) same in
     let both : sizes_in table (drop i table.projections) (map folder_of (drop i folders)) ≡ size ∷ rest =
-        ap (λ (ps : List Projection). sizes_in table ps (map folder_of (drop i folders))) projections
-        ∙ ap (λ (fs : List (List FileBytes)). sizes_in table (projection_at table i ∷ drop (i + 1) table.projections) (map folder_of fs)) left
-        ∙ ap (λ (s : Size). s ∷ rest) (sym here) in
+    ap (λ (ps : List Projection). sizes_in table ps (map folder_of (drop i folders))) projections
+    ∙ ap (λ (fs : List (List FileBytes)). sizes_in table (projection_at table i ∷ drop (i + 1) table.projections) (map folder_of fs)) left
+    ∙ ap (λ (s : Size). s ∷ rest) (sym here) in
     ap (λ (l : List Size). l ++ rest) pushed ∙ append_assoc out (size ∷ []) rest ∙ ap (λ (l : List Size). out ++ l) (sym both) ∙ so_far
 
 pub one_longer : (out new : List Size) (size : Size) (i : ℕ) → new ≡ out ++ size ∷ [] → length out ≡ i → length new ≡ i + 1

@@ -15,7 +15,7 @@ projections_step projections sizes i projection e out new whole long known is_pr
     let first : drop i projections ≡ projection ∷ drop (i + 1) projections = drop_more projections i projection (omega (arith, long, known)) ∙ ap (λ (p : Projection). p ∷ drop (i + 1) projections) (sym is_projection) in
     let second : drop i sizes ≡ size ∷ drop (i + 1) sizes = drop_more sizes i e known in
     let both : projection_lines (drop i projections) (drop i sizes) ≡ projection_line projection size ++ rest =
-        ap (λ (ps : List Projection). projection_lines ps (drop i sizes)) first ∙ ap (λ (ss : List Size). projection_lines (projection ∷ drop (i + 1) projections) ss) second in
+    ap (λ (ps : List Projection). projection_lines ps (drop i sizes)) first ∙ ap (λ (ss : List Size). projection_lines (projection ∷ drop (i + 1) projections) ss) second in
     ap (λ (l : List ℕ). l ++ rest) line ∙ append_assoc out (projection_line projection size) rest ∙ ap (λ (l : List ℕ). out ++ l) (sym both) ∙ so_far
 
 -- four texts that were appended, one after another

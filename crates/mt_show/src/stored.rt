@@ -92,7 +92,11 @@ pub(crate) fn append_projections(
     Ok(())
 }
 
-fn append_projection(projection: &Projection, size: Size, out: &mut List<u8>) -> Result<(), NoMemory>
+fn append_projection(
+    projection: &Projection,
+    size: Size,
+    out: &mut List<u8>,
+) -> Result<(), NoMemory>
     ensures { OnOk result (out.new ≡ out.old ++ projection_line projection.now size) }
 {
     match projection {

@@ -73,7 +73,11 @@ fn append_stored(
 {
     append_columns(alloc, table.columns.as_slice(), shape.order.as_slice(), out)?;
     append_skips(table.skips.as_slice(), out)?;
-    append_projections(table.projections.as_slice(), shape.projections.as_slice(), out)
+    append_projections(
+        table.projections.as_slice(),
+        shape.projections.as_slice(),
+        out,
+    )
 }
 
 /// Appends the granules, and the last row.
@@ -86,6 +90,12 @@ fn append_rows(
     requires { length key.now.columns ≡ length key.now.places }
     ensures { OnOk result (out.new ≡ out.old ++ row_lines key.now accepted.now) }
 {
-    append_granules(alloc, key, accepted.granules.as_slice(), accepted.rows.as_slice(), out)?;
+    append_granules(
+        alloc,
+        key,
+        accepted.granules.as_slice(),
+        accepted.rows.as_slice(),
+        out,
+    )?;
     append_last(alloc, key, accepted.rows.as_slice(), out)
 }
