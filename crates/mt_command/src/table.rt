@@ -53,11 +53,7 @@ fn table_of(alloc: Global, text: &[u8]) -> Result<Table, Status>
 }
 
 /// Reads the table of a file.
-pub fn read_table<F: Shelf>(
-    alloc: Global,
-    shelf: &mut F,
-    path: &str,
-) -> Result<Table, Status>
+pub fn read_table<F: Shelf>(alloc: Global, shelf: &mut F, path: &str) -> Result<Table, Status>
     requires { IsTrue (is_path path.now) }
     ensures gives { IfSome (files_of (F.state shelf.old)) (λ files. Gives result (table_in path.now files)) }
     ensures files { files_of (F.state shelf.new) ≡ files_of (F.state shelf.old) }

@@ -5,8 +5,7 @@ ghost use Rattle.mt_command.specs.Status.{Gives};
 ghost use Rattle.mt_command.specs.Steps.{StepCausedBy, of_source};
 ghost use Rattle.mt_run.specs.Write.{input_text};
 
-use mt_command::MAX_INPUT;
-use mt_command::{Status, What, status_of_source};
+use mt_command::{MAX_INPUT, Status, What, status_of_source};
 use mt_shelf::{Input, Source, read_all};
 use mt_types::List;
 use std::alloc::Global;

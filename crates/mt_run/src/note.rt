@@ -3,10 +3,10 @@ ghost use Rattle.std.specs.Prelude.{◌≡◌, ◌++◌, IfOk, OnOk, codes, deci
 ghost use Rattle.mt_run.specs.Notes.{fault_text, granule_text, line_of, offset_text, query_why_name, row_why_name};
 ghost use Rattle.mt_run.specs.Notes.{table_why_name, what_name, why_name};
 
-use mt_command::{Status, What};
 use itoa::Buffer;
-use mt_shelf::{Fault, Why};
+use mt_command::{Status, What};
 use mt_query::QueryWhy;
+use mt_shelf::{Fault, Why};
 use mt_table::TableWhy;
 use mt_tsv::RowWhy;
 use mt_types::{List, NoMemory};

@@ -123,7 +123,5 @@ pub(crate) fn write<R: Threads + Sync, S: Source, K: Sink, F: Shelf, G: Gate + S
         (world (S.left input.new) (K.written output.new) (files_of (F.state shelf.new))
         (S.faults input.new) (K.faults output.new) (F.faults shelf.new)) result }
 {
-    finished(write_steps(
-        rt, alloc, path, part, workers, input, output, shelf, gate,
-    ))
+    finished(write_steps(rt, alloc, path, part, workers, input, output, shelf, gate))
 }
