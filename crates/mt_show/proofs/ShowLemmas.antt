@@ -9,12 +9,10 @@ use Rattle.mt_table.specs.declared.definition.Table.{Table}
 use Rattle.mt_defs.specs.Folder.{folder_of}
 use Rattle.mt_check.specs.declared.accepted.Accepted.{Accepted}
 use Rattle.mt_check.specs.declared.folder.PartFiles.{PartFiles}
-use Rattle.mt_check.specs.FolderChecks.{projection_folders}
 use Rattle.mt_check.specs.Listings.{listed_checks}
 use Rattle.mt_check.specs.PartFiles.{part_files, part_folder}
 use Rattle.mt_check.proofs.PartLemmas.{whole_answers}
 use Rattle.mt_command.specs.Outcomes.{Outcomes, ◌>>=◌, Returns, gives, refused_by}
-use Rattle.mt_command.specs.Parts.{part_checks}
 use Rattle.mt_command.specs.Status.{Gives, is_outside}
 use Rattle.mt_command.specs.declared.status.Status.{Status}
 use Rattle.mt_command.specs.declared.status.Status.TheVariants.{AtFault}

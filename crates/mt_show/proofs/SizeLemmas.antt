@@ -1,11 +1,11 @@
 -- The sizes of projections, one after another.
-use Rattle.std.proofs.Common.{◌≡◌, ℕ, ◌+◌, ◌<◌, List, [], ◌∷◌, ◌++◌, drop, get_or, length, map, refl, sym, ap, subst, ◌∙◌}
+use Rattle.std.proofs.Common.{◌≡◌, ℕ, ◌+◌, ◌<◌, List, [], ◌∷◌, ◌++◌, drop, get_or, length, map, sym, ap, subst, ◌∙◌}
 use Rattle.std.proofs.lemmas.List.{append_assoc, drop_more, length-append}
 use Rattle.mt_shelf.specs.declared.file.FileBytes.{FileBytes}
 use Rattle.mt_table.specs.declared.definition.Table.{Table}
 use Rattle.mt_table.specs.declared.projection.Projection.{Projection}
 use Rattle.mt_table.specs.Stored.{no_projection, projection_at}
-use Rattle.mt_defs.specs.Folder.{Folder, folder_of}
+use Rattle.mt_defs.specs.Folder.{folder_of}
 use Rattle.mt_show.specs.declared.shape.Size.{Size}
 use Rattle.mt_show.specs.Shape.{size_in, sizes_in}
 
