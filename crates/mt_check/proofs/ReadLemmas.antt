@@ -65,7 +65,7 @@ each_name : (P : List ℕ → Type 0) (names : List (List ℕ)) → ((name : Lis
 each_name P [] at = tt
 each_name P (x ∷ names) at = (at x (ap (λ b. b || is_known names x) (same_name x x refl)), each_name P names (λ name known. at name (or_right (is_name x name) (is_known names name) known)))
 
-agrees : (folder : Folder) (names : List (List ℕ)) → AgreeAt (folder_of (files_named folder names)) folder names
+pub agrees : (folder : Folder) (names : List (List ℕ)) → AgreeAt (folder_of (files_named folder names)) folder names
 agrees folder names = each_name (λ name. folder_of (files_named folder names) name ≡ folder name) names (λ name known. only_named folder names name ∙ ap (λ b. if b then folder name else None) known)
 
 -- ---- its layout
@@ -97,7 +97,7 @@ no_more : (names : List (List ℕ)) → names ++ [] ≡ names
 no_more [] = refl
 no_more (name ∷ names) = ap (λ (ns : List (List ℕ)). name ∷ ns) (no_more names)
 
-inner_layout : (table : Table) (projection : Projection) (folder : Folder) → is_compact (folder_of (inner_files table projection folder)) ≡ is_compact folder
+pub inner_layout : (table : Table) (projection : Projection) (folder : Folder) → is_compact (folder_of (inner_files table projection folder)) ≡ is_compact folder
 inner_layout table projection folder =
     let own = own_names (inner_of table projection) (is_compact folder) in
     ap (λ names. is_compact (folder_of (files_named folder names))) (sym (no_more own)) ∙ same_layout (inner_of table projection) [] folder
@@ -120,7 +120,7 @@ projections_same table folder accepted (projection ∷ projections) are =
 
 -- ---- the part
 
-base_layout : (table : Table) (folder : Folder) → is_compact (folder_of (base_files table folder)) ≡ is_compact folder
+pub base_layout : (table : Table) (folder : Folder) → is_compact (folder_of (base_files table folder)) ≡ is_compact folder
 base_layout table folder = same_layout (base_of table) (own.partition_files table ++ flat_map (skip_names_in (is_compact folder)) table.skips) folder
 
 -- the files that are read are checked like the part

@@ -22,7 +22,7 @@ use std::alloc::Global;
 
 /// The rows and granules that a definition's folder holds, or its first fault (docs/FORMAT.md, "The first
 /// fault"). It never returns `Shelf`.
-pub(crate) fn read_definition(
+pub fn read_definition(
     alloc: Global,
     definition: &PartDef,
     files: &[FileBytes],

@@ -32,8 +32,10 @@ mod strays;
 mod texts;
 
 pub use accepted::Accepted;
+pub use definition::read_definition;
 pub use folder::{PartFiles, check_files};
 pub use law::{folders_have_one_answer, partitions_are_checked};
-pub use part_on_shelf::check;
+pub use part_on_shelf::{check, check_listed};
 pub use reading::read_part;
 pub use strays::check_names;
+pub use texts::read_order;

@@ -21,7 +21,7 @@ const COLUMNS_FILE: &[u8] = b"columns.txt";
 pub(crate) const COUNT_FILE: &[u8] = b"count.txt";
 
 /// The columns in the order of the folder's files, by their places in the definition.
-pub(crate) fn read_order(
+pub fn read_order(
     alloc: Global,
     definition: &PartDef,
     files: &[FileBytes],

@@ -43,7 +43,7 @@ fn no_part(alloc: Global, part: &str) -> Status
 }
 
 /// The refusal of a part at fault.
-fn at_fault(alloc: Global, part: &str, fault: Fault) -> Status
+pub fn at_fault(alloc: Global, part: &str, fault: Fault) -> Status
     ensures { IsNamed (AtFault part.now fault) result }
 {
     match List::of_bytes(alloc, part.as_bytes()) {

@@ -1,0 +1,4 @@
+pub mod ShapeLemmas
+pub mod ShowLemmas
+pub mod SizeLemmas
+pub mod TextLemmas
