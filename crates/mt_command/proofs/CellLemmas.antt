@@ -41,6 +41,7 @@ use Rattle.mt_build.proofs.DefinitionLemmas.{HasColumn, key_columns, key_scalar}
 use Rattle.mt_build.proofs.InnerLemmas.{kept_grouped, projections_kept}
 use Rattle.mt_build.proofs.ProjectionRowLemmas.{All-distinct_by, cell_fits}
 use Rattle.mt_command.specs.Targets.{has_many_cells}
+use Rattle.mt_command.proofs.RowLemmas.{row_length}
 
 -- ---- projections of some columns
 
@@ -56,13 +57,6 @@ chosen_least g keep xs d a (suc n) within =
       | true ↦ omega (arith, later, here, one)
       | false ↦ omega (arith, later, here)
     ]
-
--- a row of so many columns
-pub row_length : (columns : List Column) (row : Row) → RowFits columns row → length row ≡ length columns
-row_length [] [] fits = refl
-row_length [] (value ∷ row) fits = absurd fits
-row_length (column ∷ columns) [] fits = absurd fits
-row_length (column ∷ columns) (value ∷ row) fits = ap suc (row_length columns row fits.1)
 
 -- the elements of a row's stored values
 fewer_elements : (table : Table) (chosen : List ℕ) (row : Row) → RowFits table.columns row → sum_by element_count (key_of (stored_columns table chosen) row) ≤ sum_by element_count row

@@ -4,3 +4,5 @@ pub mod FolderLemmas
 pub mod PartLemmas
 pub mod ProjectionParts
 pub mod RefusedLemmas
+pub mod ReportedLemmas
+pub mod RowLemmas

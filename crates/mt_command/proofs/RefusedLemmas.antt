@@ -49,48 +49,48 @@ never_rose : {A : Type 0} → Rose 0 0 → A
 never_rose rose = absurd (omega (arith, rose))
 
 -- a step that uses the shelf alone
-pub shelf_cause : {A : Type 0} (plan : Plan) (status : Status) (left left' written written' : Option (List ℕ)) (files files' : Option Files) (a b c c' : ℕ)
+pub shelf_cause : (A : Type 0) (plan : Plan) (status : Status) (left left' written written' : Option (List ℕ)) (files files' : Option Files) (a b c c' : ℕ)
     → StepCausedBy (let r : Result A Status = Err status in r) (of_shelf c) (of_shelf c') → CausedBy plan (world left written files a b c) (world left' written' files' a b c') status
-shelf_cause plan Done left left' written written' files files' a b c c' cause = absurd cause
-shelf_cause plan SourceFault left left' written written' files files' a b c c' cause = never_rose cause.0
-shelf_cause plan SinkFault left left' written written' files files' a b c c' cause = never_rose cause.0
-shelf_cause plan ShelfFault left left' written written' files files' a b c c' cause = (cause.0, refl, refl)
-shelf_cause plan NoMemory left left' written written' files files' a b c c' cause = tt
-shelf_cause plan BadWords left left' written written' files files' a b c c' cause = absurd cause
-shelf_cause plan (AtFault word fault) left left' written written' files files' a b c c' cause = (refl, refl, ap (λ (n : Counts). n.shelf) cause)
-shelf_cause plan NoTable left left' written written' files files' a b c c' cause = (refl, refl, ap (λ (n : Counts). n.shelf) cause)
-shelf_cause plan (NoPart word) left left' written written' files files' a b c c' cause = (refl, refl, ap (λ (n : Counts). n.shelf) cause)
-shelf_cause plan (BadTable why) left left' written written' files files' a b c c' cause = (refl, refl, ap (λ (n : Counts). n.shelf) cause)
-shelf_cause plan (BadQuery why) left left' written written' files files' a b c c' cause = (refl, refl, ap (λ (n : Counts). n.shelf) cause)
-shelf_cause plan Exists left left' written written' files files' a b c c' cause = (refl, refl, ap (λ (n : Counts). n.shelf) cause)
-shelf_cause plan NoRows left left' written written' files files' a b c c' cause = (refl, refl, ap (λ (n : Counts). n.shelf) cause)
-shelf_cause plan (BadRows line why) left left' written written' files files' a b c c' cause = (refl, refl, ap (λ (n : Counts). n.shelf) cause)
-shelf_cause plan (ManyPartitions line) left left' written written' files files' a b c c' cause = (refl, refl, ap (λ (n : Counts). n.shelf) cause)
-shelf_cause plan (MixedPartitions input) left left' written written' files files' a b c c' cause = (refl, refl, ap (λ (n : Counts). n.shelf) cause)
-shelf_cause plan (TooMuch what limit) left left' written written' files files' a b c c' cause = (refl, refl, ap (λ (n : Counts). n.shelf) cause)
+shelf_cause A plan Done left left' written written' files files' a b c c' cause = absurd cause
+shelf_cause A plan SourceFault left left' written written' files files' a b c c' cause = never_rose cause.0
+shelf_cause A plan SinkFault left left' written written' files files' a b c c' cause = never_rose cause.0
+shelf_cause A plan ShelfFault left left' written written' files files' a b c c' cause = (cause.0, refl, refl)
+shelf_cause A plan NoMemory left left' written written' files files' a b c c' cause = tt
+shelf_cause A plan BadWords left left' written written' files files' a b c c' cause = absurd cause
+shelf_cause A plan (AtFault word fault) left left' written written' files files' a b c c' cause = (refl, refl, ap (λ (n : Counts). n.shelf) cause)
+shelf_cause A plan NoTable left left' written written' files files' a b c c' cause = (refl, refl, ap (λ (n : Counts). n.shelf) cause)
+shelf_cause A plan (NoPart word) left left' written written' files files' a b c c' cause = (refl, refl, ap (λ (n : Counts). n.shelf) cause)
+shelf_cause A plan (BadTable why) left left' written written' files files' a b c c' cause = (refl, refl, ap (λ (n : Counts). n.shelf) cause)
+shelf_cause A plan (BadQuery why) left left' written written' files files' a b c c' cause = (refl, refl, ap (λ (n : Counts). n.shelf) cause)
+shelf_cause A plan Exists left left' written written' files files' a b c c' cause = (refl, refl, ap (λ (n : Counts). n.shelf) cause)
+shelf_cause A plan NoRows left left' written written' files files' a b c c' cause = (refl, refl, ap (λ (n : Counts). n.shelf) cause)
+shelf_cause A plan (BadRows line why) left left' written written' files files' a b c c' cause = (refl, refl, ap (λ (n : Counts). n.shelf) cause)
+shelf_cause A plan (ManyPartitions line) left left' written written' files files' a b c c' cause = (refl, refl, ap (λ (n : Counts). n.shelf) cause)
+shelf_cause A plan (MixedPartitions input) left left' written written' files files' a b c c' cause = (refl, refl, ap (λ (n : Counts). n.shelf) cause)
+shelf_cause A plan (TooMuch what limit) left left' written written' files files' a b c c' cause = (refl, refl, ap (λ (n : Counts). n.shelf) cause)
 
 -- ---- refused, or ended from outside
 
 -- what stands is what stood
-pub unchanged_left : {A : Type 0} (plan : Plan) (status : Status) (left left' written : Option (List ℕ)) (files mid : Option Files) (a b c a' b' c' : ℕ) (before now : Counts)
+pub unchanged_left : (A : Type 0) (plan : Plan) (status : Status) (left left' written : Option (List ℕ)) (files mid : Option Files) (a b c a' b' c' : ℕ) (before now : Counts)
     → mid ≡ files → StepCausedBy (let r : Result A Status = Err status in r) before now → Leaves plan (world left written files a b c) (world left' written mid a' b' c') status × ¬ (status ≡ BadWords)
-unchanged_left plan Done left left' written files mid a b c a' b' c' before now same cause = absurd cause
-unchanged_left plan ShelfFault left left' written files mid a b c a' b' c' before now same cause = ((inr same, refl), λ e. cc)
-unchanged_left plan SinkFault left left' written files mid a b c a' b' c' before now same cause = ((same, printed_nothing plan (world left written files a b c) (world left' written mid a' b' c') refl), λ e. cc)
-unchanged_left plan NoMemory left left' written files mid a b c a' b' c' before now same cause = ((inr same, printed_nothing plan (world left written files a b c) (world left' written mid a' b' c') refl), λ e. cc)
-unchanged_left plan SourceFault left left' written files mid a b c a' b' c' before now same cause = ((same, refl), λ e. cc)
-unchanged_left plan BadWords left left' written files mid a b c a' b' c' before now same cause = absurd cause
-unchanged_left plan (AtFault word fault) left left' written files mid a b c a' b' c' before now same cause = ((same, refl), λ e. cc)
-unchanged_left plan NoTable left left' written files mid a b c a' b' c' before now same cause = ((same, refl), λ e. cc)
-unchanged_left plan (NoPart word) left left' written files mid a b c a' b' c' before now same cause = ((same, refl), λ e. cc)
-unchanged_left plan (BadTable why) left left' written files mid a b c a' b' c' before now same cause = ((same, refl), λ e. cc)
-unchanged_left plan (BadQuery why) left left' written files mid a b c a' b' c' before now same cause = ((same, refl), λ e. cc)
-unchanged_left plan Exists left left' written files mid a b c a' b' c' before now same cause = ((same, refl), λ e. cc)
-unchanged_left plan NoRows left left' written files mid a b c a' b' c' before now same cause = ((same, refl), λ e. cc)
-unchanged_left plan (BadRows line why) left left' written files mid a b c a' b' c' before now same cause = ((same, refl), λ e. cc)
-unchanged_left plan (ManyPartitions line) left left' written files mid a b c a' b' c' before now same cause = ((same, refl), λ e. cc)
-unchanged_left plan (MixedPartitions input) left left' written files mid a b c a' b' c' before now same cause = ((same, refl), λ e. cc)
-unchanged_left plan (TooMuch what limit) left left' written files mid a b c a' b' c' before now same cause = ((same, refl), λ e. cc)
+unchanged_left A plan Done left left' written files mid a b c a' b' c' before now same cause = absurd cause
+unchanged_left A plan ShelfFault left left' written files mid a b c a' b' c' before now same cause = ((inr same, refl), λ e. cc)
+unchanged_left A plan SinkFault left left' written files mid a b c a' b' c' before now same cause = ((same, printed_nothing plan (world left written files a b c) (world left' written mid a' b' c') refl), λ e. cc)
+unchanged_left A plan NoMemory left left' written files mid a b c a' b' c' before now same cause = ((inr same, printed_nothing plan (world left written files a b c) (world left' written mid a' b' c') refl), λ e. cc)
+unchanged_left A plan SourceFault left left' written files mid a b c a' b' c' before now same cause = ((same, refl), λ e. cc)
+unchanged_left A plan BadWords left left' written files mid a b c a' b' c' before now same cause = absurd cause
+unchanged_left A plan (AtFault word fault) left left' written files mid a b c a' b' c' before now same cause = ((same, refl), λ e. cc)
+unchanged_left A plan NoTable left left' written files mid a b c a' b' c' before now same cause = ((same, refl), λ e. cc)
+unchanged_left A plan (NoPart word) left left' written files mid a b c a' b' c' before now same cause = ((same, refl), λ e. cc)
+unchanged_left A plan (BadTable why) left left' written files mid a b c a' b' c' before now same cause = ((same, refl), λ e. cc)
+unchanged_left A plan (BadQuery why) left left' written files mid a b c a' b' c' before now same cause = ((same, refl), λ e. cc)
+unchanged_left A plan Exists left left' written files mid a b c a' b' c' before now same cause = ((same, refl), λ e. cc)
+unchanged_left A plan NoRows left left' written files mid a b c a' b' c' before now same cause = ((same, refl), λ e. cc)
+unchanged_left A plan (BadRows line why) left left' written files mid a b c a' b' c' before now same cause = ((same, refl), λ e. cc)
+unchanged_left A plan (ManyPartitions line) left left' written files mid a b c a' b' c' before now same cause = ((same, refl), λ e. cc)
+unchanged_left A plan (MixedPartitions input) left left' written files mid a b c a' b' c' before now same cause = ((same, refl), λ e. cc)
+unchanged_left A plan (TooMuch what limit) left left' written files mid a b c a' b' c' before now same cause = ((same, refl), λ e. cc)
 
 -- the steps refuse so, unless the status comes from outside
 abbrev pub Refuses : {A : Type 0} → (Files → Outcomes A) → Status → Option Files → Type 0
@@ -99,7 +99,7 @@ Refuses {A} steps status files = IfSome files (λ f. Returns (let r : Result A S
 -- the refusal is the outcome, or the run ended early
 pub refused_outcome : {A : Type 0} (steps : Files → Outcomes A) (status : Status) (b : Bool) (left written : Option (List ℕ)) (files mid : Option Files) (a b' c c' : ℕ) → is_outside status ≡ b → Refuses steps status files → mid ≡ files
     → IsOutcome steps (world left written files a b' c) (world left written mid a b' c') status (Err status)
-refused_outcome steps status true left written files mid a b' c c' outside refuses same = inr (outside, same, refl)
+refused_outcome steps status true left written files mid a b' c c' outside refuses same = inr (outside, (same, refl))
 refused_outcome steps status false left written None mid a b' c c' outside refuses same = inl tt
 refused_outcome steps status false left written (Some f) mid a b' c c' outside refuses same = inl (refuses outside)
 
@@ -112,7 +112,7 @@ pub printing_refused : (steps : Files → Outcomes (List ℕ)) (status : Status)
     → PrintsTextOf steps (world left written files a b c) (world left written mid a b c') status
 printing_refused steps status left written files mid a b c c' refuses same cause =
     let plan = printing_plan (Err status) in
-    let stands = unchanged_left plan status left left written files mid a b c a b c' (of_shelf c) (of_shelf c') same cause in (
+    let stands = unchanged_left (List ℕ) plan status left left written files mid a b c a b c' (of_shelf c) (of_shelf c') same cause in (
       Err status,
       refused_outcome steps status (is_outside status) left written files mid a b c c' refl refuses same,
       (
@@ -124,7 +124,7 @@ printing_refused steps status left written files mid a b c c' refuses same cause
           unread = λ _. refl;
           taken = for_all_files files (λ f. IsSome (plan.early f) → left ≡ left) (λ f some. refl);
         },
-        shelf_cause plan status left left written written files mid a b c c' cause,
+        shelf_cause (List ℕ) plan status left left written written files mid a b c c' cause,
       ),
     )
 
@@ -134,7 +134,7 @@ pub publishing_refused : (part : List ℕ) (steps : Files → Outcomes (List Fil
     → PublishesFolderOf part steps (world left written files a b c) (world left written mid a b c') status
 publishing_refused part steps status left written files mid a b c c' refuses same cause =
     let plan = publishing_plan part (Err status) in
-    let stands = unchanged_left plan status left left written files mid a b c a b c' (of_shelf c) (of_shelf c') same cause in (
+    let stands = unchanged_left (List FileBytes) plan status left left written files mid a b c a b c' (of_shelf c) (of_shelf c') same cause in (
       Err status,
       refused_outcome steps status (is_outside status) left written files mid a b c c' refl refuses same,
       (
@@ -146,6 +146,6 @@ publishing_refused part steps status left written files mid a b c c' refuses sam
           unread = λ _. refl;
           taken = for_all_files files (λ f. IsSome (plan.early f) → left ≡ left) (λ f some. refl);
         },
-        shelf_cause plan status left left written written files mid a b c c' cause,
+        shelf_cause (List FileBytes) plan status left left written written files mid a b c c' cause,
       ),
     )

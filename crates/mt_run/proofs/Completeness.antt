@@ -5,7 +5,7 @@ use Rattle.mt_shelf.specs.Files.{Files}
 use Rattle.mt_command.specs.Status.{is_outside}
 use Rattle.mt_command.specs.Plans.{Plan, World, Performs, CausedBy, Answers, refusal_of, status_of}
 use Rattle.mt_command.specs.declared.status.Status.{Status}
-use Rattle.mt_command.specs.declared.status.Status.TheVariants.{Done, AtFault, BadWords, NoTable, NoPart, BadTable, Exists, NoRows, BadRows, ManyPartitions, TooMuch, SourceFault, ShelfFault, SinkFault, NoMemory}
+use Rattle.mt_command.specs.declared.status.Status.TheVariants.{Done, AtFault, BadWords, NoTable, NoPart, BadTable, BadQuery, Exists, NoRows, BadRows, ManyPartitions, MixedPartitions, TooMuch, SourceFault, ShelfFault, SinkFault, NoMemory}
 
 -- what holds of a known value
 at_some : {A : Type 0} (P : A → Type 0) (o : Option A) (a : A) → o ≡ Some a → IfSome o P → P a
@@ -41,8 +41,10 @@ done_or_no_memory plan old new status files input known left none unfailed (meet
     by_status NoTable cause answers = done NoTable answers refl
     by_status (NoPart part) cause answers = done (NoPart part) answers refl
     by_status (BadTable why) cause answers = done (BadTable why) answers refl
+    by_status (BadQuery why) cause answers = done (BadQuery why) answers refl
     by_status Exists cause answers = done Exists answers refl
     by_status NoRows cause answers = done NoRows answers refl
     by_status (BadRows line why) cause answers = done (BadRows line why) answers refl
     by_status (ManyPartitions line) cause answers = done (ManyPartitions line) answers refl
+    by_status (MixedPartitions input) cause answers = done (MixedPartitions input) answers refl
     by_status (TooMuch what limit) cause answers = done (TooMuch what limit) answers refl

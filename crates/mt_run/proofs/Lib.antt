@@ -1,9 +1,5 @@
-pub mod CellLemmas
 pub mod Completeness
-pub mod FolderLemmas
-pub mod PartLemmas
 pub mod PartitionLemmas
-pub mod ProjectionParts
 pub mod ReadingLemmas
 pub mod Reported
 pub mod WriteLemmas

@@ -8,13 +8,15 @@ use Rattle.mt_shelf.specs.declared.file.FileBytes.{FileBytes}
 use Rattle.mt_shelf.specs.Streams.{GrowsByPrefix}
 use Rattle.mt_shelf.specs.Files.{Files, gained_files}
 use Rattle.mt_shelf.specs.Held.{pair_of}
-use Rattle.mt_command.specs.Status.{is_outside, ◌>>=◌}
+use Rattle.mt_command.specs.Status.{is_outside, refusal, ◌>>=◌}
 use Rattle.mt_command.specs.Plans.{Meets, Leaves, Answers, refusal_of, world, or_else, status_of, answer_of}
 use Rattle.mt_command.specs.Steps.{Counts, StepCausedBy, Stored}
-use Rattle.mt_run.specs.Write.{refusal, table_in, table_for, free_target, folder_for, with_folder, write_plan}
+use Rattle.mt_command.specs.Tables.{table_in}
+use Rattle.mt_command.specs.Targets.{free_target, with_folder}
+use Rattle.mt_run.specs.Write.{table_for, folder_for, write_plan}
 use Rattle.mt_command.specs.declared.status.Status.{Status}
-use Rattle.mt_command.specs.declared.status.Status.TheVariants.{Done, AtFault, BadWords, NoTable, NoPart, BadTable, Exists, NoRows, BadRows, ManyPartitions, TooMuch, SourceFault, ShelfFault, SinkFault, NoMemory}
-use Rattle.mt_run.proofs.Reported.{grew_by_nothing}
+use Rattle.mt_command.specs.declared.status.Status.TheVariants.{Done, AtFault, BadWords, NoTable, NoPart, BadTable, BadQuery, Exists, NoRows, BadRows, ManyPartitions, MixedPartitions, TooMuch, SourceFault, ShelfFault, SinkFault, NoMemory}
+use Rattle.mt_command.proofs.RefusedLemmas.{grew_by_nothing, unchanged_left}
 
 -- ---- where the outside shows enough
 
@@ -112,10 +114,12 @@ folder_stored path part table folder (Err (AtFault word fault)) left left' writt
 folder_stored path part table folder (Err NoTable) left left' written files mid new a b c a' b' c' known same gives ended stored = absurd stored
 folder_stored path part table folder (Err (NoPart word)) left left' written files mid new a b c a' b' c' known same gives ended stored = absurd stored
 folder_stored path part table folder (Err (BadTable why)) left left' written files mid new a b c a' b' c' known same gives ended stored = absurd stored
+folder_stored path part table folder (Err (BadQuery why)) left left' written files mid new a b c a' b' c' known same gives ended stored = absurd stored
 folder_stored path part table folder (Err Exists) left left' written files mid new a b c a' b' c' known same gives ended stored = absurd stored
 folder_stored path part table folder (Err NoRows) left left' written files mid new a b c a' b' c' known same gives ended stored = absurd stored
 folder_stored path part table folder (Err (BadRows line why)) left left' written files mid new a b c a' b' c' known same gives ended stored = absurd stored
 folder_stored path part table folder (Err (ManyPartitions line)) left left' written files mid new a b c a' b' c' known same gives ended stored = absurd stored
+folder_stored path part table folder (Err (MixedPartitions input)) left left' written files mid new a b c a' b' c' known same gives ended stored = absurd stored
 folder_stored path part table folder (Err (TooMuch what limit)) left left' written files mid new a b c a' b' c' known same gives ended stored = absurd stored
 folder_stored path part table folder (Err SourceFault) left left' written files mid new a b c a' b' c' known same gives ended stored = absurd stored
 folder_stored path part table folder (Err SinkFault) left left' written files mid new a b c a' b' c' known same gives ended stored = absurd stored
@@ -140,32 +144,13 @@ then_refuses : {A B : Type 0} (first : Result A Status) (second : A → Result B
 then_refuses (Ok z) second x status is gives = λ inside. let same : z ≡ x = cc in sym (ap (λ r. status_of (refusal r)) (ap second same ∙ gives inside))
 then_refuses (Err s) second x status is gives = cc
 
--- a step that fails leaves what was there
-left_before : (path part : List ℕ) (files mid : Option Files) (left left' written : Option (List ℕ)) (a b c a' b' c' : ℕ) (status : Status) (before now : Counts)
-    → mid ≡ files → StepCausedBy (let r : Result (List FileBytes) Status = Err status in r) before now → Leaves (write_plan path part) (world left written files a b c) (world left' written mid a' b' c') status × ¬ (status ≡ BadWords)
-left_before path part files mid left left' written a b c a' b' c' Done before now same cause = absurd cause
-left_before path part files mid left left' written a b c a' b' c' BadWords before now same cause = absurd cause
-left_before path part files mid left left' written a b c a' b' c' ShelfFault before now same cause = ((inr same, refl), λ e. cc)
-left_before path part files mid left left' written a b c a' b' c' SinkFault before now same cause = ((same, printed_prefix path part files left written), λ e. cc)
-left_before path part files mid left left' written a b c a' b' c' NoMemory before now same cause = ((inr same, printed_prefix path part files left written), λ e. cc)
-left_before path part files mid left left' written a b c a' b' c' (AtFault word fault) before now same cause = ((same, refl), λ e. cc)
-left_before path part files mid left left' written a b c a' b' c' NoTable before now same cause = ((same, refl), λ e. cc)
-left_before path part files mid left left' written a b c a' b' c' (NoPart word) before now same cause = ((same, refl), λ e. cc)
-left_before path part files mid left left' written a b c a' b' c' (BadTable why) before now same cause = ((same, refl), λ e. cc)
-left_before path part files mid left left' written a b c a' b' c' Exists before now same cause = ((same, refl), λ e. cc)
-left_before path part files mid left left' written a b c a' b' c' NoRows before now same cause = ((same, refl), λ e. cc)
-left_before path part files mid left left' written a b c a' b' c' (BadRows line why) before now same cause = ((same, refl), λ e. cc)
-left_before path part files mid left left' written a b c a' b' c' (ManyPartitions line) before now same cause = ((same, refl), λ e. cc)
-left_before path part files mid left left' written a b c a' b' c' (TooMuch what limit) before now same cause = ((same, refl), λ e. cc)
-left_before path part files mid left left' written a b c a' b' c' SourceFault before now same cause = ((same, refl), λ e. cc)
-
 -- the input is refused, or failed
 pub input_refused : (path part : List ℕ) (table : Table) (status : Status) (left left' written : Option (List ℕ)) (files mid : Option Files) (a b c a' b' c' : ℕ) (before now : Counts)
     → IfSome files (λ f. table_for path part f ≡ Ok table) → mid ≡ files → IfSome left (λ input. is_outside status ≡ false → folder_for table input ≡ Err status)
     → StepCausedBy (let r : Result (List FileBytes) Status = Err status in r) before now
     → Meets (write_plan path part) (world left written files a b c) (world left' written mid a' b' c') status
 input_refused path part table status left left' written files mid a b c a' b' c' before now known same gives cause =
-    let both = left_before path part files mid left left' written a b c a' b' c' status before now same cause in
+    let both = unchanged_left (List FileBytes) (write_plan path part) status left left' written files mid a b c a' b' c' before now same cause in
     record {
       answer = if_both (λ f input is refuses. then_refuses (table_for path part f) (λ t. folder_for t input) table status is refuses) files left known gives;
       early = if_some (λ f is some. not_refused (table_for path part f) table is some) files known;

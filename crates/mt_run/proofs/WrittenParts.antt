@@ -22,7 +22,8 @@ use Rattle.mt_written.proofs.StandLemmas.{written_stands}
 use Rattle.mt_build.proofs.InnerLemmas.{projections_kept}
 use Rattle.mt_command.specs.Status.{◌>>=◌, refused_by, status_of_rows}
 use Rattle.mt_run.specs.Partitions.{one_partition}
-use Rattle.mt_run.specs.Write.{few_cells, folder_bytes, folder_of, has_many_cells, rows_of, within_limit}
+use Rattle.mt_run.specs.Write.{folder_of, rows_of}
+use Rattle.mt_command.specs.Targets.{few_cells, folder_bytes, has_many_cells, within_limit}
 use Rattle.mt_command.specs.declared.limits.TheConstants.{MAX_FOLDER}
 use Rattle.mt_command.specs.declared.status.Status.{Status}
 use Rattle.mt_command.specs.declared.status.Status.TheVariants.{TooMuch}

@@ -27,18 +27,29 @@ workers_in word = None
 abbrev pub are_paths : List ℕ → List ℕ → Bool
 are_paths table part = is_path table && is_path part
 
--- write and check, where the words after the first are good
-abbrev pub command_with_workers : List ℕ → List ℕ → List ℕ → Option Command
-command_with_workers name table part =
-    if bytes_eq name (codes "write") then Some (Write table part)
-    else if bytes_eq name (codes "check") then Some (Check table part) else None
+-- write TABLE PART WORKERS
+abbrev pub write_command : List (List ℕ) → Option Command
+write_command (table ∷ part ∷ workers ∷ []) = if are_paths table part && is_some (workers_in workers) then Some (Write table part) else None
+write_command operands = None
 
--- rows, where the words after the first are good
-abbrev pub command_without_workers : List ℕ → List ℕ → List ℕ → Option Command
-command_without_workers name table part = if bytes_eq name (codes "rows") then Some (Rows table part) else None
+-- check TABLE PART WORKERS
+abbrev pub check_command : List (List ℕ) → Option Command
+check_command (table ∷ part ∷ workers ∷ []) = if are_paths table part && is_some (workers_in workers) then Some (Check table part) else None
+check_command operands = None
+
+-- rows TABLE PART
+abbrev pub rows_command : List (List ℕ) → Option Command
+rows_command (table ∷ part ∷ []) = if are_paths table part then Some (Rows table part) else None
+rows_command operands = None
+
+-- the command of a name, where the words after it have its form
+abbrev pub command_named : List ℕ → List (List ℕ) → Option Command
+command_named name operands =
+    if bytes_eq name (codes "write") then write_command operands
+    else if bytes_eq name (codes "check") then check_command operands
+    else if bytes_eq name (codes "rows") then rows_command operands else None
 
 -- the command that the words are, if they are one
 abbrev pub command_of : List (List ℕ) → Option Command
-command_of (name ∷ table ∷ part ∷ []) = if are_paths table part then command_without_workers name table part else None
-command_of (name ∷ table ∷ part ∷ workers ∷ []) = if are_paths table part && is_some (workers_in workers) then command_with_workers name table part else None
-command_of words = None
+command_of (name ∷ operands) = command_named name operands
+command_of [] = None

@@ -8,6 +8,7 @@ mod input;
 mod law;
 mod note;
 mod partition;
+mod perform;
 mod reading;
 mod top;
 mod words;

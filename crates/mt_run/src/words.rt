@@ -1,8 +1,10 @@
 //! The words of a call.
-ghost use Rattle.std.specs.Prelude.{◌≡◌, ◌<◌, ◌≤◌, IfSome};
-ghost use Rattle.mt_run.specs.Words.{workers_in, is_first_digit, is_digit};
+ghost use Rattle.std.specs.Prelude.{◌≡◌, ◌<◌, ◌≤◌, IfSome, IsTrue, true};
+ghost use Rattle.mt_shelf.specs.Paths.{is_path};
+ghost use Rattle.mt_run.specs.Words.{are_paths, is_digit, is_first_digit, workers_in};
 
 use mt_command::MAX_WORKERS;
+use mt_shelf::is_path;
 
 fn is_first_digit(byte: u8) -> bool
     ensures { result ≡ is_first_digit byte }
@@ -34,4 +36,13 @@ pub(crate) fn workers_in(word: &[u8]) -> Option<u64>
         }
         _ => None,
     }
+}
+
+/// Whether both are paths.
+pub(crate) fn are_paths(path: &str, part: &str) -> bool
+    ensures same { result ≡ are_paths path.now part.now }
+    ensures path { result ≡ true → IsTrue (is_path path.now) }
+    ensures part { result ≡ true → IsTrue (is_path part.now) }
+{
+    is_path(path) && is_path(part)
 }

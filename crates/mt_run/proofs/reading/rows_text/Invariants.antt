@@ -1,6 +1,6 @@
 use Rattle.std.proofs.Common.{◌≡◌, take}
 use Rattle.mt_tsv.specs.Printing.{rows_text}
-use Rattle.mt_run.proofs.reading.lines_text.Given as goal
+use Rattle.mt_run.proofs.reading.rows_text.Given as goal
 
 -- the lines so far
 abbrev pub invariant-loop-row : goal.invariant-loop-row
