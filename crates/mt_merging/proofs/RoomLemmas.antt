@@ -1,5 +1,5 @@
 -- The room that rows leave of the limits on a part.
-use Rattle.std.proofs.Common.{◌≡◌, ℕ, ◌+◌, ◌*◌, ◌<◌, ◌≤◌, Bool, true, false, ltb, List, [], ◌∷◌, ◌++◌, length, All, Result, Ok, Err, if◌then◌else◌, refl, sym, ap, ap₂, add-mul, ◌∙◌, arith, inl, inr}
+use Rattle.std.proofs.Common.{◌≡◌, ℕ, ◌+◌, ◌*◌, ◌<◌, ◌≤◌, Bool, true, false, ltb, List, [], ◌∷◌, ◌++◌, length, All, Result, Ok, Err, if◌then◌else◌, refl, sym, ap, ap₂, add-mul, suc-mul, ◌∙◌, arith, inl, inr}
 use Rattle.std.specs.Prelude.{nat_lt}
 use Rattle.std.specs.List.{sum_by}
 use Rattle.std.proofs.lemmas.Bool.{cases_Bool, ltb-true, ltb-false, lt-ltb, le-ltb}
@@ -11,14 +11,20 @@ use Rattle.mt_table.specs.declared.definition.Table.{Table}
 use Rattle.mt_table.specs.declared.limits.TheConstants.{MAX_ROWS, MAX_CELLS}
 use Rattle.mt_table.specs.Rows.{RowFits, cell_count, element_count}
 use Rattle.mt_tsv.specs.Cells.{cells_of}
-use Rattle.mt_tsv.proofs.RowLimits.{cells_more}
 use Rattle.mt_defs.specs.Rows.{Row}
-use Rattle.mt_command.proofs.CellLemmas.{row_length}
+use Rattle.mt_command.proofs.RowLemmas.{row_length}
 use Rattle.mt_command.specs.declared.status.What.TheVariants as what
 use Rattle.mt_command.specs.declared.status.Status.{Status}
 use Rattle.mt_command.specs.declared.status.Status.TheVariants.{TooMuch}
 use Rattle.mt_merging.specs.Rooms.{LeaveRoom, have_room, within_limits}
 use Rattle.mt_merging.specs.declared.room.Room.{Room}
+
+-- one more row of so many columns
+cells_more : (columns : List Column) (row : Row) (rows : List Row) → length row ≡ length columns → cell_count columns (row ∷ rows) ≡ cells_of row + cell_count columns rows
+cells_more columns row rows long =
+    let elements = sum_by-cons (λ values. sum_by element_count values) row rows in
+    let rest = suc-mul (length rows) (length columns) in
+    omega (arith, elements, rest, long)
 
 -- the cells of rows that fit, row by row
 pub cells_by_row : (columns : List Column) (rows : List Row) → All (RowFits columns) rows → sum_by cells_of rows ≡ cell_count columns rows

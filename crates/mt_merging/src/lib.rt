@@ -6,9 +6,9 @@
 mod cells;
 mod folder;
 mod inputs;
-mod merge;
+mod merging;
 mod reading;
 mod room;
 mod table;
 
-pub use merge::merge;
+pub use merging::merge;
