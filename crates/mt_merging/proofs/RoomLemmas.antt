@@ -1,8 +1,8 @@
 -- The room that rows leave of the limits on a part.
-use Rattle.std.proofs.Common.{◌≡◌, ℕ, ◌+◌, ◌*◌, ◌<◌, ◌≤◌, Bool, true, false, ltb, List, [], ◌∷◌, ◌++◌, length, All, Result, Ok, Err, if◌then◌else◌, refl, sym, ap, ap₂, add-mul, suc-mul, ◌∙◌, arith, inl, inr}
-use Rattle.std.specs.Prelude.{nat_lt}
+use Rattle.std.proofs.Common.{◌≡◌, ℕ, ◌+◌, ◌-◌, ◌*◌, ◌<◌, ◌≤◌, Bool, true, false, ltb, Option, Some, None, List, [], ◌∷◌, ◌++◌, length, All, Result, Ok, Err, if◌then◌else◌, refl, sym, ap, ap₂, add-mul, suc-mul, ◌∙◌, arith, inl, inr}
+use Rattle.std.specs.Prelude.{nat_le, nat_lt}
 use Rattle.std.specs.List.{sum_by}
-use Rattle.std.proofs.lemmas.Bool.{cases_Bool, ltb-true, ltb-false, lt-ltb, le-ltb}
+use Rattle.std.proofs.lemmas.Bool.{cases_Bool, leb-true, leb-false, ltb-true, ltb-false, lt-ltb, le-ltb}
 use Rattle.std.proofs.lemmas.List.{length-append}
 use Rattle.std.proofs.lemmas.List.Elements.{All-head, All-tail}
 use Rattle.std.proofs.lemmas.List.Sums.{sum_by-append, sum_by-cons}
@@ -10,7 +10,7 @@ use Rattle.mt_table.specs.declared.column.Column.{Column}
 use Rattle.mt_table.specs.declared.definition.Table.{Table}
 use Rattle.mt_table.specs.declared.limits.TheConstants.{MAX_ROWS, MAX_CELLS}
 use Rattle.mt_table.specs.Rows.{RowFits, cell_count, element_count}
-use Rattle.mt_tsv.specs.Cells.{cells_of}
+use Rattle.mt_tsv.specs.Cells.{cells_of, room_after}
 use Rattle.mt_defs.specs.Rows.{Row}
 use Rattle.mt_command.proofs.RowLemmas.{row_length}
 use Rattle.mt_command.specs.declared.status.What.TheVariants as what
@@ -82,3 +82,42 @@ room_after_others table others rows room left before row_room cell_room =
 -- rows with room are within the limit on cells
 pub cells_within : (table : Table) (rows : List Row) (room : Room) → LeaveRoom table rows room → cell_count table.columns rows ≤ MAX_CELLS
 cells_within table rows room left = let sum = left.cells_left in omega (arith, sum)
+
+-- ---- the room that is left
+
+-- rows and cells that have room
+room_left : (cells room left : ℕ) (fits : Bool) → nat_le cells room ≡ fits → room_after cells room ≡ Some left → (nat_lt room cells ≡ false) × (left + cells ≡ room)
+room_left cells room left true is e =
+    let some : room_after cells room ≡ Some (room - cells) = rw is refl in
+    let both : Some (room - cells) ≡ Some left = sym some ∙ e in
+    let same : room - cells ≡ left = cc in
+    let within = leb-true cells room is in
+    (le-ltb room cells within, omega (arith, within, same))
+room_left cells room left false is e =
+    let none : room_after cells room ≡ None = rw is refl in
+    let both : None ≡ Some left = sym none ∙ e in
+    cc
+
+no_room : (cells room : ℕ) (fits : Bool) → nat_le cells room ≡ fits → room_after cells room ≡ None → nat_lt room cells ≡ true
+no_room cells room true is e =
+    let some : room_after cells room ≡ Some (room - cells) = rw is refl in
+    let both : Some (room - cells) ≡ None = sym some ∙ e in
+    cc
+no_room cells room false is e = lt-ltb room cells (leb-false cells room is)
+
+pub all_have_room : (columns : List Column) (rows : List Row) (row_room cell_room left : ℕ) → All (RowFits columns) rows → length rows ≤ row_room → room_after (sum_by cells_of rows) cell_room ≡ Some left
+    → (have_room (length rows) (cell_count columns rows) row_room cell_room ≡ Ok tt) × (left + cell_count columns rows ≡ cell_room)
+all_have_room columns rows row_room cell_room left fit few e =
+    let here : room_after (cell_count columns rows) cell_room ≡ Some left = ap (λ n. room_after n cell_room) (sym (cells_by_row columns rows fit)) ∙ e in
+    let both = room_left (cell_count columns rows) cell_room left (nat_le (cell_count columns rows) cell_room) refl here in
+    let row_test = le-ltb row_room (length rows) few in
+    let cell_test = both.0 in
+    (rw (row_test, cell_test) refl, both.1)
+
+pub cells_have_no_room : (columns : List Column) (rows : List Row) (row_room cell_room : ℕ) → All (RowFits columns) rows → length rows ≤ row_room → room_after (sum_by cells_of rows) cell_room ≡ None
+    → have_room (length rows) (cell_count columns rows) row_room cell_room ≡ Err (TooMuch what.Cells MAX_CELLS)
+cells_have_no_room columns rows row_room cell_room fit few e =
+    let here : room_after (cell_count columns rows) cell_room ≡ None = ap (λ n. room_after n cell_room) (sym (cells_by_row columns rows fit)) ∙ e in
+    let cell_test = no_room (cell_count columns rows) cell_room (nat_le (cell_count columns rows) cell_room) refl here in
+    let row_test = le-ltb row_room (length rows) few in
+    rw (row_test, cell_test) refl

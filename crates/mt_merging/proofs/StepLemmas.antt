@@ -8,39 +8,27 @@ use Rattle.mt_defs.specs.Sorting.{merged_rows}
 use Rattle.mt_check.specs.declared.accepted.Accepted.{Accepted}
 use Rattle.mt_command.specs.Outcomes.{Returns}
 use Rattle.mt_command.specs.Parts.{part_steps}
-use Rattle.mt_command.specs.Status.{is_outside}
+use Rattle.mt_command.specs.Status.{Gives, is_outside}
 use Rattle.mt_command.specs.Tables.{table_in}
 use Rattle.mt_command.specs.Targets.{free_target}
 use Rattle.mt_command.specs.declared.status.Status.{Status}
-use Rattle.mt_merging.specs.Inputs.{are_there, folder_of, table_for, with_input}
-use Rattle.mt_merging.specs.Merge.{input_steps, inputs_steps, merge_steps}
+use Rattle.mt_merging.specs.Inputs.{are_ready, are_there, folder_of, with_input}
+use Rattle.mt_merging.specs.Merge.{input_steps, inputs_steps, merge_steps, merge_table_steps}
 
--- ---- the table, the inputs and the target
+-- ---- the inputs and the target
 
-pub there_refused : (path target : List ℕ) (inputs : List (List ℕ)) (table : Table) (status : Status) (files mid : Option Files) → IfSome files (λ f. table_in path f ≡ Ok table) → mid ≡ files
-    → IfSome mid (λ f. is_outside status ≡ false → are_there inputs f ≡ Err status) → IfSome files (λ f. is_outside status ≡ false → table_for path target inputs f ≡ Err status)
-there_refused path target inputs table status None mid known same refused = tt
-there_refused path target inputs table status (Some f) mid known same refused =
-    let here : is_outside status ≡ false → are_there inputs f ≡ Err status = subst (λ files. IfSome files (λ g. is_outside status ≡ false → are_there inputs g ≡ Err status)) same refused in
-    λ inside. let now = here inside in rw (known, now) refl
+pub there_refused : (target : List ℕ) (inputs : List (List ℕ)) (status : Status) (files : Option Files) → IfSome files (λ f. is_outside status ≡ false → are_there inputs f ≡ Err status)
+    → IfSome files (λ f. is_outside status ≡ false → are_ready target inputs f ≡ Err status)
+there_refused target inputs status None refused = tt
+there_refused target inputs status (Some f) refused = λ inside. let now = refused inside in rw now refl
 
-pub target_refused : (path target : List ℕ) (inputs : List (List ℕ)) (table : Table) (status : Status) (files mid late : Option Files) → IfSome files (λ f. table_in path f ≡ Ok table) → mid ≡ files
-    → IfSome mid (λ f. are_there inputs f ≡ Ok tt) → late ≡ mid → IfSome late (λ f. is_outside status ≡ false → free_target target f ≡ Err status)
-    → IfSome files (λ f. is_outside status ≡ false → table_for path target inputs f ≡ Err status)
-target_refused path target inputs table status None mid late known same there also refused = tt
-target_refused path target inputs table status (Some f) mid late known same there also refused =
-    let now : are_there inputs f ≡ Ok tt = subst (λ files. IfSome files (λ g. are_there inputs g ≡ Ok tt)) same there in
-    let here : is_outside status ≡ false → free_target target f ≡ Err status = subst (λ files. IfSome files (λ g. is_outside status ≡ false → free_target target g ≡ Err status)) (also ∙ same) refused in
-    λ inside. let last = here inside in rw (known, now, last) refl
-
-pub table_given : (path target : List ℕ) (inputs : List (List ℕ)) (table : Table) (files mid late : Option Files) → IfSome files (λ f. table_in path f ≡ Ok table) → mid ≡ files
-    → IfSome mid (λ f. are_there inputs f ≡ Ok tt) → late ≡ mid → IfSome late (λ f. free_target target f ≡ Ok tt)
-    → IfSome files (λ f. table_for path target inputs f ≡ Ok table)
-table_given path target inputs table None mid late known same there also free = tt
-table_given path target inputs table (Some f) mid late known same there also free =
-    let now : are_there inputs f ≡ Ok tt = subst (λ files. IfSome files (λ g. are_there inputs g ≡ Ok tt)) same there in
-    let here : free_target target f ≡ Ok tt = subst (λ files. IfSome files (λ g. free_target target g ≡ Ok tt)) (also ∙ same) free in
-    rw (known, now, here) refl
+pub target_tried : (target : List ℕ) (inputs : List (List ℕ)) (result : Result Unit Status) (files mid : Option Files) → IfSome files (λ f. are_there inputs f ≡ Ok tt) → mid ≡ files
+    → IfSome mid (λ f. Gives result (free_target target f)) → IfSome files (λ f. Gives result (are_ready target inputs f))
+target_tried target inputs result None mid there same gives = tt
+target_tried target inputs result (Some f) mid there same gives =
+    let here : Gives result (free_target target f) = subst (λ files. IfSome files (λ g. Gives result (free_target target g))) same gives in
+    let next : are_ready target inputs f ≡ free_target target f = rw there refl in
+    subst (Gives result) (sym next) here
 
 -- ---- an input
 
@@ -95,21 +83,45 @@ lead_end table (Some f) read rest parts e before = before (Ok read) (subst (λ (
 
 -- ---- the folder
 
-pub table_ends : (path target : List ℕ) (inputs : List (List ℕ)) (status : Status) (files : Option Files) → IfSome files (λ f. is_outside status ≡ false → table_for path target inputs f ≡ Err status)
-    → IfSome files (λ f. is_outside status ≡ false → merge_steps path target inputs f (Err status))
-table_ends path target inputs status None refused = tt
-table_ends path target inputs status (Some f) refused = λ inside. inr (status, sym (refused inside), refl)
+pub ready_refused : (table : Table) (target : List ℕ) (inputs : List (List ℕ)) (status : Status) (files : Option Files) → IfSome files (λ f. is_outside status ≡ false → are_ready target inputs f ≡ Err status)
+    → IfSome files (λ f. is_outside status ≡ false → merge_table_steps table target inputs f (Err status))
+ready_refused table target inputs status None refused = tt
+ready_refused table target inputs status (Some f) refused = λ inside. inr (status, sym (refused inside), refl)
 
-pub inputs_end : (path target : List ℕ) (inputs : List (List ℕ)) (table : Table) (status : Status) (files mid : Option Files) → IfSome files (λ f. table_for path target inputs f ≡ Ok table) → mid ≡ files
-    → IfSome mid (λ f. is_outside status ≡ false → inputs_steps table f [] inputs (Err status)) → IfSome files (λ f. is_outside status ≡ false → merge_steps path target inputs f (Err status))
-inputs_end path target inputs table status None mid known same refused = tt
-inputs_end path target inputs table status (Some f) mid known same refused =
+pub inputs_refused : (table : Table) (target : List ℕ) (inputs : List (List ℕ)) (status : Status) (files mid : Option Files) → IfSome files (λ f. are_ready target inputs f ≡ Ok tt) → mid ≡ files
+    → IfSome mid (λ f. is_outside status ≡ false → inputs_steps table f [] inputs (Err status)) → IfSome files (λ f. is_outside status ≡ false → merge_table_steps table target inputs f (Err status))
+inputs_refused table target inputs status None mid ready same refused = tt
+inputs_refused table target inputs status (Some f) mid ready same refused =
     let here : is_outside status ≡ false → inputs_steps table f [] inputs (Err status) = subst (λ files. IfSome files (λ g. is_outside status ≡ false → inputs_steps table g [] inputs (Err status))) same refused in
-    λ inside. inl (table, sym known, inr (status, here inside, refl))
+    λ inside. inl (tt, sym ready, inr (status, here inside, refl))
 
-pub folder_ends : (path target : List ℕ) (inputs : List (List ℕ)) (table : Table) (read : List (List Row)) (outcome : Result (List FileBytes) Status) (files mid : Option Files) → IfSome files (λ f. table_for path target inputs f ≡ Ok table) → mid ≡ files
-    → IfSome mid (λ f. inputs_steps table f [] inputs (Ok read)) → folder_of table (merged_rows table.sort read) ≡ outcome → IfSome files (λ f. merge_steps path target inputs f outcome)
-folder_ends path target inputs table read outcome None mid known same given is = tt
-folder_ends path target inputs table read outcome (Some f) mid known same given is =
+-- what the folder's step gives is the outcome of all
+folder_outcome : (table : Table) (target : List ℕ) (inputs : List (List ℕ)) (read : List (List Row)) (f : Files) → are_ready target inputs f ≡ Ok tt → inputs_steps table f [] inputs (Ok read)
+    → (result : Result (List FileBytes) Status) → Gives result (folder_of table (merged_rows table.sort read)) → Returns result (merge_table_steps table target inputs f)
+folder_outcome table target inputs read f ready given (Ok folder) gives = inl (tt, sym ready, inl (read, given, sym gives))
+folder_outcome table target inputs read f ready given (Err status) gives = λ inside. inl (tt, sym ready, inl (read, given, sym (gives inside)))
+
+pub folder_given : (table : Table) (target : List ℕ) (inputs : List (List ℕ)) (read : List (List Row)) (result : Result (List FileBytes) Status) (files mid : Option Files) → IfSome files (λ f. are_ready target inputs f ≡ Ok tt) → mid ≡ files
+    → IfSome mid (λ f. inputs_steps table f [] inputs (Ok read)) → Gives result (folder_of table (merged_rows table.sort read)) → IfSome files (λ f. Returns result (merge_table_steps table target inputs f))
+folder_given table target inputs read result None mid ready same given gives = tt
+folder_given table target inputs read result (Some f) mid ready same given gives =
     let here : inputs_steps table f [] inputs (Ok read) = subst (λ files. IfSome files (λ g. inputs_steps table g [] inputs (Ok read))) same given in
-    inl (table, sym known, inl (read, here, sym is))
+    folder_outcome table target inputs read f ready here result gives
+
+-- ---- the command
+
+pub table_refused : (path target : List ℕ) (inputs : List (List ℕ)) (status : Status) (files : Option Files) → IfSome files (λ f. is_outside status ≡ false → table_in path f ≡ Err status)
+    → IfSome files (λ f. is_outside status ≡ false → merge_steps path target inputs f (Err status))
+table_refused path target inputs status None refused = tt
+table_refused path target inputs status (Some f) refused = λ inside. inr (status, sym (refused inside), refl)
+
+table_outcome : (path target : List ℕ) (inputs : List (List ℕ)) (table : Table) (f : Files) → table_in path f ≡ Ok table
+    → (result : Result (List FileBytes) Status) → Returns result (merge_table_steps table target inputs f) → Returns result (merge_steps path target inputs f)
+table_outcome path target inputs table f known (Ok folder) steps = inl (table, sym known, steps)
+table_outcome path target inputs table f known (Err status) steps = λ inside. inl (table, sym known, steps inside)
+
+pub table_given : (path target : List ℕ) (inputs : List (List ℕ)) (table : Table) (result : Result (List FileBytes) Status) (files mid : Option Files) → IfSome files (λ f. table_in path f ≡ Ok table) → mid ≡ files
+    → IfSome mid (λ f. Returns result (merge_table_steps table target inputs f)) → IfSome files (λ f. Returns result (merge_steps path target inputs f))
+table_given path target inputs table result None mid known same steps = tt
+table_given path target inputs table result (Some f) mid known same steps =
+    table_outcome path target inputs table f known result (subst (λ files. IfSome files (λ g. Returns result (merge_table_steps table target inputs g))) same steps)

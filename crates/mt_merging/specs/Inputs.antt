@@ -11,7 +11,6 @@ use Rattle.mt_defs.specs.Partition.{HaveOnePartition, partition_bytes}
 use Rattle.mt_defs.specs.Rows.{Row, RowFits, cell_count}
 use Rattle.mt_defs.specs.Writer.{written_folder}
 use Rattle.mt_command.specs.Status.{◌>>=◌}
-use Rattle.mt_command.specs.Tables.{table_in}
 use Rattle.mt_command.specs.Targets.{few_cells, free_target, within_limit}
 use Rattle.mt_command.specs.declared.status.Status.{Status}
 use Rattle.mt_command.specs.declared.status.Status.TheVariants.{MixedPartitions, NoPart}
@@ -31,13 +30,11 @@ are_there (part ∷ parts) files = do
   _ ← some_files part (listing_of (entries_below part files))
   are_there parts files
 
--- the table of a file, where all inputs are there and the target is free
-abbrev pub table_for : List ℕ → List ℕ → List (List ℕ) → Files → Result Table Status
-table_for path target inputs files = do
-  table ← table_in path files
+-- inputs that are all there, and then a target that is free
+abbrev pub are_ready : List ℕ → List (List ℕ) → Files → Result Unit Status
+are_ready target inputs files = do
   _ ← are_there inputs files
-  _ ← free_target target files
-  Ok table
+  free_target target files
 
 -- ---- an input beside those before it
 

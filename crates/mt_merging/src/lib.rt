@@ -7,8 +7,8 @@ mod cells;
 mod folder;
 mod inputs;
 mod merging;
+mod places;
 mod reading;
 mod room;
-mod table;
 
-pub use merging::merge;
+pub use merging::{merge, merge_parts};

@@ -1,4 +1,4 @@
-//! What is tried before any input is read: the table, the inputs and the target.
+//! What is tried before any input is read: the inputs and the target.
 
 ghost use Rattle.std.specs.Prelude.{◌≡◌, All, IfSome, IsTrue, map};
 ghost use Rattle.std.specs.String.{string_bytes};
@@ -8,11 +8,10 @@ ghost use Rattle.mt_shelf.specs.State.{files_of};
 ghost use Rattle.mt_command.specs.Status.{Gives, IsNamed};
 ghost use Rattle.mt_command.specs.Steps.{StepCausedBy, of_shelf};
 ghost use Rattle.mt_command.specs.declared.status.Status.TheVariants.{NoPart};
-ghost use Rattle.mt_merging.specs.Inputs.{are_there, some_files, table_for};
+ghost use Rattle.mt_merging.specs.Inputs.{are_ready, are_there, some_files};
 
-use mt_command::{Status, free_target, read_table, status_of_shelf};
+use mt_command::{Status, free_target, status_of_shelf};
 use mt_shelf::Shelf;
-use mt_table::Table;
 use mt_types::List;
 use std::alloc::Global;
 
@@ -58,26 +57,22 @@ fn are_there<F: Shelf>(alloc: Global, shelf: &mut F, parts: &[String]) -> Result
     Ok(())
 }
 
-/// Reads the table of a file, and then tries the inputs and the target.
-pub(crate) fn table_for<F: Shelf>(
+/// Refuses the first of the inputs that isn't there, and then a target that isn't free.
+pub(crate) fn are_ready<F: Shelf>(
     alloc: Global,
     shelf: &mut F,
-    path: &str,
     target: &str,
     inputs: &[String],
-) -> Result<Table, Status>
-    requires path { IsTrue (is_path path.now) }
+) -> Result<(), Status>
     requires target { IsTrue (is_path target.now) }
     requires inputs { All (λ part. IsTrue (is_path (string_bytes part))) inputs.now }
     ensures gives { IfSome (files_of (F.state shelf.old))
-        (λ files. Gives result (table_for path.now target.now (map string_bytes inputs.now) files)) }
+        (λ files. Gives result (are_ready target.now (map string_bytes inputs.now) files)) }
     ensures files { files_of (F.state shelf.new) ≡ files_of (F.state shelf.old) }
     ensures cause { StepCausedBy result (of_shelf (F.faults shelf.old)) (of_shelf (F.faults shelf.new)) }
 {
-    let table = read_table(alloc, shelf, path)?;
-    are_there(alloc, shelf, inputs)?;
-    match free_target(shelf, target) {
-        Ok(()) => Ok(table),
+    match are_there(alloc, shelf, inputs) {
+        Ok(()) => free_target(shelf, target),
         Err(status) => Err(status),
     }
 }
