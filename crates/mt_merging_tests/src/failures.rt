@@ -1,9 +1,9 @@
 //! The n-th call of the shelf fails, for n from 1 until a run in which none fails.
 
-use crate::objects::{TABLE, files_of, put_part, words_of};
+use crate::objects::{TABLE, copy_of, files_of, put_part, words_of};
 use mt_command::Status;
 use mt_merging::merge;
-use mt_shelf::{MemShelf, NoGate, SureSink, SureSource};
+use mt_shelf::{MemShelf, NoGate, SureShelf, SureSink, SureSource};
 use mt_table::Table;
 use mt_types::List;
 use std::test::Fail;
@@ -15,20 +15,15 @@ const MAX_CALLS: u64 = 1_000;
 fn shelf_fails_at_each_call(rt: HostRuntime) -> Result<(), Fail> {
     let alloc = rt.alloc();
     let table = Table::read(alloc, TABLE.as_bytes())?;
+    let mut parts = SureShelf::new(alloc, files_of(alloc, &[("a.sql", TABLE)])?, 65536);
+    put_part(&rt, alloc, &table, "p1", "1\ta\n3\tc\n", &mut parts)?;
+    put_part(&rt, alloc, &table, "p2", "1\tb\n2\td\n", &mut parts)?;
+    let before = parts.held().len();
     let inputs = words_of(alloc, &["p1", "p2"])?;
     for n in 1..MAX_CALLS {
         let mut failing = List::new(alloc);
         failing.push(n)?;
-        let files = files_of(alloc, &[("a.sql", TABLE)])?;
-        let mut shelf = MemShelf::new(alloc, files, failing, 65536);
-        // The parts are written first, and those calls don't fail here.
-        let Ok(()) = put_part(&rt, alloc, &table, "p1", "1\ta\n3\tc\n", &mut shelf) else {
-            continue;
-        };
-        let Ok(()) = put_part(&rt, alloc, &table, "p2", "1\tb\n2\td\n", &mut shelf) else {
-            continue;
-        };
-        let before = shelf.held().len();
+        let mut shelf = MemShelf::new(alloc, copy_of(alloc, parts.held())?, failing, 65536);
         let status = merge(
             &rt,
             alloc,

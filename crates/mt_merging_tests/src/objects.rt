@@ -4,7 +4,7 @@ ghost use Rattle.mt_shelf.specs.Held.{all_paths, AllDiffer};
 
 use mt_build::{build, sort_rows};
 use mt_command::accept_part;
-use mt_shelf::{FileBytes, FileSet, NoGate, Shelf, SureShelf, store};
+use mt_shelf::{FileBytes, FileSet, NoGate, SureShelf, store};
 use mt_table::Table;
 use mt_tsv::{read_rows, write_row};
 use mt_types::List;
@@ -31,6 +31,21 @@ pub fn files_of(alloc: Global, files: &[(&str, &str)]) -> Result<List<FileBytes>
     Ok(set.into_files())
 }
 
+/// The same files.
+pub fn copy_of(alloc: Global, files: &[FileBytes]) -> Result<List<FileBytes>, Fail>
+    ensures paths { IfOk result (λ files. all_paths files ≡ true) }
+    ensures names { IfOk result AllDiffer }
+{
+    let mut set = FileSet::new(alloc);
+    for file in files {
+        let Ok(path) = str::from_utf8(file.name.as_slice()) else {
+            return Err(Fail::from("a path is no text"));
+        };
+        set.put(alloc, path, List::of_bytes(alloc, file.bytes.as_slice())?)?;
+    }
+    Ok(set.into_files())
+}
+
 /// Words as `merge` takes them.
 pub fn words_of(alloc: Global, words: &[&str]) -> Result<Vec<String>, Fail> {
     let mut all = Vec::new(alloc);
@@ -41,13 +56,13 @@ pub fn words_of(alloc: Global, words: &[&str]) -> Result<Vec<String>, Fail> {
 }
 
 /// Writes the part of some lines.
-pub fn put_part<R: Threads + Sync, F: Shelf>(
+pub fn put_part<R: Threads + Sync>(
     rt: &R,
     alloc: Global,
     table: &Table,
     part: &str,
     lines: &str,
-    shelf: &mut F,
+    shelf: &mut SureShelf,
 ) -> Result<(), Fail> {
     let rows = read_rows(alloc, table, lines.as_bytes())?;
     let rows = sort_rows(alloc, table, rows)?;
