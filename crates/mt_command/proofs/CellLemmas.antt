@@ -18,7 +18,6 @@ use Rattle.mt_types.specs.Fits.{fits_of, num_at, text_at}
 use Rattle.mt_types.proofs.StepLemmas.{both_true}
 use Rattle.mt_agg.proofs.StateLemmas.{fits_at}
 use Rattle.mt_item.specs.ItemTypes.{is_scalar_at}
-use Rattle.mt_table.specs.declared.column.Column.{Column}
 use Rattle.mt_table.specs.declared.definition.Table.{Table}
 use Rattle.mt_table.specs.declared.limits.TheConstants.{MAX_CELLS, MAX_KEY}
 use Rattle.mt_table.specs.Stored.{no_projection, projection_at}

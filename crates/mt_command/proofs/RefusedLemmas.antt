@@ -1,19 +1,16 @@
 -- What stands where the steps of a command end before anything is printed or published.
-use Rattle.std.proofs.Common.{◌≡◌, ◌⊎◌, inl, inr, ℕ, Bool, true, false, List, [], map, Option, Some, None, IfSome, IsSome, Result, Ok, Err, refl, ap, sym, ◌∙◌, arith, subst}
+use Rattle.std.proofs.Common.{◌≡◌, inl, inr, ℕ, Bool, true, false, List, [], Option, Some, None, IfSome, IsSome, Result, Err, refl, ap, sym, ◌∙◌, arith}
 use Rattle.std.proofs.lemmas.List.{append-nil}
-use Rattle.std.specs.Option.{option_map}
 use Rattle.std.specs.Io.KnownBytes.{append_known}
 use Rattle.mt_shelf.specs.declared.file.FileBytes.{FileBytes}
 use Rattle.mt_shelf.specs.Causes.{Rose}
-use Rattle.mt_shelf.specs.Files.{Files, gained_files}
-use Rattle.mt_shelf.specs.Held.{pair_of}
+use Rattle.mt_shelf.specs.Files.{Files}
 use Rattle.mt_shelf.specs.Streams.{GrowsByPrefix}
 use Rattle.mt_command.specs.Outcomes.{Outcomes, Returns}
-use Rattle.mt_command.specs.Commands.{IsOutcome, PrintsTextOf, PublishesFolderOf, printing_plan, publishing_plan, text_of}
-use Rattle.mt_command.specs.Plans.{Plan, World, Meets, Leaves, CausedBy, PrintsPrefix, Answers, world, refusal_of, answer_of}
-use Rattle.mt_command.specs.Status.{is_outside, refusal}
-use Rattle.mt_command.specs.Steps.{Counts, StepCausedBy, Printed, Stored, of_shelf, of_output}
-use Rattle.mt_command.specs.Targets.{with_folder}
+use Rattle.mt_command.specs.Commands.{IsOutcome, PrintsTextOf, PublishesFolderOf, printing_plan, publishing_plan}
+use Rattle.mt_command.specs.Plans.{Plan, World, Leaves, CausedBy, PrintsPrefix, Answers, world, refusal_of}
+use Rattle.mt_command.specs.Status.{is_outside}
+use Rattle.mt_command.specs.Steps.{Counts, StepCausedBy, of_shelf}
 use Rattle.mt_command.specs.declared.status.Status.{Status}
 use Rattle.mt_command.specs.declared.status.Status.TheVariants.{Done, AtFault, BadWords, NoTable, NoPart, BadTable, BadQuery, Exists, NoRows, BadRows, ManyPartitions, MixedPartitions, TooMuch, SourceFault, ShelfFault, SinkFault, NoMemory}
 

@@ -2,5 +2,6 @@ pub mod Completeness
 pub mod PartitionLemmas
 pub mod ReadingLemmas
 pub mod Reported
+pub mod WordLemmas
 pub mod WriteLemmas
 pub mod WrittenParts

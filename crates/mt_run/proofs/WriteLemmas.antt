@@ -9,7 +9,7 @@ use Rattle.mt_shelf.specs.Streams.{GrowsByPrefix}
 use Rattle.mt_shelf.specs.Files.{Files, gained_files}
 use Rattle.mt_shelf.specs.Held.{pair_of}
 use Rattle.mt_command.specs.Status.{is_outside, refusal, ◌>>=◌}
-use Rattle.mt_command.specs.Plans.{Meets, Leaves, Answers, refusal_of, world, or_else, status_of, answer_of}
+use Rattle.mt_command.specs.Plans.{Meets, Answers, refusal_of, world, or_else, status_of, answer_of}
 use Rattle.mt_command.specs.Steps.{Counts, StepCausedBy, Stored}
 use Rattle.mt_command.specs.Tables.{table_in}
 use Rattle.mt_command.specs.Targets.{free_target, with_folder}

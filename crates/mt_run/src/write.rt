@@ -9,7 +9,7 @@ ghost use Rattle.mt_shelf.specs.State.{files_of};
 ghost use Rattle.mt_command.specs.Status.{Gives};
 ghost use Rattle.mt_command.specs.Plans.{Meets, CausedBy, world, answer_of};
 ghost use Rattle.mt_command.specs.Steps.{StepCausedBy, Stored, of_shelf, of_source};
-ghost use Rattle.mt_run.specs.Write.{free_target, table_for, folder_for, write_plan};
+ghost use Rattle.mt_run.specs.Write.{table_for, folder_for, write_plan};
 
 use crate::folder::folder_of;
 use crate::input::read_input;
