@@ -1,2 +1,3 @@
 mod JudgedLemmas
 mod TableLemmas
+mod RowLemmas

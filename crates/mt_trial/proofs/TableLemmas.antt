@@ -93,5 +93,11 @@ table_is : (table : Table) → table_reading trial_text ≡ Ok table → judged 
 unfolding table_reading
 table_is table e = sym (ap judged_sentence sentence_is) ∙ e
 
-pub trial_table_is : (table : Table) → table_reading trial_text ≡ Ok table → (table.columns ≡ trial_columns) × (table.partition ≡ trial_partition)
+trial_table_is : (table : Table) → table_reading trial_text ≡ Ok table → (table.columns ≡ trial_columns) × (table.partition ≡ trial_partition)
 trial_table_is table e = table_of_sentence sentence trial_columns table (sym columns_are) (table_is table e)
+
+pub columns_known : (table : Table) → table_reading trial_text ≡ Ok table → table.columns ≡ trial_columns
+columns_known table e = (trial_table_is table e).0
+
+pub partition_known : (table : Table) → table_reading trial_text ≡ Ok table → table.partition ≡ trial_partition
+partition_known table e = (trial_table_is table e).1

@@ -2,5 +2,8 @@
 #![tactic(auto)]
 
 mod rows;
+mod table;
+mod words;
 
 pub use rows::MAX_TRIAL_ROWS;
+pub use words::{number_in, rows_in};

@@ -49,6 +49,7 @@ fn row_of(alloc: Global, x: u64) -> Result<Row, NoMemory>
 }
 
 /// The rows at the places, from 0, that leave a remainder by 2: the even ones, or the odd ones.
+#[tactic(auto, using(crate::proofs::RowLemmas::row_taken, crate::proofs::RowLemmas::row_passed))]
 pub(crate) fn half_rows(
     alloc: Global,
     number: u64,
