@@ -7,6 +7,9 @@ ghost use Rattle.mt_shelf.specs.Files.{IsListing, entries_below};
 ghost use Rattle.mt_shelf.specs.Paths.{is_path, joined_path};
 ghost use Rattle.mt_shelf.specs.State.{files_of};
 ghost use Rattle.mt_table.specs.Rows.{RowFits};
+ghost use Rattle.mt_defs.specs.Partition.{HaveOnePartition};
+ghost use Rattle.mt_defs.specs.Projections.{base_of};
+ghost use Rattle.mt_defs.specs.Rows.{ArePartRows};
 ghost use Rattle.mt_check.specs.FolderChecks.{folder_checks};
 ghost use Rattle.mt_check.specs.ShelfResults.{AnswersFrom, ReadFails};
 
@@ -54,6 +57,8 @@ pub fn check<F: Shelf>(
     ensures answers { IfSome (files_of (F.state shelf.old)) (λ files. AnswersFrom result
         (folder_checks table.now (λ name. get files (joined_path part.now name)) (map (λ entry. entry.name) listing.now))) }
     ensures fit { IfOk result (λ accepted. All (RowFits table.now.columns) accepted.rows) }
+    ensures rows { IfOk result (λ accepted. ArePartRows (base_of table.now) accepted.rows) }
+    ensures one { IfOk result (λ accepted. HaveOnePartition table.now accepted.rows) }
     ensures files { files_of (F.state shelf.new) ≡ files_of (F.state shelf.old) }
     ensures cause { ReadFails (F.faults shelf.old) (F.faults shelf.new) result }
 {

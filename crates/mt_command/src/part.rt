@@ -3,6 +3,9 @@ ghost use Rattle.std.specs.Prelude.{◌≡◌, ◌≤◌, All, IfOk, IfSome, IsT
 ghost use Rattle.mt_shelf.specs.Files.{IsListing, entries_below};
 ghost use Rattle.mt_shelf.specs.Paths.{is_path};
 ghost use Rattle.mt_shelf.specs.State.{files_of};
+ghost use Rattle.mt_defs.specs.Partition.{HaveOnePartition};
+ghost use Rattle.mt_defs.specs.Projections.{base_of};
+ghost use Rattle.mt_defs.specs.Rows.{ArePartRows};
 ghost use Rattle.mt_command.specs.Outcomes.{Returns, refused_by};
 ghost use Rattle.mt_command.specs.Parts.{listed_bytes, listing_in, part_checks, part_steps, table_part_steps};
 ghost use Rattle.mt_command.specs.Status.{Gives, IsNamed};
@@ -89,6 +92,8 @@ pub fn check_listed<F: Shelf>(
     ensures gives { IfSome (files_of (F.state shelf.old))
         (λ files. Returns result (refused_by (AtFault part.now) (part_checks table.now part.now files))) }
     ensures long { IfOk result (λ accepted. All (λ row. length row ≡ length table.now.columns) accepted.rows) }
+    ensures rows { IfOk result (λ accepted. ArePartRows (base_of table.now) accepted.rows) }
+    ensures one { IfOk result (λ accepted. HaveOnePartition table.now accepted.rows) }
     ensures files { files_of (F.state shelf.new) ≡ files_of (F.state shelf.old) }
     ensures cause { StepCausedBy result (of_shelf (F.faults shelf.old)) (of_shelf (F.faults shelf.new)) }
 {
@@ -111,6 +116,8 @@ pub fn accept_part<F: Shelf>(
     ensures gives { IfSome (files_of (F.state shelf.old))
         (λ files. Returns result (part_steps table.now part.now files)) }
     ensures long { IfOk result (λ accepted. All (λ row. length row ≡ length table.now.columns) accepted.rows) }
+    ensures rows { IfOk result (λ accepted. ArePartRows (base_of table.now) accepted.rows) }
+    ensures one { IfOk result (λ accepted. HaveOnePartition table.now accepted.rows) }
     ensures files { files_of (F.state shelf.new) ≡ files_of (F.state shelf.old) }
     ensures cause { StepCausedBy result (of_shelf (F.faults shelf.old)) (of_shelf (F.faults shelf.new)) }
 {

@@ -1,0 +1,5 @@
+pub mod InputLemmas
+pub mod PresenceLemmas
+pub mod RoomLemmas
+pub mod RowLemmas
+pub mod StepLemmas
