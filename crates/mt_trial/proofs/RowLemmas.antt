@@ -4,7 +4,7 @@ use Rattle.std.specs.Prelude.{All, Contains, pos, codes, filter, nat_lt, nat_le,
 use Rattle.std.specs.Fmt.{decimal}
 use Rattle.std.specs.Int.{w32, to_le_bytes}
 use Rattle.std.specs.List.{flat_map, list_all, range_with_len}
-use Rattle.std.proofs.Math.Nat.{mod-add-div, add-mul-mod_self_left}
+use Rattle.std.proofs.Math.Nat.{zero-add}
 use Rattle.std.proofs.lemmas.Bool.{eq-eqb, eqb-true, le-leb, lt-ltb, ne_eqb}
 use Rattle.std.proofs.lemmas.Fmt.{length-decimal-le}
 use Rattle.std.proofs.lemmas.List.Elements.{All-contains, All-map, filter-append}
@@ -103,7 +103,7 @@ in_month r small =
     let all : list_all is_january (range_with_len 0 31) ≡ true = refl in
     let here : r < length (range_with_len 0 31) = omega (arith, small, length-range_with_len 0 31) in
     let at : is_january (get_or (range_with_len 0 31) r 0) ≡ true = AllPass-from_list_all is_january (range_with_len 0 31) all r 0 here in
-    eqb-true (month_of (FIRST_DAY + r)) 202401 (sym (ap is_january (get_or-range_with_len 0 31 r 0 small)) ∙ at)
+    eqb-true (month_of (FIRST_DAY + r)) 202401 (sym (ap is_january (get_or-range_with_len 0 31 r 0 small ∙ zero-add r)) ∙ at)
 
 abbrev january : List ℕ
 january = to_le_bytes w32 202401 ++ []
