@@ -79,8 +79,10 @@ row_fits x =
     let k : x % 100 < 100 = mod_below x 100 (lit≤ tt) in
     let v : x / 100 % 1000 < 1000 = mod_below (x / 100) 1000 (lit≤ tt) in (
       number_fits Date _ 16 (FIRST_DAY + x % 31) outs-Date (λ v. refl) (omega (arith, day)),
-      (number_fits (UInt W32) _ 32 (x % 100) (outs-UInt W32) (λ v. refl) (omega (arith, k)),
-      (number_fits (UInt W64) _ 64 (x / 100 % 1000) (outs-UInt W64) (λ v. refl) (omega (arith, v)), (text_fits (x % 100) k, tt))),
+      (
+        number_fits (UInt W32) _ 32 (x % 100) (outs-UInt W32) (λ v. refl) (omega (arith, k)),
+        (number_fits (UInt W64) _ 64 (x / 100 % 1000) (outs-UInt W64) (λ v. refl) (omega (arith, v)), (text_fits (x % 100) k, tt)),
+      ),
     )
 
 pub half_fits : (number rows remainder : ℕ) → All (RowFits trial_columns) (half_rows number rows remainder)

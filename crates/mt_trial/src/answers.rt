@@ -83,7 +83,13 @@ pub(crate) fn answers_of(alloc: Global, table: &Table, rows: &[Row]) -> Result<L
         Ok(great) => great,
         Err(status) => return Err(status),
     };
-    match text_of_answers(alloc, rows, totals.as_slice(), groups.as_slice(), great.as_slice()) {
+    match text_of_answers(
+        alloc,
+        rows,
+        totals.as_slice(),
+        groups.as_slice(),
+        great.as_slice(),
+    ) {
         Ok(text) => Ok(text),
         Err(_) => Err(Status::NoMemory),
     }
