@@ -1,0 +1,7 @@
+mod JudgedLemmas
+mod TableLemmas
+mod RowLemmas
+mod HalfLemmas
+mod AnswerLemmas
+mod MergedLemmas
+mod CauseLemmas
