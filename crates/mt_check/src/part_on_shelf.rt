@@ -11,9 +11,6 @@ ghost use Rattle.mt_shelf.specs.Files.{IsListing, entries_below};
 ghost use Rattle.mt_shelf.specs.Paths.{is_path, joined_path};
 ghost use Rattle.mt_shelf.specs.State.{files_of};
 ghost use Rattle.mt_table.specs.Rows.{RowFits};
-ghost use Rattle.mt_defs.specs.Partition.{HaveOnePartition};
-ghost use Rattle.mt_defs.specs.Projections.{base_of};
-ghost use Rattle.mt_defs.specs.Rows.{ArePartRows};
 ghost use Rattle.mt_check.specs.FolderChecks.{folder_checks};
 ghost use Rattle.mt_check.specs.Listings.{listed_checks};
 ghost use Rattle.mt_check.specs.Results.{Answers};
@@ -46,8 +43,6 @@ pub fn check<F: Shelf>(
     ensures one { IfOk result (λ accepted. HaveOnePartition table.now accepted.rows) }
     ensures cut { IfOk result (λ accepted. AreGranules accepted.granules accepted.rows) }
     ensures fit { IfOk result (λ accepted. All (RowFits table.now.columns) accepted.rows) }
-    ensures rows { IfOk result (λ accepted. ArePartRows (base_of table.now) accepted.rows) }
-    ensures one { IfOk result (λ accepted. HaveOnePartition table.now accepted.rows) }
     ensures files { files_of (F.state shelf.new) ≡ files_of (F.state shelf.old) }
     ensures cause { ReadFails (F.faults shelf.old) (F.faults shelf.new) result }
 {
@@ -60,7 +55,7 @@ pub fn check<F: Shelf>(
 
 /// The rows and granules for which files stand, in a part that is listed so, or the first fault. It never
 /// returns `Shelf`.
-pub fn check_listed(
+fn check_listed(
     alloc: Global,
     table: &Table,
     files: &PartFiles,
