@@ -1,11 +1,10 @@
 -- The writer's data and marks files are bytes.
-use Rattle.std.proofs.Common.{◌≡◌, ℕ, zero, suc, ◌+◌, ◌<◌, ◌^◌, true, false, List, [], ◌∷◌, ◌++◌, length, map, take, drop, ap, sym, ◌∙◌, subst, lit<, inl, inr}
+use Rattle.std.proofs.Common.{◌≡◌, ℕ, zero, suc, ◌+◌, ◌<◌, List, [], ◌∷◌, ◌++◌, length, map, take, drop, ap, sym, ◌∙◌, subst, lit<, inl, inr}
 use Rattle.std.specs.Prelude.{All, Some, replicate, if◌then◌else◌}
 use Rattle.std.specs.List.{concat, enumerate_from, flat_map, zip}
 use Rattle.std.specs.Int.{w32, w64, to_le_bytes}
 use Rattle.std.proofs.lemmas.Bool.{cases_Bool}
 use Rattle.std.proofs.lemmas.List.Elements.{All-nil, All-cons, All-append, All-drop, All-head, All-replicate, All-tail, All-take, All-weaker}
-use Rattle.mt_types.specs.Profile.{is_profile}
 use Rattle.mt_shelf.specs.declared.file.FileBytes.{FileBytes}
 use Rattle.mt_table.specs.declared.column.Column.{Column}
 use Rattle.mt_defs.specs.declared.frame.TheConstants.{CHECKSUM_BYTES, FRAME_PAYLOAD, METHOD_NONE, SIZES_EXTRA}
