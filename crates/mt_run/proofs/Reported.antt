@@ -7,8 +7,12 @@ use Rattle.mt_shelf.specs.Causes.{Rose}
 use Rattle.mt_command.specs.Plans.{World}
 use Rattle.mt_command.specs.declared.status.Status.{Status}
 use Rattle.mt_command.specs.declared.status.Status.TheVariants.{Done, AtFault, BadWords, NoTable, NoPart, BadTable, BadQuery, Exists, NoRows, BadRows, ManyPartitions, MixedPartitions, TooMuch, SourceFault, ShelfFault, SinkFault, NoMemory}
-use Rattle.mt_command.proofs.ReportedLemmas.{performs_reported, prints_reported}
-use Rattle.mt_run.specs.Commands.{Command, Write, Check, Rows, Runs}
+use Rattle.mt_command.proofs.ReportedLemmas.{performs_reported, prints_reported, publishes_reported}
+use Rattle.mt_merging.specs.Merge.{merge_steps}
+use Rattle.mt_select.specs.Select.{select_steps}
+use Rattle.mt_show.specs.Show.{show_steps}
+use Rattle.mt_trial.specs.Trial.{trial_steps}
+use Rattle.mt_run.specs.Commands.{Command, Write, Check, Rows, Show, Select, Merge, Trial, Runs}
 use Rattle.mt_run.specs.Notes.{Noted, IsReported, line_of}
 use Rattle.mt_run.specs.Reading.{check_steps, rows_steps}
 use Rattle.mt_run.specs.Write.{write_plan}
@@ -19,6 +23,10 @@ runs_reported None old new status reported is runs = performs_reported None old 
 runs_reported (Some (Write table part)) old new status reported is runs = performs_reported (Some (write_plan table part)) old new status reported is runs
 runs_reported (Some (Check table part)) old new status reported is runs = prints_reported (check_steps table part) old new status reported is runs
 runs_reported (Some (Rows table part)) old new status reported is runs = prints_reported (rows_steps table part) old new status reported is runs
+runs_reported (Some (Show table part)) old new status reported is runs = prints_reported (show_steps table part) old new status reported is runs
+runs_reported (Some (Select table part query)) old new status reported is runs = prints_reported (select_steps table part query) old new status reported is runs
+runs_reported (Some (Merge table target inputs)) old new status reported is runs = publishes_reported target (merge_steps table target inputs) old new status reported is runs
+runs_reported (Some (Trial number rows)) old new status reported is runs = prints_reported (λ files. trial_steps number rows) old new status reported is runs
 
 -- ---- the notes
 

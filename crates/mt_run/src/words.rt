@@ -1,9 +1,10 @@
 //! The words of a call.
-ghost use Rattle.std.specs.Prelude.{◌≡◌, ◌<◌, ◌≤◌, IfSome, IsTrue, true};
+ghost use Rattle.std.specs.Prelude.{◌≡◌, ◌≢◌, ◌<◌, ◌≤◌, [], All, IfSome, IsTrue, length, map, true};
 ghost use Rattle.mt_shelf.specs.Paths.{is_path};
-ghost use Rattle.mt_run.specs.Words.{are_paths, is_digit, is_first_digit, workers_in};
+ghost use Rattle.std.specs.String.{string_bytes};
+ghost use Rattle.mt_run.specs.Words.{are_inputs, are_paths, is_digit, is_first_digit, workers_in};
 
-use mt_command::MAX_WORKERS;
+use mt_command::{MAX_INPUTS, MAX_WORKERS};
 use mt_shelf::is_path;
 
 fn is_first_digit(byte: u8) -> bool
@@ -45,4 +46,22 @@ pub(crate) fn are_paths(path: &str, part: &str) -> bool
     ensures part { result ≡ true → IsTrue (is_path part.now) }
 {
     is_path(path) && is_path(part)
+}
+
+/// Whether these are from 1 to 64 paths.
+pub(crate) fn are_inputs(inputs: &[String]) -> bool
+    ensures same { result ≡ are_inputs (map string_bytes inputs.now) }
+    ensures some { result ≡ true → inputs.now ≢ [] }
+    ensures few { result ≡ true → length inputs.now ≤ MAX_INPUTS }
+    ensures paths { result ≡ true → All (λ part. IsTrue (is_path (string_bytes part))) inputs.now }
+{
+    if inputs.is_empty() || MAX_INPUTS < inputs.len() {
+        return false;
+    }
+    for input in inputs {
+        if !is_path(input.as_str()) {
+            return false;
+        }
+    }
+    true
 }
