@@ -22,3 +22,12 @@ pub mod TextLemmas
 pub mod PartitionLaw
 pub mod DefinitionLaw
 pub mod FolderLemmas
+pub mod AgreeLemmas
+pub mod AgreeOnData
+pub mod AgreeOnPart
+pub mod AgreeOnChecks
+pub mod ReadLemmas
+pub mod ListingLemmas
+pub mod SetLemmas
+pub mod KnownLemmas
+pub mod PartLemmas

@@ -13,4 +13,7 @@ pub mod RowGroups
 pub mod FolderChecks
 pub mod OwnNames
 pub mod Results
+pub mod Listings
+pub mod PartFiles
+pub mod NameSets
 pub mod ShelfResults

@@ -77,6 +77,21 @@ fn push_column_names(
     Ok(())
 }
 
+/// The files of a part that are read, but for those of projections; `compact` is its layout.
+pub(crate) fn base_names(
+    alloc: Global,
+    table: &Table,
+    compact: bool,
+) -> Result<Vec<List<u8>>, NoMemory>
+    ensures { IfOk result (λ names. names.items ≡ defined.base_names table.now compact) }
+{
+    let definition = table.base(alloc)?;
+    let mut names = own_names(alloc, &definition, compact)?;
+    push_partition_names(alloc, table, &mut names)?;
+    push_skip_names(alloc, table, compact, &mut names)?;
+    Ok(names)
+}
+
 /// Appends the names of the partition's files.
 pub(crate) fn push_partition_names(
     alloc: Global,

@@ -117,3 +117,11 @@ pub(crate) fn folder_name(
     folder.append(ending)?;
     Ok(folder)
 }
+
+/// What the names in a projection's folder begin with, by the projection's place.
+pub(crate) fn prefix_at(alloc: Global, table: &Table, place: usize) -> Result<List<u8>, NoMemory>
+    requires { place < length table.now.projections }
+    ensures { IfOk result (λ prefix. prefix ≡ defined.projection_prefix (projection_at table.now place)) }
+{
+    folder_name(alloc, &table.projections.as_slice()[place], b"/")
+}

@@ -1,0 +1,205 @@
+-- The files of a part that are read make a folder that is checked like the part's own.
+use Rattle.std.proofs.Common.{◌≡◌, ℕ, ◌+◌, ◌<◌, Bool, true, false, ◌||◌, List, [], ◌∷◌, ◌++◌, length, map, take, refl, ap, sym, subst, ◌∙◌, get_or}
+use Rattle.std.specs.Prelude.{Option, Some, None, option_map, is_some, if◌then◌else◌, All, IfSome}
+use Rattle.std.specs.List.{AllByRecursion, cons_option, flat_map}
+use Rattle.std.proofs.lemmas.List.Elements.{All-head, All-tail, filter_map-append}
+use Rattle.std.proofs.lemmas.List.{map-append, take_more}
+use Rattle.mt_shelf.specs.Files.{Files, entries_below}
+use Rattle.mt_shelf.specs.declared.file.Entry.{Entry}
+use Rattle.mt_check.specs.Listings.{listed_folder}
+use Rattle.mt_check.proofs.KnownLemmas.{layout_listed}
+use Rattle.mt_shelf.specs.declared.file.FileBytes.{FileBytes}
+use Rattle.mt_table.specs.declared.definition.PartDef.{PartDef}
+use Rattle.mt_table.specs.declared.definition.Table.{Table}
+use Rattle.mt_table.specs.declared.projection.Projection.{Projection}
+use Rattle.mt_defs.specs.Compact.{compact_marks_name}
+use Rattle.mt_defs.specs.Folder.{Folder, folder_below, folder_of, is_name}
+use Rattle.mt_defs.specs.Part.{is_compact, partition_names}
+use Rattle.mt_defs.specs.Projections.{base_of, inner_of, projection_prefix}
+use Rattle.mt_check.specs.declared.accepted.Accepted.{Accepted}
+use Rattle.mt_check.specs.Checks.{Checks, ◌>>=◌}
+use Rattle.mt_check.specs.Definitions.{HasProjections, IsDefinition}
+use Rattle.mt_check.specs.FolderChecks.{files_checks, is_known, projection_checks, projection_folders, projections_checks}
+use Rattle.mt_check.specs.OwnNames.{base_names, own_names, skip_names_in}
+use Rattle.mt_check.specs.PartFiles.{base_files, file_named, file_names, files_named, inner_files, part_files, part_folder, projection_files}
+use Rattle.mt_check.proofs.AgreeLemmas.{AgreeAt}
+use Rattle.mt_check.proofs.AgreeOnChecks.{part_same, projection_same}
+use Rattle.mt_check.proofs.FileLemmas.{name_is, other_name, same_name}
+use Rattle.mt_check.proofs.TableLemmas.{base_checked, projections_checked}
+
+-- ---- the folder of the files of some names
+
+-- it has those names, and no others
+pub only_named : (folder : Folder) (names : List (List ℕ)) (name : List ℕ) → folder_of (files_named folder names) name ≡ (if is_known names name then folder name else None)
+only_named folder [] name = refl
+only_named folder (x ∷ names) name = by_file (folder x) refl (only_named folder names name)
+  where
+    by_name : (b : Bool) → is_name x name ≡ b → folder x ≡ None → folder_of (files_named folder names) name ≡ (if is_known names name then folder name else None)
+        → folder_of (files_named folder names) name ≡ (if b || is_known names name then folder name else None)
+    by_name true same none later =
+        let here : folder name ≡ None = ap folder (sym (name_is x name same)) ∙ none in
+        later ∙ ap (λ (o : Option (List ℕ)). if is_known names name then o else None) here ∙ either (is_known names name) ∙ sym here
+      where
+        either : (k : Bool) → (if k then (let o : Option (List ℕ) = None in o) else None) ≡ None
+        either true = refl
+        either false = refl
+    by_name false same none later = later
+
+    by_found : (b : Bool) (bytes : List ℕ) → is_name x name ≡ b → folder x ≡ Some bytes → folder_of (files_named folder names) name ≡ (if is_known names name then folder name else None)
+        → (if b then Some bytes else folder_of (files_named folder names) name) ≡ (if b || is_known names name then folder name else None)
+    by_found true bytes same found later = sym found ∙ ap folder (name_is x name same)
+    by_found false bytes same found later = later
+
+    by_file : (o : Option (List ℕ)) → folder x ≡ o → folder_of (files_named folder names) name ≡ (if is_known names name then folder name else None)
+        → folder_of (cons_option (option_map (λ bytes. let file : FileBytes = record { name = x; bytes = bytes } in file) o) (files_named folder names)) name ≡ (if is_name x name || is_known names name then folder name else None)
+    by_file None is later = by_name (is_name x name) refl is later
+    by_file (Some bytes) is later = by_found (is_name x name) bytes refl is later
+
+or_right : (a b : Bool) → b ≡ true → (a || b) ≡ true
+or_right true b e = refl
+or_right false b e = e
+
+-- what holds at each known name holds at each name
+each_name : (P : List ℕ → Type 0) (names : List (List ℕ)) → ((name : List ℕ) → is_known names name ≡ true → P name) → AllByRecursion P names
+each_name P [] at = tt
+each_name P (x ∷ names) at = (at x (ap (λ b. b || is_known names x) (same_name x x refl)), each_name P names (λ name known. at name (or_right (is_name x name) (is_known names name) known)))
+
+agrees : (folder : Folder) (names : List (List ℕ)) → AgreeAt (folder_of (files_named folder names)) folder names
+agrees folder names = each_name (λ name. folder_of (files_named folder names) name ≡ folder name) names (λ name known. only_named folder names name ∙ ap (λ b. if b then folder name else None) known)
+
+-- ---- its layout
+
+has_marks : (definition : PartDef) (more : List (List ℕ)) (f g : Folder) (compact : Bool) → compact ≡ true → AgreeAt f g (own_names definition compact ++ more) → f compact_marks_name ≡ g compact_marks_name
+has_marks definition more f g true is all = all.1.1.1.1.0
+has_marks definition more f g false is all = cc
+
+same_marks : (definition : PartDef) (more : List (List ℕ)) (folder : Folder) → folder_of (files_named folder (own_names definition (is_compact folder) ++ more)) compact_marks_name ≡ folder compact_marks_name
+same_marks definition more folder = by_marks (folder compact_marks_name) refl
+  where
+    names : List (List ℕ)
+    names = own_names definition (is_compact folder) ++ more
+
+    nothing : (b : Bool) (o : Option (List ℕ)) → o ≡ None → (if b then o else None) ≡ o
+    nothing true o is = refl
+    nothing false o is = sym is
+
+    by_marks : (o : Option (List ℕ)) → folder compact_marks_name ≡ o → folder_of (files_named folder names) compact_marks_name ≡ folder compact_marks_name
+    by_marks None is = only_named folder names compact_marks_name ∙ nothing (is_known names compact_marks_name) (folder compact_marks_name) is
+    by_marks (Some bytes) is = has_marks definition more (folder_of (files_named folder names)) folder (is_compact folder) (ap is_some is) (agrees folder names)
+
+same_layout : (definition : PartDef) (more : List (List ℕ)) (folder : Folder) → is_compact (folder_of (files_named folder (own_names definition (is_compact folder) ++ more))) ≡ is_compact folder
+same_layout definition more folder = ap is_some (same_marks definition more folder)
+
+-- ---- projections
+
+no_more : (names : List (List ℕ)) → names ++ [] ≡ names
+no_more [] = refl
+no_more (name ∷ names) = ap (λ (ns : List (List ℕ)). name ∷ ns) (no_more names)
+
+inner_layout : (table : Table) (projection : Projection) (folder : Folder) → is_compact (folder_of (inner_files table projection folder)) ≡ is_compact folder
+inner_layout table projection folder =
+    let own = own_names (inner_of table projection) (is_compact folder) in
+    ap (λ names. is_compact (folder_of (files_named folder names))) (sym (no_more own)) ∙ same_layout (inner_of table projection) [] folder
+
+inner_same : (table : Table) (accepted : Accepted) (projection : Projection) (folder : Folder) → IsDefinition (inner_of table projection)
+    → projection_checks table accepted projection (folder_of (inner_files table projection folder)) ≡ projection_checks table accepted projection folder
+inner_same table accepted projection folder is =
+    let kind = inner_layout table projection folder in
+    projection_same (folder_of (inner_files table projection folder)) folder table accepted projection is kind
+    (subst (λ b. AgreeAt (folder_of (inner_files table projection folder)) folder (own_names (inner_of table projection) b)) (sym kind) (agrees folder (own_names (inner_of table projection) (is_compact folder))))
+
+projections_same : (table : Table) (folder : Folder) (accepted : Accepted) (projections : List Projection) → All (λ projection. IsDefinition (inner_of table projection)) projections
+    → projections_checks table accepted projections (map folder_of (map (projection_files table folder) projections)) ≡ projections_checks table accepted projections (map (λ projection. folder_below folder (projection_prefix projection)) projections)
+projections_same table folder accepted [] are = refl
+projections_same table folder accepted (projection ∷ projections) are =
+    ap (λ (first : Checks Unit). first >>= λ _. projections_checks table accepted projections (map folder_of (map (projection_files table folder) projections)))
+    (inner_same table accepted projection (folder_below folder (projection_prefix projection)) (All-head (λ projection. IsDefinition (inner_of table projection)) projection projections are))
+    ∙ ap (λ (later : Checks Unit). projection_checks table accepted projection (folder_below folder (projection_prefix projection)) >>= λ _. later)
+    (projections_same table folder accepted projections (All-tail (λ projection. IsDefinition (inner_of table projection)) projection projections are))
+
+-- ---- the part
+
+base_layout : (table : Table) (folder : Folder) → is_compact (folder_of (base_files table folder)) ≡ is_compact folder
+base_layout table folder = same_layout (base_of table) (partition_names table ++ flat_map (skip_names_in (is_compact folder)) table.skips) folder
+
+-- the files that are read are checked like the part
+pub part_read : (table : Table) (folder : Folder) → files_checks table (folder_of (part_files table folder).base) (map folder_of (part_files table folder).projections) ≡ files_checks table folder (projection_folders table folder)
+part_read table folder =
+    let kind = base_layout table folder in
+    part_same (folder_of (base_files table folder)) folder table (map folder_of (part_files table folder).projections) (projection_folders table folder) (base_checked table) kind
+    (subst (λ b. AgreeAt (folder_of (base_files table folder)) folder (base_names table b)) (sym kind) (agrees folder (base_names table (is_compact folder))))
+    (λ accepted. projections_same table folder accepted table.projections (projections_checked table))
+
+-- ---- one file more
+
+pub named_more : (folder : Folder) (names : List (List ℕ)) (i : ℕ) (name d : List ℕ) → i < length names → name ≡ get_or names i d → files_named folder (take (i + 1) names) ≡ files_named folder (take i names) ++ cons_option (file_named folder name) []
+named_more folder names i name d inside at =
+    ap (files_named folder) (take_more names i d inside ∙ ap (λ (n : List ℕ). take i names ++ n ∷ []) (sym at)) ∙ filter_map-append (file_named folder) (take i names) (name ∷ [])
+
+pub known_push : (part prefix : List ℕ) (stored : Option Files) (names : List (List ℕ)) (i : ℕ) (name d : List ℕ) (read : Option FileBytes) (files new : List FileBytes) → i < length names → name ≡ get_or names i d
+    → IfSome stored (λ s. files ≡ files_named (folder_below (part_folder part s) prefix) (take i names)) → IfSome stored (λ s. read ≡ file_named (folder_below (part_folder part s) prefix) name) → new ≡ files ++ cons_option read []
+    → IfSome stored (λ s. new ≡ files_named (folder_below (part_folder part s) prefix) (take (i + 1) names))
+known_push part prefix None names i name d read files new inside at before here more = tt
+known_push part prefix (Some s) names i name d read files new inside at before here more =
+    more ∙ ap (λ (fs : List FileBytes). fs ++ cons_option read []) before ∙ ap (λ (o : Option FileBytes). files_named (folder_below (part_folder part s) prefix) (take i names) ++ cons_option o []) here
+    ∙ sym (named_more (folder_below (part_folder part s) prefix) names i name d inside at)
+
+names_push : (files : List FileBytes) (read : Option FileBytes) → file_names (files ++ cons_option read []) ≡ file_names files ++ cons_option (option_map (λ (file : FileBytes). file.name) read) []
+names_push files None = map-append (λ (file : FileBytes). file.name) files []
+names_push files (Some file) = map-append (λ (file : FileBytes). file.name) files (file ∷ [])
+
+pub names_more : (folder : Folder) (names : List (List ℕ)) (i : ℕ) (name d : List ℕ) (read : Option FileBytes) (files new : List FileBytes) → i < length names → name ≡ get_or names i d
+    → file_names files ≡ file_names (files_named folder (take i names)) → option_map (λ (file : FileBytes). file.name) read ≡ option_map (λ (file : FileBytes). file.name) (file_named folder name) → new ≡ files ++ cons_option read []
+    → file_names new ≡ file_names (files_named folder (take (i + 1) names))
+names_more folder names i name d read files new inside at before here more =
+    ap file_names more ∙ names_push files read
+    ∙ ap (λ (ns : List (List ℕ)). ns ++ cons_option (option_map (λ (file : FileBytes). file.name) read) []) before
+    ∙ ap (λ (o : Option (List ℕ)). file_names (files_named folder (take i names)) ++ cons_option o []) here
+    ∙ sym (names_push (files_named folder (take i names)) (file_named folder name))
+    ∙ ap file_names (sym (named_more folder names i name d inside at))
+
+-- a file, as far as its name is known
+pub same_option : (name : List ℕ) (read : Option (List ℕ)) (size : Option ℕ) → is_some read ≡ is_some size
+    → option_map (λ (file : FileBytes). file.name) (option_map (λ bytes. let file : FileBytes = record { name = name; bytes = bytes } in file) read)
+    ≡ option_map (λ (file : FileBytes). file.name) (option_map (λ bytes. let file : FileBytes = record { name = name; bytes = bytes } in file) (option_map (λ _. let none : List ℕ = [] in none) size))
+same_option name None None e = refl
+same_option name None (Some size) e = cc
+same_option name (Some bytes) None e = cc
+same_option name (Some bytes) (Some size) e = refl
+
+-- ---- the files of a folder of a part, by the listing
+
+abbrev own_files : (Bool → List (List ℕ)) → Folder → List FileBytes
+own_files own folder = files_named folder (own (is_compact folder))
+
+pub folder_known : (part prefix target : List ℕ) (own : Bool → List (List ℕ)) (listing : List Entry) (compact : Bool) (names : List (List ℕ)) (stored : Option Files) → IfSome stored (λ files. listing ≡ entries_below part files)
+    → compact ≡ is_compact (folder_below (listed_folder listing) prefix) → names ≡ own compact → prefix ≡ target → (read : List FileBytes) → IfSome stored (λ files. read ≡ files_named (folder_below (part_folder part files) prefix) names)
+    → IfSome stored (λ files. read ≡ own_files own (folder_below (part_folder part files) target))
+folder_known part prefix target own listing compact names None is kind are same read known = tt
+folder_known part prefix target own listing compact names (Some files) is kind are same read known =
+    known ∙ ap (files_named (folder_below (part_folder part files) prefix))
+    (are ∙ ap own (kind ∙ ap (λ (es : List Entry). is_compact (folder_below (listed_folder es) prefix)) is ∙ layout_listed part prefix files))
+    ∙ ap (λ (p : List ℕ). own_files own (folder_below (part_folder part files) p)) same
+
+pub folder_names : (prefix target : List ℕ) (own : Bool → List (List ℕ)) (listing : List Entry) (compact : Bool) (names : List (List ℕ)) → compact ≡ is_compact (folder_below (listed_folder listing) prefix) → names ≡ own compact → prefix ≡ target
+    → (read : List FileBytes) → file_names read ≡ file_names (files_named (folder_below (listed_folder listing) prefix) names) → file_names read ≡ file_names (own_files own (folder_below (listed_folder listing) target))
+folder_names prefix target own listing compact names kind are same read named =
+    named ∙ ap (λ (ns : List (List ℕ)). file_names (files_named (folder_below (listed_folder listing) prefix) ns)) (are ∙ ap own kind)
+    ∙ ap (λ (p : List ℕ). file_names (own_files own (folder_below (listed_folder listing) p))) same
+
+-- ---- one projection more
+
+pub inner_push : (F : Files → Projection → List FileBytes) (stored : Option Files) (projections : List Projection) (i : ℕ) (d : Projection) (done new : List (List FileBytes)) (read : List FileBytes) → i < length projections
+    → IfSome stored (λ s. done ≡ map (F s) (take i projections)) → IfSome stored (λ s. read ≡ F s (get_or projections i d)) → new ≡ done ++ read ∷ [] → IfSome stored (λ s. new ≡ map (F s) (take (i + 1) projections))
+inner_push F None projections i d done new read inside before here more = tt
+inner_push F (Some s) projections i d done new read inside before here more =
+    more ∙ ap (λ (fs : List (List FileBytes)). fs ++ read ∷ []) before ∙ ap (λ (r : List FileBytes). map (F s) (take i projections) ++ r ∷ []) here
+    ∙ sym (ap (map (F s)) (take_more projections i d inside) ∙ map-append (F s) (take i projections) (get_or projections i d ∷ []))
+
+pub inner_names : (G : Projection → List FileBytes) (projections : List Projection) (i : ℕ) (d : Projection) (done new : List (List FileBytes)) (read : List FileBytes) → i < length projections
+    → map file_names done ≡ map file_names (map G (take i projections)) → file_names read ≡ file_names (G (get_or projections i d)) → new ≡ done ++ read ∷ [] → map file_names new ≡ map file_names (map G (take (i + 1) projections))
+inner_names G projections i d done new read inside before here more =
+    ap (map file_names) more ∙ map-append file_names done (read ∷ [])
+    ∙ ap (λ (names : List (List (List ℕ))). names ++ file_names read ∷ []) before ∙ ap (λ (names : List (List ℕ)). map file_names (map G (take i projections)) ++ names ∷ []) here
+    ∙ sym (map-append file_names (map G (take i projections)) (G (get_or projections i d) ∷ []))
+    ∙ sym (ap (λ (ps : List Projection). map file_names (map G ps)) (take_more projections i d inside) ∙ ap (map file_names) (map-append G (take i projections) (get_or projections i d ∷ [])))

@@ -1,0 +1,8 @@
+use Rattle.std.proofs.Common.{sym, subst}
+use Rattle.mt_table.specs.Stored.{no_projection}
+use Rattle.mt_check.specs.Definitions.{IsDefinition}
+use Rattle.mt_check.proofs.TableLemmas.{projections_checked}
+use Rattle.mt_check.proofs.reading.projection_names.Goals as goal
+
+pub own_names-requires : goal.own_names-requires
+own_names-requires c = subst IsDefinition (sym c.in_ok-definition.ensures) (projections_checked c.args.table.now c.args.place no_projection c.requires)

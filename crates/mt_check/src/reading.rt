@@ -1,0 +1,138 @@
+//! Reading a part's files from a shelf.
+
+ghost use Rattle.std.specs.Prelude.{◌≡◌, ◌<◌, length, map, IfOk, IfSome, IsTrue};
+ghost use Rattle.mt_defs.specs.Projections.{inner_of};
+ghost use Rattle.mt_shelf.specs.Causes.{HasCause};
+ghost use Rattle.mt_shelf.specs.Files.{IsListing, entries_below};
+ghost use Rattle.mt_shelf.specs.Paths.{is_path};
+ghost use Rattle.mt_shelf.specs.State.{files_of};
+ghost use Rattle.mt_table.specs.Stored.{projection_at};
+ghost use Rattle.mt_check.specs.Listings.{listed_folder};
+ghost use Rattle.mt_check.specs.OwnNames as own;
+ghost use Rattle.mt_check.specs.PartFiles.{HaveSameNames, base_files, file_names, part_files, part_folder, projection_files};
+
+use crate::folder::PartFiles;
+use crate::listing::is_compact_below;
+use crate::named_files::read_named;
+use crate::own_names::{base_names, own_names};
+use crate::projection::prefix_at;
+use mt_shelf::{CallError, Entry, FileBytes, Shelf};
+use mt_table::Table;
+use mt_types::{List, NoMemory};
+use std::alloc::Global;
+
+/// The files of a part on a shelf, and of its projections, whose names a part of the table has. Each that
+/// is listed is read once, and others aren't read.
+pub fn read_part<F: Shelf>(
+    alloc: Global,
+    table: &Table,
+    part: &str,
+    listing: &[Entry],
+    shelf: &mut F,
+) -> Result<PartFiles, CallError>
+    requires path { IsTrue (is_path part.now) }
+    requires form { IsListing listing.now }
+    requires known { IfSome (files_of (F.state shelf.old)) (λ files. listing.now ≡ entries_below part.now files) }
+    ensures known { IfOk result (λ read. IfSome (files_of (F.state shelf.old)) (λ files. read ≡ part_files table.now (part_folder part.now files))) }
+    ensures names { IfOk result (λ read. HaveSameNames read (part_files table.now (listed_folder listing.now))) }
+    ensures files { files_of (F.state shelf.new) ≡ files_of (F.state shelf.old) }
+    ensures cause { HasCause (F.faults shelf.old) (F.faults shelf.new) result }
+{
+    let base = read_base(alloc, table, part, listing, shelf)?;
+    let projections = read_projections(alloc, table, part, listing, shelf)?;
+    Ok(PartFiles { base, projections })
+}
+
+/// The part's own files.
+fn read_base<F: Shelf>(
+    alloc: Global,
+    table: &Table,
+    part: &str,
+    listing: &[Entry],
+    shelf: &mut F,
+) -> Result<List<FileBytes>, CallError>
+    requires path { IsTrue (is_path part.now) }
+    requires form { IsListing listing.now }
+    requires known { IfSome (files_of (F.state shelf.old)) (λ files. listing.now ≡ entries_below part.now files) }
+    ensures known { IfOk result (λ read. IfSome (files_of (F.state shelf.old)) (λ files. read ≡ base_files table.now (part_folder part.now files))) }
+    ensures names { IfOk result (λ read. file_names read ≡ file_names (base_files table.now (listed_folder listing.now))) }
+    ensures files { files_of (F.state shelf.new) ≡ files_of (F.state shelf.old) }
+    ensures cause { HasCause (F.faults shelf.old) (F.faults shelf.new) result }
+{
+    let compact = is_compact_below(alloc, listing, b"")?;
+    let names = base_names(alloc, table, compact)?;
+    read_named(alloc, part, b"", names.as_slice(), listing, shelf)
+}
+
+/// The files of each projection.
+fn read_projections<F: Shelf>(
+    alloc: Global,
+    table: &Table,
+    part: &str,
+    listing: &[Entry],
+    shelf: &mut F,
+) -> Result<List<List<FileBytes>>, CallError>
+    requires path { IsTrue (is_path part.now) }
+    requires form { IsListing listing.now }
+    requires known { IfSome (files_of (F.state shelf.old)) (λ files. listing.now ≡ entries_below part.now files) }
+    ensures known { IfOk result (λ read. IfSome (files_of (F.state shelf.old)) (λ files.
+        read ≡ map (projection_files table.now (part_folder part.now files)) table.now.projections)) }
+    ensures names { IfOk result (λ read. map file_names read
+        ≡ map file_names (map (projection_files table.now (listed_folder listing.now)) table.now.projections)) }
+    ensures files { files_of (F.state shelf.new) ≡ files_of (F.state shelf.old) }
+    ensures cause { HasCause (F.faults shelf.old) (F.faults shelf.new) result }
+{
+    let mut projections = List::new(alloc);
+    for place in 0..table.projections.len() {
+        let files = read_projection(alloc, table, place, part, listing, shelf)?;
+        projections.push(files)?;
+    }
+    Ok(projections)
+}
+
+/// The files of a projection.
+fn read_projection<F: Shelf>(
+    alloc: Global,
+    table: &Table,
+    place: usize,
+    part: &str,
+    listing: &[Entry],
+    shelf: &mut F,
+) -> Result<List<FileBytes>, CallError>
+    requires there { place < length table.now.projections }
+    requires path { IsTrue (is_path part.now) }
+    requires form { IsListing listing.now }
+    requires known { IfSome (files_of (F.state shelf.old)) (λ files. listing.now ≡ entries_below part.now files) }
+    ensures known { IfOk result (λ read. IfSome (files_of (F.state shelf.old)) (λ files.
+        read ≡ projection_files table.now (part_folder part.now files) (projection_at table.now place))) }
+    ensures names { IfOk result (λ read. file_names read
+        ≡ file_names (projection_files table.now (listed_folder listing.now) (projection_at table.now place))) }
+    ensures files { files_of (F.state shelf.new) ≡ files_of (F.state shelf.old) }
+    ensures cause { HasCause (F.faults shelf.old) (F.faults shelf.new) result }
+{
+    let prefix = prefix_at(alloc, table, place)?;
+    let compact = is_compact_below(alloc, listing, prefix.as_slice())?;
+    let names = projection_names(alloc, table, place, compact)?;
+    read_named(
+        alloc,
+        part,
+        prefix.as_slice(),
+        names.as_slice(),
+        listing,
+        shelf,
+    )
+}
+
+/// The names of the files of a projection that are read.
+fn projection_names(
+    alloc: Global,
+    table: &Table,
+    place: usize,
+    compact: bool,
+) -> Result<Vec<List<u8>>, NoMemory>
+    requires { place < length table.now.projections }
+    ensures { IfOk result (λ names. names.items ≡ own.own_names (inner_of table.now (projection_at table.now place)) compact) }
+{
+    let definition = table.inner(alloc, place)?;
+    own_names(alloc, &definition, compact)
+}
