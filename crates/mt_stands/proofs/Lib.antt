@@ -1,0 +1,15 @@
+pub mod StrayLaw
+pub mod KeyNames
+pub mod FileLaw
+pub mod ProjectionLaw
+pub mod SkipBytes
+pub mod SkipPositions
+pub mod SkipPieces
+pub mod SkipLists
+pub mod SkipFiles
+pub mod SkipIndexLaw
+pub mod SkipLaw
+pub mod ReadLaw
+pub mod AnswerLaw
+pub mod FilesLaw
+pub mod JoinLaw
