@@ -7,7 +7,8 @@ pub mod SkipPositions
 pub mod SkipPieces
 pub mod SkipLists
 pub mod SkipFiles
-pub mod SkipIndexLaw
+pub mod SkipHeldLaw
+pub mod SkipReadLaw
 pub mod SkipLaw
 pub mod ReadLaw
 pub mod AnswerLaw

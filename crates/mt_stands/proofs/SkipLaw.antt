@@ -19,7 +19,8 @@ use Rattle.mt_check.specs.Faults.{fault_in}
 use Rattle.mt_check.specs.FolderChecks.{entries_checks, skip_checks}
 use Rattle.mt_check.specs.SkipMarks.{index_entries}
 use Rattle.mt_check.proofs.CheckLemmas.{ok_then}
-use Rattle.mt_stands.proofs.SkipIndexLaw.{AreHeld, index_held, index_read}
+use Rattle.mt_stands.proofs.SkipHeldLaw.{AreHeld, index_held}
+use Rattle.mt_stands.proofs.SkipReadLaw.{index_read}
 use Rattle.mt_stands.proofs.SkipLists.{pointwise_long}
 
 -- ---- the entries
