@@ -39,7 +39,7 @@ sized : (bytes : Option (List ℕ)) → is_some (option_map length bytes) ≡ is
 sized None = refl
 sized (Some bytes) = refl
 
-is_sized : (part : List ℕ) (files : Files) (name : List ℕ) → is_some (size_in (entries_below part files) name) ≡ is_some (folder_at part files name)
+pub is_sized : (part : List ℕ) (files : Files) (name : List ℕ) → is_some (size_in (entries_below part files) name) ≡ is_some (folder_at part files name)
 is_sized part files name = ap is_some (size_of_file part name files) ∙ sized (folder_at part files name)
 
 -- a listing has the names at which the part's folder has a file
