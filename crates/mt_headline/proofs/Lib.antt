@@ -1,0 +1,9 @@
+mod NameLemmas
+mod ByteLemmas
+mod TextBytes
+mod DataBytes
+mod FolderBytes
+mod GainedLemmas
+mod SizeLemmas
+mod PublishedLemmas
+mod WrittenLemmas

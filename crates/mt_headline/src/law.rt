@@ -1,0 +1,67 @@
+//! Laws of the commands' steps, each the contract of a function that does nothing.
+
+ghost use Rattle.std.specs.Prelude.{◌≡◌, ℕ, List, map, Err, Ok};
+ghost use Rattle.mt_shelf.specs.declared.fault.Fault.{Fault};
+ghost use Rattle.mt_shelf.specs.Files.{Files, gained_files};
+ghost use Rattle.mt_shelf.specs.Held.{pair_of};
+ghost use Rattle.mt_table.specs.declared.definition.Table.{Table};
+ghost use Rattle.mt_defs.specs.Part.{StandsFor};
+ghost use Rattle.mt_defs.specs.Rows.{Row};
+ghost use Rattle.mt_defs.specs.Writer.{IsWritable, written_folder};
+ghost use Rattle.mt_granules.specs.ByteFiles.{HasByteFiles};
+ghost use Rattle.mt_check.specs.declared.accepted.Accepted.{Accepted};
+ghost use Rattle.mt_command.specs.Parts.{folder_at, part_checks, part_steps};
+ghost use Rattle.mt_command.specs.Targets.{free_target, within_limit};
+ghost use Rattle.mt_command.specs.declared.status.Status.{Status};
+ghost use Rattle.mt_written.specs.Texts.{HoldBytes};
+
+use mt_check::folders_have_one_answer;
+use mt_stands::{folders_are_checked_exactly, listed_files_make_a_folder};
+use mt_written::{written_folder_stands, written_names_differ};
+
+/// The checks of a part accept exactly the rows for which the folder of the files below it stands. A part whose
+/// folder stands for rows has no fault, and one whose folder stands for none isn't without a fault.
+pub fn parts_are_checked_exactly()
+    ensures accepted { (table : Table) (part : List ℕ) (files : Files) (accepted : Accepted)
+        → HasByteFiles (folder_at part files)
+        → part_checks table part files (Ok accepted) → StandsFor table (folder_at part files) accepted.rows }
+    ensures stands { (table : Table) (part : List ℕ) (files : Files) (rows : List Row)
+        → HasByteFiles (folder_at part files) → StandsFor table (folder_at part files) rows
+        → (accepted : Accepted) × part_checks table part files (Ok accepted) × (accepted.rows ≡ rows) }
+    ensures no_fault { (table : Table) (part : List ℕ) (files : Files) (rows : List Row) (fault : Fault)
+        → HasByteFiles (folder_at part files) → StandsFor table (folder_at part files) rows
+        → part_checks table part files (Err fault) → ⊥ }
+    ensures fault { (table : Table) (part : List ℕ) (files : Files) → HasByteFiles (folder_at part files)
+        → ((rows : List Row) → StandsFor table (folder_at part files) rows → ⊥)
+        → ((fault : Fault) → part_checks table part files (Err fault) → ⊥) → ⊥ }
+{
+    folders_are_checked_exactly();
+}
+
+/// The writer's folder of writable rows, within the limit and published where no file stands, is a part that is
+/// accepted, as the part of these rows and no others; it is never refused. So what `write` and `merge` publish,
+/// `check` accepts and `rows` prints.
+pub fn published_parts_are_accepted()
+    ensures accepted { (table : Table) (rows : List Row) (part : List ℕ) (files : Files)
+        → IsWritable table rows → HoldBytes rows → free_target part files ≡ Ok tt
+        → within_limit (written_folder table rows) ≡ Ok (written_folder table rows)
+        → (accepted : Accepted)
+        × part_steps table part (gained_files part (map pair_of (written_folder table rows)) files) (Ok accepted)
+        × (accepted.rows ≡ rows) }
+    ensures no_other { (table : Table) (rows : List Row) (part : List ℕ) (files : Files) (accepted : Accepted)
+        → IsWritable table rows → HoldBytes rows → free_target part files ≡ Ok tt
+        → within_limit (written_folder table rows) ≡ Ok (written_folder table rows)
+        → part_steps table part (gained_files part (map pair_of (written_folder table rows)) files) (Ok accepted)
+        → accepted.rows ≡ rows }
+    ensures no_refusal { (table : Table) (rows : List Row) (part : List ℕ) (files : Files) (status : Status)
+        → IsWritable table rows → HoldBytes rows → free_target part files ≡ Ok tt
+        → within_limit (written_folder table rows) ≡ Ok (written_folder table rows)
+        → part_steps table part (gained_files part (map pair_of (written_folder table rows)) files) (Err status)
+        → ⊥ }
+{
+    parts_are_checked_exactly();
+    folders_have_one_answer();
+    listed_files_make_a_folder();
+    written_folder_stands();
+    written_names_differ();
+}

@@ -1,0 +1,9 @@
+//! What the steps of the commands mean over the files of a shelf: a part has no fault exactly where its folder stands
+//! for some rows, and the part that a command publishes stands for the rows of which it was made.
+//!
+//! Laws alone.
+#![tactic(auto)]
+
+mod law;
+
+pub use law::{parts_are_checked_exactly, published_parts_are_accepted};
