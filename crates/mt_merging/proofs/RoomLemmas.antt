@@ -1,5 +1,5 @@
 -- The room that rows leave of the limits on a part.
-use Rattle.std.proofs.Common.{◌≡◌, ℕ, ◌+◌, ◌-◌, ◌*◌, ◌<◌, ◌≤◌, Bool, true, false, ltb, Option, Some, None, List, [], ◌∷◌, ◌++◌, length, All, Result, Ok, Err, if◌then◌else◌, refl, sym, ap, ap₂, add-mul, suc-mul, ◌∙◌, arith, inl, inr}
+use Rattle.std.proofs.Common.{◌≡◌, ℕ, ◌+◌, ◌-◌, ◌*◌, ◌<◌, ◌≤◌, Bool, true, false, ltb, Option, Some, None, List, [], ◌∷◌, ◌++◌, length, All, Result, Ok, Err, if◌then◌else◌, refl, sym, ap, ap₂, add-mul, suc-mul, zero-mul, ◌∙◌, arith, inl, inr}
 use Rattle.std.specs.Prelude.{nat_le, nat_lt}
 use Rattle.std.specs.List.{sum_by}
 use Rattle.std.proofs.lemmas.Bool.{cases_Bool, leb-true, leb-false, ltb-true, ltb-false, lt-ltb, le-ltb}
@@ -28,7 +28,10 @@ cells_more columns row rows long =
 
 -- the cells of rows that fit, row by row
 pub cells_by_row : (columns : List Column) (rows : List Row) → All (RowFits columns) rows → sum_by cells_of rows ≡ cell_count columns rows
-cells_by_row columns [] fit = refl
+cells_by_row columns [] fit = nothing (length columns)
+  where
+    nothing : (n : ℕ) → 0 ≡ 0 * n + 0
+    nothing n = let none = zero-mul n in omega (arith, none)
 cells_by_row columns (row ∷ rows) fit =
     sum_by-cons cells_of row rows
     ∙ ap (λ n. cells_of row + n) (cells_by_row columns rows (All-tail (RowFits columns) row rows fit))
@@ -49,8 +52,8 @@ cells_after columns xs ys =
 passes : (room others limit more : ℕ) → room + others ≡ limit → nat_lt room more ≡ nat_lt limit (others + more)
 passes room others limit more is =
     elim (cases_Bool (ltb room more)) [
-      | inl yes ↦ yes ∙ sym (lt-ltb limit (others + more) (omega (arith, is, ltb-true room more yes)))
-      | inr no ↦ no ∙ sym (le-ltb limit (others + more) (omega (arith, is, ltb-false room more no)))
+      | inl above ↦ above ∙ sym (lt-ltb limit (others + more) (omega (arith, is, ltb-true room more above)))
+      | inr within ↦ within ∙ sym (le-ltb limit (others + more) (omega (arith, is, ltb-false room more within)))
     ]
 
 -- rows after others are within the limits where they have the room that the others leave

@@ -1,6 +1,6 @@
 -- The rows of several inputs.
 use Rattle.std.proofs.Common.{◌≡◌, ◌≢◌, ℕ, ◌+◌, ◌<◌, ◌≤◌, Bool, true, false, List, [], ◌∷◌, ◌++◌, length, get_or, All, Result, Ok, Err, refl, sym, ap, ◌∙◌, subst, arith}
-use Rattle.std.specs.Prelude.{Contains}
+use Rattle.std.specs.Prelude.{Contains, ◌↔◌, Some, None, slice_get}
 use Rattle.std.specs.List.Sorted.{IsSorted}
 use Rattle.std.specs.Str.{bytes_eq}
 use Rattle.std.proofs.lemmas.List.{append-nil}
@@ -64,6 +64,27 @@ joined_one table ((a ∷ xs) ∷ read) [] some there one other passed = absurd (
 joined_one table ((a ∷ xs) ∷ read) (b ∷ ys) some there one other passed =
     let test = together table (a ∷ xs) (b ∷ ys) read (are_together table (a ∷ xs) (b ∷ ys)) refl passed in
     joined_rows table a b (xs ++ all_rows read) ys one other ((bytes_eq-Decides (partition_bytes table a) (partition_bytes table b)).0 test)
+
+-- the first row of a list
+first_is : (a : Row) (rows : List Row) → Some a ≡ slice_get rows 0 → (rest : List Row) × (rows ≡ a ∷ rest)
+first_is a [] e = let none : Some a ≡ None = e in cc
+first_is a (row ∷ rows) e = let some : Some a ≡ Some row = e in let same : a ≡ row = cc in (rows, ap (λ (r : Row). r ∷ rows) (sym same))
+
+-- what a comparison of two rows says
+same_test : (table : Table) (a b : Row) (same : Bool) → (same ≡ true) ↔ (partition_bytes table a ≡ partition_bytes table b) → same ≡ bytes_eq (partition_bytes table a) (partition_bytes table b)
+same_test table a b true both = sym ((bytes_eq-Decides (partition_bytes table a) (partition_bytes table b)).1 (both.0 refl))
+same_test table a b false both = sym (apart (bytes_eq (partition_bytes table a) (partition_bytes table b)) refl)
+  where
+    apart : (eq : Bool) → bytes_eq (partition_bytes table a) (partition_bytes table b) ≡ eq → eq ≡ false
+    apart false e = refl
+    apart true e = let yes = both.1 ((bytes_eq-Decides (partition_bytes table a) (partition_bytes table b)).0 e) in cc
+
+pub together_is : (table : Table) (a b : Row) (one other : List Row) (same : Bool) → Some a ≡ slice_get one 0 → Some b ≡ slice_get other 0 → (same ≡ true) ↔ (partition_bytes table a ≡ partition_bytes table b)
+    → same ≡ are_together table one other
+together_is table a b one other same first second both =
+    let left = first_is a one first in
+    let right = first_is b other second in
+    same_test table a b same both ∙ sym (ap (λ (rows : List Row). are_together table rows other) left.1 ∙ ap (are_together table (a ∷ left.0)) right.1)
 
 -- ---- in key order
 

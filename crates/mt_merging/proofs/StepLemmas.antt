@@ -1,5 +1,5 @@
 -- The steps of a merge.
-use Rattle.std.proofs.Common.{◌≡◌, ◌⊎◌, inl, inr, ℕ, false, List, [], ◌∷◌, map, Option, Some, None, IfSome, Result, Ok, Err, refl, sym, ap, ◌∙◌, subst, string_bytes, String}
+use Rattle.std.proofs.Common.{◌≡◌, ◌⊎◌, inl, inr, ℕ, false, List, [], ◌∷◌, map, Option, Some, None, IfSome, Result, Ok, Err, refl, sym, ap, ◌∙◌, subst, string_bytes, Global, String}
 use Rattle.mt_table.specs.declared.definition.Table.{Table}
 use Rattle.mt_shelf.specs.declared.file.FileBytes.{FileBytes}
 use Rattle.mt_shelf.specs.Files.{Files}
@@ -50,36 +50,36 @@ input_given table read more part accepted (Some f) gives added = inl (accepted, 
 -- ---- all inputs
 
 -- an outcome of what is left is one of all
-abbrev pub Lead : Table → Option Files → List (List Row) → List String → List String → Type 0
+abbrev pub Lead : Table → Option Files → List (List Row) → List (String Global) → List (String Global) → Type 0
 Lead table files read rest parts =
     IfSome files (λ f. (outcome : Result (List (List Row)) Status) → inputs_steps table f read (map string_bytes rest) outcome → inputs_steps table f [] (map string_bytes parts) outcome)
 
-pub lead_all : (table : Table) (files : Option Files) (read : List (List Row)) (parts : List String) → read ≡ [] → Lead table files read parts parts
+pub lead_all : (table : Table) (files : Option Files) (read : List (List Row)) (parts : List (String Global)) → read ≡ [] → Lead table files read parts parts
 lead_all table None read parts none = tt
 lead_all table (Some f) read parts none = λ outcome steps. subst (λ (r : List (List Row)). inputs_steps table f r (map string_bytes parts) outcome) none steps
 
-pub lead_next : (table : Table) (files mid : Option Files) (read more : List (List Row)) (rest parts others : List String) (part : String) → rest ≡ part ∷ others → mid ≡ files
+pub lead_next : (table : Table) (files mid : Option Files) (read more : List (List Row)) (rest parts others : List (String Global)) (part : String Global) → rest ≡ part ∷ others → mid ≡ files
     → IfSome mid (λ f. input_steps table f read (string_bytes part) (Ok more)) → Lead table files read rest parts → Lead table files more others parts
 unfolding inputs_steps
 lead_next table None mid read more rest parts others part e same given before = tt
 lead_next table (Some f) mid read more rest parts others part e same given before =
     let here : input_steps table f read (string_bytes part) (Ok more) = subst (λ files. IfSome files (λ g. input_steps table g read (string_bytes part) (Ok more))) same given in
-    λ outcome steps. before outcome (subst (λ (r : List String). inputs_steps table f read (map string_bytes r) outcome) (sym e) (inl (more, here, steps)))
+    λ outcome steps. before outcome (subst (λ (r : List (String Global)). inputs_steps table f read (map string_bytes r) outcome) (sym e) (inl (more, here, steps)))
 
-pub lead_refused : (table : Table) (files mid : Option Files) (read : List (List Row)) (rest parts others : List String) (part : String) (status : Status) → rest ≡ part ∷ others → mid ≡ files
+pub lead_refused : (table : Table) (files mid : Option Files) (read : List (List Row)) (rest parts others : List (String Global)) (part : String Global) (status : Status) → rest ≡ part ∷ others → mid ≡ files
     → IfSome mid (λ f. is_outside status ≡ false → input_steps table f read (string_bytes part) (Err status)) → Lead table files read rest parts
     → IfSome files (λ f. is_outside status ≡ false → inputs_steps table f [] (map string_bytes parts) (Err status))
 unfolding inputs_steps
 lead_refused table None mid read rest parts others part status e same refused before = tt
 lead_refused table (Some f) mid read rest parts others part status e same refused before =
     let here : is_outside status ≡ false → input_steps table f read (string_bytes part) (Err status) = subst (λ files. IfSome files (λ g. is_outside status ≡ false → input_steps table g read (string_bytes part) (Err status))) same refused in
-    λ inside. before (Err status) (subst (λ (r : List String). inputs_steps table f read (map string_bytes r) (Err status)) (sym e) (inr (status, here inside, refl)))
+    λ inside. before (Err status) (subst (λ (r : List (String Global)). inputs_steps table f read (map string_bytes r) (Err status)) (sym e) (inr (status, here inside, refl)))
 
-pub lead_end : (table : Table) (files : Option Files) (read : List (List Row)) (rest parts : List String) → rest ≡ [] → Lead table files read rest parts
+pub lead_end : (table : Table) (files : Option Files) (read : List (List Row)) (rest parts : List (String Global)) → rest ≡ [] → Lead table files read rest parts
     → IfSome files (λ f. inputs_steps table f [] (map string_bytes parts) (Ok read))
 unfolding inputs_steps
 lead_end table None read rest parts e before = tt
-lead_end table (Some f) read rest parts e before = before (Ok read) (subst (λ (r : List String). inputs_steps table f read (map string_bytes r) (Ok read)) (sym e) refl)
+lead_end table (Some f) read rest parts e before = before (Ok read) (subst (λ (r : List (String Global)). inputs_steps table f read (map string_bytes r) (Ok read)) (sym e) refl)
 
 -- ---- the folder
 

@@ -5,7 +5,7 @@ ghost use Rattle.mt_defs.specs.Partition.{HaveOnePartition};
 ghost use Rattle.mt_defs.specs.Rows.{RowFits};
 ghost use Rattle.mt_command.specs.Status.{Gives, is_outside};
 ghost use Rattle.mt_command.specs.Steps.{StepCausedBy, of_nothing};
-ghost use Rattle.mt_merging.specs.Inputs.{AreInputs, all_rows, one_partition, with_input};
+ghost use Rattle.mt_merging.specs.Inputs.{AreInputs, all_rows, are_together, one_partition, with_input};
 ghost use Rattle.mt_merging.specs.Rooms.{LeaveRoom};
 
 use crate::room::{Room, room_after};
@@ -65,7 +65,10 @@ pub(crate) fn add_input(
     ensures cause { StepCausedBy result of_nothing of_nothing }
 {
     one_partition(table, read.as_slice(), rows.as_slice())?;
-    let left = room_after(table, room, rows.as_slice())?;
+    let left = match room_after(table, room, rows.as_slice()) {
+        Ok(left) => left,
+        Err(status) => return Err(status),
+    };
     match read.push(rows) {
         Ok(()) => Ok(left),
         Err(_) => Err(Status::NoMemory),
