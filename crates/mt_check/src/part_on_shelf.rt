@@ -55,7 +55,7 @@ pub fn check<F: Shelf>(
 
 /// The rows and granules for which files stand, in a part that is listed so, or the first fault. It never
 /// returns `Shelf`.
-fn check_listed(
+pub fn check_listed(
     alloc: Global,
     table: &Table,
     files: &PartFiles,
