@@ -1,12 +1,19 @@
 -- The rows of a part, in key order, are rows that the writer takes.
-use Rattle.std.proofs.Common.{◌≡◌, ◌≢◌, ℕ, ◌<◌, ◌≤◌, List, [], sym, subst}
+use Rattle.std.proofs.Common.{◌≡◌, ◌≢◌, ℕ, ◌<◌, ◌≤◌, List, [], Result, ap, sym, ◌∙◌, subst}
 use Rattle.std.specs.Prelude.{All}
 use Rattle.mt_table.specs.declared.column.Column.{Column}
 use Rattle.mt_table.specs.declared.definition.Table.{Table}
 use Rattle.mt_defs.specs.Partition.{HaveOnePartition}
-use Rattle.mt_defs.specs.Rows.{Row, RowFits}
+use Rattle.std.specs.List.Sorted.{IsSorted}
+use Rattle.mt_shelf.specs.declared.file.FileBytes.{FileBytes}
+use Rattle.mt_defs.specs.Writer.{written_folder}
+use Rattle.mt_command.specs.Status.{Gives}
+use Rattle.mt_command.specs.Targets.{within_limit}
+use Rattle.mt_command.specs.declared.status.Status.{Status}
+use Rattle.mt_trial.specs.Trial.{half_folder}
+use Rattle.mt_defs.specs.Rows.{Row, RowFits, key_cmp}
 use Rattle.mt_defs.specs.Sorting.{sorted_rows}
-use Rattle.mt_defs.proofs.Sorted.{All-sorted_rows, some_sorted_rows}
+use Rattle.mt_defs.proofs.Sorted.{All-sorted_rows, IsSorted-sorted_rows, some_sorted_rows}
 use Rattle.mt_trial.specs.Rows.{half_rows}
 use Rattle.mt_trial.specs.Tables.{trial_columns, trial_partition}
 use Rattle.mt_trial.proofs.RowLemmas.{half_fits, half_month, half_some}
@@ -30,3 +37,11 @@ sorted_some table number rows remainder half sorted made is few small =
 pub sorted_month : (table : Table) (number rows remainder : ℕ) (half sorted : List Row) → half ≡ half_rows number rows remainder → sorted ≡ sorted_rows table.sort half → table.partition ≡ trial_partition → HaveOnePartition table sorted
 sorted_month table number rows remainder half sorted made is partition =
     sorted_is (HaveOnePartition table) table.sort number rows remainder half sorted made is (half_month table number rows remainder partition)
+
+pub sorted_order : (table : Table) (half sorted : List Row) → sorted ≡ sorted_rows table.sort half → IsSorted (key_cmp table.sort) sorted
+sorted_order table half sorted is = subst (IsSorted (key_cmp table.sort)) (sym is) (IsSorted-sorted_rows table.sort half)
+
+pub half_given : (table : Table) (number rows remainder : ℕ) (half sorted : List Row) (r : Result (List FileBytes) Status) → half ≡ half_rows number rows remainder → sorted ≡ sorted_rows table.sort half
+    → Gives r (within_limit (written_folder table sorted)) → Gives r (half_folder table number rows remainder)
+half_given table number rows remainder half sorted r made is gives =
+    let P : List Row → Type 0 = λ rows. Gives r (within_limit (written_folder table rows)) in subst P (is ∙ ap (sorted_rows table.sort) made) gives

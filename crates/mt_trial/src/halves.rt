@@ -12,7 +12,7 @@ ghost use Rattle.mt_trial.specs.declared.rows.TheConstants.{MAX_TRIAL_ROWS};
 use crate::rows::half_rows;
 use mt_build::sort_rows;
 use mt_command::{Status, sorted_folder, store_folder};
-use mt_shelf::{FileBytes, Gate, Shelf, SureShelf};
+use mt_shelf::{FileBytes, FileSet, Gate, Shelf, SureShelf};
 use mt_table::Table;
 use mt_types::{List, NoMemory};
 use std::alloc::Global;
@@ -22,7 +22,6 @@ use std::thread::Threads;
 const MAX_READ: usize = 1_048_576;
 
 /// The writer's folder of the rows at even places (a remainder of 0), or at odd ones (1).
-#[tactic(auto, using(crate::proofs::HalfLemmas::sorted_fit, crate::proofs::HalfLemmas::sorted_some, crate::proofs::HalfLemmas::sorted_month))]
 pub(crate) fn half_folder<R: Threads + Sync, G: Gate + Sync>(
     rt: &R,
     alloc: Global,
@@ -63,7 +62,7 @@ pub(crate) fn two_parts(
     requires odd { All HasName odd.now }
     ensures { IfOk result (λ shelf. files_of (⟦<SureShelf as Shelf>⟧.state shelf) ≡ Some (two_parts even.now odd.now)) }
 {
-    let mut shelf = SureShelf::new(alloc, List::new(alloc), MAX_READ);
+    let mut shelf = SureShelf::new(alloc, FileSet::new(alloc).into_files(), MAX_READ);
     let Ok(()) = store_folder(&mut shelf, "even", even) else {
         return Err(NoMemory);
     };

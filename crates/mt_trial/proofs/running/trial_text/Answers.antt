@@ -1,0 +1,17 @@
+use Rattle.mt_trial.proofs.MergedLemmas.{both_answered, even_refused, odd_refused, table_refused}
+use Rattle.mt_trial.proofs.running.trial_text.Goals as goal
+
+pub returns-in-Err-clause-gives : goal.returns-in-Err-clause-gives
+returns-in-Err-clause-gives g c = table_refused c.args.number c.args.rows c.in-Err.status c.in-Err.ensures.gives
+
+pub returns-in-Err-half_folder-clause-gives : goal.returns-in-Err-half_folder-clause-gives
+returns-in-Err-half_folder-clause-gives g c = even_refused c.args.number c.args.rows c.in-Ok.table c.in-Err-half_folder.status c.in-Ok.ensures.gives c.in-Err-half_folder.ensures.gives
+
+pub returns-in-Err-half_folder-2-clause-gives : goal.returns-in-Err-half_folder-2-clause-gives
+returns-in-Err-half_folder-2-clause-gives g c =
+    odd_refused c.args.number c.args.rows c.in-Ok.table c.in-Ok-half_folder.folder c.in-Err-half_folder-2.status c.in-Ok.ensures.gives c.in-Ok-half_folder.ensures.gives c.in-Err-half_folder-2.ensures.gives
+
+pub returns-in-Ok-two_parts-clause-gives : goal.returns-in-Ok-two_parts-clause-gives
+returns-in-Ok-two_parts-clause-gives g c =
+    both_answered c.args.number c.args.rows c.in-Ok.table c.in-Ok-half_folder.folder c.in-Ok-half_folder-2.folder c.merge_answers.result _ c.in-Ok.ensures.gives c.in-Ok-half_folder.ensures.gives c.in-Ok-half_folder-2.ensures.gives
+    (rw (c.as_slice.ensures, c.as_slice-2.ensures) at c.in-Ok-two_parts.ensures) c.merge_answers.ensures.gives
