@@ -1,12 +1,12 @@
 -- Files that are made of bytes: frames and marks.
-use Rattle.std.proofs.Common.{◌≡◌, ℕ, ◌+◌, ◌<◌, List, [], ◌∷◌, ◌++◌, length, map, get_or, sym, subst, lit<}
+use Rattle.std.proofs.Common.{ℕ, ◌+◌, ◌<◌, List, [], ◌∷◌, ◌++◌, length, get_or, sym, subst, lit<}
 use Rattle.std.specs.Prelude.{All}
 use Rattle.std.specs.List.{concat, flat_map, zip}
 use Rattle.std.specs.Int.{w32, w64, to_le_bytes}
 use Rattle.std.proofs.lemmas.List.Elements.{All-nil, All-cons, All-append, All-head, All-tail}
 use Rattle.mt_defs.specs.declared.frame.TheConstants.{METHOD_NONE, SIZES_EXTRA}
 use Rattle.mt_defs.specs.declared.mark.Mark.{Mark}
-use Rattle.mt_defs.specs.Frames.{Block, IsBlock, IsFramed, block_bytes, file_of}
+use Rattle.mt_defs.specs.Frames.{Block, IsBlock, IsFramed, block_bytes}
 use Rattle.mt_defs.specs.Lists.{AreBytes}
 use Rattle.mt_defs.specs.Marks.{entry_bytes, mark_bytes, marks_bytes, u64_bytes}
 use Rattle.mt_defs.specs.WrittenFrames.{written_frames, written_marks, written_marks_bytes}

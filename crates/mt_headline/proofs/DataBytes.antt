@@ -1,6 +1,6 @@
 -- The writer's files of a definition's rows are bytes.
-use Rattle.std.proofs.Common.{◌≡◌, ℕ, zero, suc, ◌-◌, ◌<◌, Bool, true, false, List, [], ◌∷◌, ◌++◌, length, map, take, drop, get_or}
-use Rattle.std.specs.Prelude.{All, IsTrue, if◌then◌else◌}
+use Rattle.std.proofs.Common.{ℕ, zero, suc, ◌-◌, ◌<◌, Bool, true, false, List, [], ◌∷◌, length, map, take, drop, get_or}
+use Rattle.std.specs.Prelude.{All, IsTrue}
 use Rattle.std.specs.List.{concat, enumerate_from, flat_map, list_all}
 use Rattle.std.specs.Fmt.{decimal}
 use Rattle.std.proofs.lemmas.List.Elements.{All-nil, All-append, All-drop, All-head, All-tail, All-take, All-weaker}
@@ -18,9 +18,9 @@ use Rattle.mt_defs.specs.Metadata.{column_at, columns_name, columns_text, count_
 use Rattle.mt_defs.specs.PrimaryIndex.{index_name, index_rows, key_bytes, primary_index_of}
 use Rattle.mt_defs.specs.Rows.{Row, RowFits, cell, column_values}
 use Rattle.mt_defs.specs.Wide.{stream_payloads}
-use Rattle.mt_defs.specs.WrittenColumns.{compact_files, compact_frames, file, granule_streams, stream_files, wide_column, wide_files}
+use Rattle.mt_defs.specs.WrittenColumns.{compact_files, compact_frames, file, granule_streams, stream_files, wide_column}
 use Rattle.mt_defs.specs.WrittenFrames.{written_frames, written_marks_bytes}
-use Rattle.mt_defs.specs.WrittenGranules.{is_small, written_granules}
+use Rattle.mt_defs.specs.WrittenGranules.{written_granules}
 use Rattle.mt_defs.specs.WrittenStreams.{written_streams}
 use Rattle.mt_defs.specs.Writer.{definition_files}
 use Rattle.mt_written.specs.Texts.{holds_bytes, HoldBytes}

@@ -1,5 +1,5 @@
 -- The files of the writer's folder are bytes.
-use Rattle.std.proofs.Common.{◌≡◌, ◌≢◌, ℕ, ◌<◌, ◌≤◌, true, List, [], ◌∷◌, ◌++◌, length, map, take, get_or, refl, ap, sym, ◌∙◌, subst, lit<}
+use Rattle.std.proofs.Common.{◌≡◌, ◌≢◌, ℕ, ◌<◌, ◌≤◌, true, List, [], ◌∷◌, ◌++◌, length, map, take, get_or, refl, sym, ◌∙◌, subst, lit<}
 use Rattle.std.specs.Prelude.{All, Option, Some}
 use Rattle.std.specs.List.{concat, flat_map}
 use Rattle.std.specs.Int.{w32, w64}

@@ -1,5 +1,5 @@
 -- The names that a listing shows of the files below a part.
-use Rattle.std.proofs.Common.{◌≡◌, ℕ, zero, suc, Bool, true, false, List, [], ◌∷◌, map, length, ap, sym, ◌∙◌, subst, refl, arith, inl, inr, Option, Some, None}
+use Rattle.std.proofs.Common.{◌≡◌, ℕ, zero, suc, Bool, List, [], ◌∷◌, length, ap, sym, ◌∙◌, subst, refl, arith, inl, inr, Option, Some, None}
 use Rattle.std.specs.Prelude.{Contains, IsSome, is_some, if◌then◌else◌}
 use Rattle.std.specs.Option.{option_map}
 use Rattle.std.proofs.lemmas.Bool.{cases_Bool}
@@ -44,6 +44,7 @@ is_sized part files name = ap is_some (size_of_file part name files) ∙ sized (
 
 -- a listing has the names at which the part's folder has a file
 pub listed_below : (part : List ℕ) (files : Files) → HasNames (folder_at part files) (listed_names (entries_below part files))
-listed_below part files name =
-    (λ found. sized_is_listed (entries_below part files) name (is_sized part files name ∙ found),
-    λ listed. sym (is_sized part files name) ∙ listed_is_sized (entries_below part files) name listed)
+listed_below part files name = (
+  λ found. sized_is_listed (entries_below part files) name (is_sized part files name ∙ found),
+  λ listed. sym (is_sized part files name) ∙ listed_is_sized (entries_below part files) name listed,
+)

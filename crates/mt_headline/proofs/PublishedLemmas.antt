@@ -1,5 +1,5 @@
 -- The part that a command publishes: what its checks read, and that its listing is within the limit.
-use Rattle.std.proofs.Common.{◌≡◌, ℕ, zero, suc, ◌+◌, ◌<◌, ◌≤◌, ◌^◌, Bool, true, false, cond, List, [], ◌∷◌, length, map, get_or, refl, ap, sym, ◌∙◌, subst, arith, lit<, lit≤, inl, inr}
+use Rattle.std.proofs.Common.{◌≡◌, ℕ, zero, suc, ◌<◌, ◌≤◌, ◌^◌, false, List, [], ◌∷◌, length, map, get_or, ap, sym, ◌∙◌, subst, arith, lit<, inl, inr}
 use Rattle.std.specs.Prelude.{All, AllPairs, Result, Ok, Err}
 use Rattle.std.proofs.lemmas.List.Sums.{sum_by-cons}
 use Rattle.mt_shelf.specs.declared.fault.Fault.{Fault}
@@ -15,12 +15,10 @@ use Rattle.mt_defs.specs.Projections.{base_of}
 use Rattle.mt_defs.specs.Rows.{Row}
 use Rattle.mt_granules.specs.ByteFiles.{HasByteFiles, IsByteFile}
 use Rattle.mt_check.specs.declared.accepted.Accepted.{Accepted}
-use Rattle.mt_command.specs.Outcomes.{refused_by}
 use Rattle.mt_command.specs.Parts.{folder_at, listing_in, part_checks, part_steps}
-use Rattle.mt_command.specs.Targets.{folder_bytes, free_target, within_limit}
+use Rattle.mt_command.specs.Targets.{folder_bytes, free_target}
 use Rattle.mt_command.specs.declared.limits.TheConstants.{MAX_FOLDER}
 use Rattle.mt_command.specs.declared.status.Status.{Status}
-use Rattle.mt_command.specs.declared.status.Status.TheVariants.{AtFault}
 use Rattle.mt_written.proofs.OrderLemmas.{Differently}
 use Rattle.mt_headline.proofs.DataBytes.{HasBytes}
 use Rattle.mt_headline.proofs.GainedLemmas.{all_apart, folder_gained}

@@ -1,5 +1,5 @@
 -- The listing of a part that was published: its files are not more than those of the draft, and there is one.
-use Rattle.std.proofs.Common.{◌≡◌, ℕ, ◌+◌, ◌≤◌, Bool, true, false, cond, List, [], ◌∷◌, length, map, refl, ap, sym, ◌∙◌, subst, arith, inl, inr}
+use Rattle.std.proofs.Common.{◌≡◌, ℕ, ◌+◌, ◌≤◌, Bool, true, false, cond, List, [], ◌∷◌, length, map, refl, ap, sym, ◌∙◌, subst, arith}
 use Rattle.std.specs.Prelude.{Option, Some, None, IsSome, is_some, nat_lt, option_map, Result, Ok, Err}
 use Rattle.std.specs.List.{cons_option, filter_map, list_any}
 use Rattle.std.specs.Ordering.{nat_cmp}
@@ -7,7 +7,7 @@ use Rattle.std.specs.Cmp.Lexicographic.{slice_cmp}
 use Rattle.std.specs.FinMap.{entries, entries-insert, entries_sorted, insert}
 use Rattle.std.specs.declared.cmp.Ordering.{Ordering}
 use Rattle.std.specs.declared.cmp.Ordering.TheVariants.{Less, Equal, Greater}
-use Rattle.std.proofs.lemmas.Bool.{ltb-false, ltb-true, or_parts, cases_Bool}
+use Rattle.std.proofs.lemmas.Bool.{ltb-false, ltb-true, or_parts}
 use Rattle.std.proofs.lemmas.Cmp.{nat_list_cmp_total}
 use Rattle.std.proofs.lemmas.List.Sums.{sum_by-cons}
 use Rattle.mt_shelf.specs.declared.file.Entry.{Entry}
@@ -18,10 +18,9 @@ use Rattle.mt_shelf.specs.Held.{by_order, pair_of, with_entry, with_entry_if}
 use Rattle.mt_shelf.proofs.Puts.{below_joined, joined_below}
 use Rattle.mt_shelf.proofs.Listings.{shown-put}
 use Rattle.mt_check.specs.Listings.{size_in}
-use Rattle.mt_command.specs.Parts.{folder_at, few_bytes, listed_bytes, listing_in, part_files}
+use Rattle.mt_command.specs.Parts.{folder_at, listed_bytes, listing_in, part_files}
 use Rattle.mt_command.specs.Targets.{folder_bytes, within_limit}
 use Rattle.mt_command.specs.declared.limits.TheConstants.{MAX_FOLDER}
-use Rattle.mt_command.specs.declared.status.Status.{Status}
 use Rattle.mt_headline.proofs.GainedLemmas.{at_or_below, not_both}
 use Rattle.mt_headline.proofs.NameLemmas.{is_sized}
 
@@ -97,7 +96,6 @@ few_gained part draft files free few =
     omega (arith, sum, nothing, few)
 
 -- ---- the listing
-
 
 -- a limit that is kept
 pub ok_of : {A B : Type 0} (above : Bool) (status : B) (x : A) → (let r : Result A B = cond above (Err status) (Ok x) in r) ≡ Ok x → above ≡ false
