@@ -1,7 +1,7 @@
 -- The inputs are tried one after another.
-use Rattle.std.proofs.Common.{◌≡◌, ℕ, List, [], ◌∷◌, map, Option, Some, None, IfSome, Result, Ok, Err, false, refl, sym, ap, ◌∙◌, string_bytes, Global, String}
+use Rattle.std.proofs.Common.{◌≡◌, ℕ, List, [], ◌∷◌, map, Option, Some, None, IfSome, Ok, Err, false, refl, sym, ap, ◌∙◌, string_bytes, Global, String}
 use Rattle.mt_shelf.specs.Files.{Files, entries_below, listing_of}
-use Rattle.mt_command.specs.Status.{Gives, is_outside}
+use Rattle.mt_command.specs.Status.{is_outside}
 use Rattle.mt_command.specs.declared.status.Status.{Status}
 use Rattle.mt_merging.specs.Inputs.{are_there, some_files}
 

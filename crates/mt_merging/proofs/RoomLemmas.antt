@@ -1,5 +1,5 @@
 -- The room that rows leave of the limits on a part.
-use Rattle.std.proofs.Common.{◌≡◌, ℕ, ◌+◌, ◌-◌, ◌*◌, ◌<◌, ◌≤◌, Bool, true, false, ltb, Option, Some, None, List, [], ◌∷◌, ◌++◌, length, All, Result, Ok, Err, if◌then◌else◌, refl, sym, ap, ap₂, add-mul, suc-mul, zero-mul, ◌∙◌, arith, inl, inr}
+use Rattle.std.proofs.Common.{◌≡◌, ℕ, ◌+◌, ◌-◌, ◌*◌, ◌≤◌, Bool, true, false, ltb, Some, None, List, [], ◌∷◌, ◌++◌, length, All, Result, Ok, Err, if◌then◌else◌, refl, sym, ap, ap₂, add-mul, suc-mul, zero-mul, ◌∙◌, arith, inl, inr}
 use Rattle.std.specs.Prelude.{nat_le, nat_lt}
 use Rattle.std.specs.List.{sum_by}
 use Rattle.std.proofs.lemmas.Bool.{cases_Bool, leb-true, leb-false, ltb-true, ltb-false, lt-ltb, le-ltb}

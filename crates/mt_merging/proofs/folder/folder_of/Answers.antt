@@ -1,4 +1,3 @@
-use Rattle.std.proofs.Common.{◌∙◌, sym}
 use Rattle.mt_merging.proofs.RowLemmas.{merged_cells, merged_fit, merged_one, merged_ordered, merged_some}
 use Rattle.mt_merging.proofs.folder.folder_of.Goals as goal
 

@@ -1,4 +1,4 @@
-use Rattle.std.proofs.Common.{◌≡◌, Ok, sym, ◌∙◌}
+use Rattle.std.proofs.Common.{◌≡◌, Ok}
 use Rattle.mt_merging.specs.Inputs.{one_partition}
 use Rattle.mt_merging.proofs.InputLemmas.{input_added, inputs_added, limit_refused, room_added}
 use Rattle.mt_merging.proofs.inputs.add_input.Goals as goal

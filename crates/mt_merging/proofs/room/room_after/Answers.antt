@@ -1,4 +1,4 @@
-use Rattle.std.proofs.Common.{◌≤◌, length, sym, ◌∙◌, arith}
+use Rattle.std.proofs.Common.{◌≤◌, length, sym, arith}
 use Rattle.mt_merging.proofs.RoomLemmas.{all_have_room, cells_have_no_room}
 use Rattle.mt_merging.proofs.room.room_after.Goals as goal
 
