@@ -71,3 +71,18 @@ pub both_answered : (number rows : ℕ) (table : Table) (even odd : List FileByt
 both_answered number rows table even odd r files read one two held answers =
     let P : Option Files → Type 0 = λ o. IfSome o (λ f. Returns r (merge_answers table f)) in
     both_here number rows table even odd r read one two (subst P held answers)
+
+-- ---- the same by the names of the inputs
+
+pub named_refused : (table : Table) (names : List (List ℕ)) (status : Status) (files : Option Files) → names ≡ half_names → IfSome files (λ f. Returns (let r : Result (List FileBytes) Status = Err status in r) (merge_table_steps table (codes "merged") names f))
+    → IfSome files (λ f. Returns (let r : Result (List ℕ) Status = Err status in r) (merge_answers table f))
+named_refused table names status files is refused =
+    let P : List (List ℕ) → Type 0 = λ n. IfSome files (λ f. Returns (let r : Result (List FileBytes) Status = Err status in r) (merge_table_steps table (codes "merged") n f)) in
+    merge_refused table status files (subst P is refused)
+
+pub named_answered : (table : Table) (names : List (List ℕ)) (folder : List FileBytes) (r : Result (List ℕ) Status) (files mid late : Option Files) → names ≡ half_names
+    → IfSome files (λ f. merge_table_steps table (codes "merged") names f (Ok folder)) → mid ≡ files → late ≡ option_map (gained_files (codes "merged") (map pair_of folder)) mid → IfSome late (λ f. Returns r (part_answers table f))
+    → IfSome files (λ f. Returns r (merge_answers table f))
+named_answered table names folder r files mid late is given same stored answers =
+    let P : List (List ℕ) → Type 0 = λ n. IfSome files (λ f. merge_table_steps table (codes "merged") n f (Ok folder)) in
+    merge_answered table folder r files mid late (subst P is given) same stored answers

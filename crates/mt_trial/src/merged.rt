@@ -38,10 +38,7 @@ fn part_answers<F: Shelf>(alloc: Global, shelf: &mut F, table: &Table) -> Result
         Ok(accepted) => accepted,
         Err(status) => return Err(status),
     };
-    match answers_of(alloc, table, accepted.rows.as_slice()) {
-        Ok(text) => Ok(text),
-        Err(status) => Err(status),
-    }
+    answers_of(alloc, table, accepted.rows.as_slice())
 }
 
 /// Merges the two parts as `merge` does, and stores the merge beside them.

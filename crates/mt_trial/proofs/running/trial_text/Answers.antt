@@ -11,7 +11,7 @@ pub returns-in-Err-half_folder-2-clause-gives : goal.returns-in-Err-half_folder-
 returns-in-Err-half_folder-2-clause-gives g c =
     odd_refused c.args.number c.args.rows c.in-Ok.table c.in-Ok-half_folder.folder c.in-Err-half_folder-2.status c.in-Ok.ensures.gives c.in-Ok-half_folder.ensures.gives c.in-Err-half_folder-2.ensures.gives
 
-pub returns-in-Ok-two_parts-clause-gives : goal.returns-in-Ok-two_parts-clause-gives
-returns-in-Ok-two_parts-clause-gives g c =
+pub returns-clause-gives : goal.returns-clause-gives
+returns-clause-gives g c =
     both_answered c.args.number c.args.rows c.in-Ok.table c.in-Ok-half_folder.folder c.in-Ok-half_folder-2.folder c.merge_answers.result _ c.in-Ok.ensures.gives c.in-Ok-half_folder.ensures.gives c.in-Ok-half_folder-2.ensures.gives
     (rw (c.as_slice.ensures, c.as_slice-2.ensures) at c.in-Ok-two_parts.ensures) c.merge_answers.ensures.gives
