@@ -7,3 +7,4 @@ mod GainedLemmas
 mod SizeLemmas
 mod PublishedLemmas
 mod WrittenLemmas
+mod StorableLemmas
