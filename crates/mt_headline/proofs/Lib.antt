@@ -8,3 +8,4 @@ mod SizeLemmas
 mod PublishedLemmas
 mod WrittenLemmas
 mod StorableLemmas
+mod ApartLemmas

@@ -1,9 +1,10 @@
 //! Laws of the commands' steps, each the contract of a function that does nothing.
 
-ghost use Rattle.std.specs.Prelude.{◌≡◌, ℕ, List, map, Err, Ok};
+ghost use Rattle.std.specs.Prelude.{◌≡◌, ◌↔◌, ℕ, false, List, map, Err, Ok, Result};
 ghost use Rattle.mt_shelf.specs.declared.fault.Fault.{Fault};
-ghost use Rattle.mt_shelf.specs.Files.{Files, gained_files};
+ghost use Rattle.mt_shelf.specs.Files.{Draft, Files, entries_below, gained_files};
 ghost use Rattle.mt_shelf.specs.Held.{pair_of};
+ghost use Rattle.mt_shelf.specs.Paths.{is_at_or_below};
 ghost use Rattle.mt_table.specs.declared.definition.Table.{Table};
 ghost use Rattle.mt_defs.specs.Part.{StandsFor};
 ghost use Rattle.mt_defs.specs.Rows.{Row};
@@ -90,3 +91,18 @@ pub fn storable_rows_are_accepted()
 {
     published_parts_are_accepted();
 }
+
+/// What is published leaves every other part as it was, where neither path is at or below the other: its folder and
+/// its listing, and so what its steps make of it.
+pub fn other_parts_stay()
+    ensures folder { (target other : List ℕ) (draft : Draft) (files : Files)
+        → is_at_or_below target other ≡ false → is_at_or_below other target ≡ false
+        → folder_at other (gained_files target draft files) ≡ folder_at other files }
+    ensures listing { (target other : List ℕ) (draft : Draft) (files : Files)
+        → is_at_or_below target other ≡ false → is_at_or_below other target ≡ false
+        → entries_below other (gained_files target draft files) ≡ entries_below other files }
+    ensures steps { (table : Table) (target other : List ℕ) (draft : Draft) (files : Files)
+        (outcome : Result Accepted Status)
+        → is_at_or_below target other ≡ false → is_at_or_below other target ≡ false
+        → part_steps table other (gained_files target draft files) outcome ↔ part_steps table other files outcome }
+{}
