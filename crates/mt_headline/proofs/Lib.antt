@@ -7,3 +7,5 @@ mod GainedLemmas
 mod SizeLemmas
 mod PublishedLemmas
 mod WrittenLemmas
+mod StorableLemmas
+mod ApartLemmas

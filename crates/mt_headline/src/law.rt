@@ -1,12 +1,14 @@
 //! Laws of the commands' steps, each the contract of a function that does nothing.
 
-ghost use Rattle.std.specs.Prelude.{◌≡◌, ℕ, List, map, Err, Ok};
+ghost use Rattle.std.specs.Prelude.{◌≡◌, ◌↔◌, ℕ, false, List, map, Err, Ok, Result};
 ghost use Rattle.mt_shelf.specs.declared.fault.Fault.{Fault};
-ghost use Rattle.mt_shelf.specs.Files.{Files, gained_files};
+ghost use Rattle.mt_shelf.specs.Files.{Draft, Files, entries_below, gained_files};
 ghost use Rattle.mt_shelf.specs.Held.{pair_of};
+ghost use Rattle.mt_shelf.specs.Paths.{is_at_or_below};
 ghost use Rattle.mt_table.specs.declared.definition.Table.{Table};
 ghost use Rattle.mt_defs.specs.Part.{StandsFor};
 ghost use Rattle.mt_defs.specs.Rows.{Row};
+ghost use Rattle.mt_defs.specs.Sorting.{sorted_rows};
 ghost use Rattle.mt_defs.specs.Writer.{IsWritable, written_folder};
 ghost use Rattle.mt_granules.specs.ByteFiles.{HasByteFiles};
 ghost use Rattle.mt_check.specs.declared.accepted.Accepted.{Accepted};
@@ -14,6 +16,7 @@ ghost use Rattle.mt_command.specs.Parts.{folder_at, part_checks, part_steps};
 ghost use Rattle.mt_command.specs.Targets.{free_target, within_limit};
 ghost use Rattle.mt_command.specs.declared.status.Status.{Status};
 ghost use Rattle.mt_written.specs.Texts.{HoldBytes};
+ghost use Rattle.mt_headline.specs.Storable.{AreStorable};
 
 use mt_check::folders_have_one_answer;
 use mt_stands::{folders_are_checked_exactly, listed_files_make_a_folder};
@@ -65,3 +68,41 @@ pub fn published_parts_are_accepted()
     written_folder_stands();
     written_names_differ();
 }
+
+/// Rows of one partition within the limits, in any order, are writable in key order; what is published of them is
+/// accepted as the part of these rows in key order, equal keys in their former order.
+pub fn storable_rows_are_accepted()
+    ensures writable { (table : Table) (rows : List Row) → AreStorable table rows
+        → IsWritable table (sorted_rows table.sort rows) }
+    ensures accepted { (table : Table) (rows : List Row) (part : List ℕ) (files : Files)
+        → AreStorable table rows → HoldBytes rows → free_target part files ≡ Ok tt
+        → (let folder = written_folder table (sorted_rows table.sort rows) in within_limit folder ≡ Ok folder
+        → (accepted : Accepted) × part_steps table part (gained_files part (map pair_of folder) files) (Ok accepted)
+        × (accepted.rows ≡ sorted_rows table.sort rows)) }
+    ensures no_other { (table : Table) (rows : List Row) (part : List ℕ) (files : Files) (accepted : Accepted)
+        → AreStorable table rows → HoldBytes rows → free_target part files ≡ Ok tt
+        → (let folder = written_folder table (sorted_rows table.sort rows) in within_limit folder ≡ Ok folder
+        → part_steps table part (gained_files part (map pair_of folder) files) (Ok accepted)
+        → accepted.rows ≡ sorted_rows table.sort rows) }
+    ensures no_refusal { (table : Table) (rows : List Row) (part : List ℕ) (files : Files) (status : Status)
+        → AreStorable table rows → HoldBytes rows → free_target part files ≡ Ok tt
+        → (let folder = written_folder table (sorted_rows table.sort rows) in within_limit folder ≡ Ok folder
+        → part_steps table part (gained_files part (map pair_of folder) files) (Err status) → ⊥) }
+{
+    published_parts_are_accepted();
+}
+
+/// What is published leaves every other part as it was, where neither path is at or below the other: its folder and
+/// its listing, and so what its steps make of it.
+pub fn other_parts_stay()
+    ensures folder { (target other : List ℕ) (draft : Draft) (files : Files)
+        → is_at_or_below target other ≡ false → is_at_or_below other target ≡ false
+        → folder_at other (gained_files target draft files) ≡ folder_at other files }
+    ensures listing { (target other : List ℕ) (draft : Draft) (files : Files)
+        → is_at_or_below target other ≡ false → is_at_or_below other target ≡ false
+        → entries_below other (gained_files target draft files) ≡ entries_below other files }
+    ensures steps { (table : Table) (target other : List ℕ) (draft : Draft) (files : Files)
+        (outcome : Result Accepted Status)
+        → is_at_or_below target other ≡ false → is_at_or_below other target ≡ false
+        → part_steps table other (gained_files target draft files) outcome ↔ part_steps table other files outcome }
+{}

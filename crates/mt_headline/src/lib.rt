@@ -6,4 +6,6 @@
 
 mod law;
 
-pub use law::{parts_are_checked_exactly, published_parts_are_accepted};
+pub use law::{
+    other_parts_stay, parts_are_checked_exactly, published_parts_are_accepted, storable_rows_are_accepted,
+};

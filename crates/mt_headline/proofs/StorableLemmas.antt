@@ -1,0 +1,59 @@
+-- Storable rows are writable in key order.
+use Rattle.std.proofs.Common.{◌≡◌, ℕ, ◌≤◌, false, List, [], ◌∷◌, length, get_or, sym, ◌∙◌, arith}
+use Rattle.std.specs.Prelude.{All, IsTrue}
+use Rattle.std.specs.List.{list_all, list_any}
+use Rattle.std.proofs.lemmas.List.Elements.{All-contains, Contains-get_or}
+use Rattle.mt_table.specs.declared.definition.Table.{Table}
+use Rattle.mt_table.specs.declared.limits.TheConstants.{MAX_CELLS}
+use Rattle.mt_defs.specs.Partition.{HaveOnePartition, partition_bytes}
+use Rattle.mt_defs.specs.Rows.{Row, RowFits, cell_count}
+use Rattle.mt_defs.specs.Sorting.{sorted_rows}
+use Rattle.mt_defs.specs.Writer.{IsWritable}
+use Rattle.mt_defs.proofs.Sorted.{IsSorted-sorted_rows, All-sorted_rows, cell_count-sorted_rows, length-sorted_rows, some_sorted_rows}
+use Rattle.mt_written.specs.Texts.{HoldBytes, holds_bytes}
+use Rattle.mt_written.proofs.FolderLemmas.{rules_of}
+use Rattle.mt_written.proofs.RuleLemmas.{none_pass}
+use Rattle.mt_command.specs.Targets.{has_many_cells}
+use Rattle.mt_command.proofs.ProjectionParts.{projection_part}
+use Rattle.mt_headline.specs.Storable.{AreStorable}
+use Rattle.mt_headline.proofs.SizeLemmas.{ok_of}
+
+-- rows of one partition are of one in any order
+sorted_one : (table : Table) (rows : List Row) → HaveOnePartition table rows → HaveOnePartition table (sorted_rows table.sort rows)
+sorted_one table [] one a b at_a at_b = one a b at_a at_b
+sorted_one table (first ∷ rows) one a b at_a at_b =
+    let P : Row → Type 0 = λ row. partition_bytes table first ≡ partition_bytes table row in
+    let sorted : List Row = sorted_rows table.sort (first ∷ rows) in
+    let all : All P sorted =
+    All-sorted_rows P table.sort (first ∷ rows) (λ k d h. one first (get_or (first ∷ rows) k d) (Contains-get_or (first ∷ rows) 0 first (omega arith)) (Contains-get_or (first ∷ rows) k d h)) in
+    sym (All-contains P sorted a all at_a) ∙ All-contains P sorted b all at_b
+
+pub sorted_bytes : (table : Table) (rows : List Row) → HoldBytes rows → HoldBytes (sorted_rows table.sort rows)
+sorted_bytes table rows holds = All-sorted_rows (λ row. IsTrue (list_all holds_bytes row)) table.sort rows holds
+
+few_each : (table : Table) (rows : List Row) → AreStorable table rows → All (λ projection. has_many_cells table rows projection ≡ false) table.projections
+few_each table rows are = none_pass (has_many_cells table rows) table.projections (ok_of (list_any (has_many_cells table rows) table.projections) _ tt are.projection_limit)
+
+pub rows_writable : (table : Table) (rows : List Row) → AreStorable table rows → IsWritable table (sorted_rows table.sort rows)
+rows_writable table rows are =
+    let some = are.not_empty in
+    let fit : All (RowFits table.columns) rows = are.fit in
+    let sorted_fit = All-sorted_rows (RowFits table.columns) table.sort rows fit in
+    let few_rows = are.row_limit in
+    let few_cells = are.cell_limit in
+    let count = length-sorted_rows table.sort rows in
+    let cells = cell_count-sorted_rows table.columns table.sort rows in
+    let sorted_few : cell_count table.columns (sorted_rows table.sort rows) ≤ MAX_CELLS = omega (arith, cells, few_cells) in
+    let keeps = (rules_of table).projections.each in
+    let few = few_each table rows are in
+    record {
+      part_rows = record {
+        not_empty = some_sorted_rows table.sort rows some;
+        fit = sorted_fit;
+        ordered = IsSorted-sorted_rows table.sort rows;
+        few_rows = omega (arith, count, few_rows);
+        few_cells = sorted_few;
+      };
+      one_partition = sorted_one table rows are.one_partition;
+      projections = λ k d h. projection_part table (get_or table.projections k d) rows (keeps k d h) fit sorted_fit some few_rows sorted_few (few k d h);
+    }
