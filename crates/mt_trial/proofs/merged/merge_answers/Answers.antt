@@ -1,4 +1,5 @@
-use Rattle.std.proofs.Common.{ap, map, string_bytes, ◌∙◌}
+use Rattle.std.proofs.Common.{ap, map, ◌∙◌}
+use Rattle.std.specs.String.{string_bytes}
 use Rattle.mt_trial.proofs.MergedLemmas.{named_answered, named_refused}
 use Rattle.mt_trial.proofs.merged.merge_answers.Goals as goal
 
