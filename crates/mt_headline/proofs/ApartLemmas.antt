@@ -7,7 +7,7 @@ use Rattle.std.proofs.lemmas.Bool.{eq-eqb}
 use Rattle.std.proofs.lemmas.Cmp.{nat_list_cmp_total}
 use Rattle.mt_shelf.specs.declared.file.Entry.{Entry}
 use Rattle.mt_shelf.specs.Paths.{is_at_or_below, joined_path, name_below}
-use Rattle.mt_shelf.specs.Files.{Draft, Files, entries_below, entry_of, gained_files}
+use Rattle.mt_shelf.specs.Files.{Draft, Files, entries_below, entry_of, gained_files, listing_of}
 use Rattle.mt_shelf.specs.Held.{with_entry_if}
 use Rattle.mt_shelf.proofs.Puts.{joined_below}
 use Rattle.mt_shelf.proofs.Listings.{shown-put}
@@ -18,7 +18,6 @@ use Rattle.mt_check.specs.FolderChecks.{folder_checks}
 use Rattle.mt_command.specs.Outcomes.{Outcomes, ◌>>=◌, gives, refused_by}
 use Rattle.mt_command.specs.Parts.{folder_at, listed_names, part_files, part_steps}
 use Rattle.mt_command.specs.declared.status.Status.TheVariants.{AtFault}
-use Rattle.mt_shelf.specs.Files.{listing_of}
 use Rattle.mt_written.proofs.LookupLemmas.{other_name}
 use Rattle.mt_headline.proofs.GainedLemmas.{not_both}
 
