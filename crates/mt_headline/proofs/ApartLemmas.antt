@@ -1,15 +1,13 @@
 -- A part that is published leaves every other part as it was, where neither path is at or below the other.
-use Rattle.std.proofs.Common.{◌≡◌, ℕ, Bool, true, false, ◌&&◌, ◌==◌, List, [], ◌∷◌, length, Option, Some, None, refl, ap, sym, ◌∙◌, subst}
-use Rattle.std.specs.Prelude.{Result, if◌then◌else◌}
+use Rattle.std.proofs.Common.{◌≡◌, ℕ, Bool, true, false, ◌&&◌, ◌==◌, List, [], ◌∷◌, length, Option, Some, None, refl, ap, sym, ◌∙◌}
+use Rattle.std.specs.Prelude.{if◌then◌else◌}
 use Rattle.std.specs.List.{filter_map}
-use Rattle.std.specs.Ordering.{nat_cmp}
-use Rattle.std.specs.Cmp.Lexicographic.{slice_cmp}
-use Rattle.std.specs.FinMap.{entries, entries-insert, entries_sorted, get, get-insert, insert}
+use Rattle.std.specs.FinMap.{entries, entries-insert, entries_sorted, get-insert, insert}
 use Rattle.std.proofs.lemmas.Bool.{eq-eqb}
 use Rattle.std.proofs.lemmas.Cmp.{nat_list_cmp_total}
 use Rattle.mt_shelf.specs.declared.file.Entry.{Entry}
 use Rattle.mt_shelf.specs.Paths.{is_at_or_below, joined_path, name_below}
-use Rattle.mt_shelf.specs.Files.{Draft, Files, entries_below, entry_of, gained_files}
+use Rattle.mt_shelf.specs.Files.{Draft, Files, entries_below, entry_of, gained_files, listing_of}
 use Rattle.mt_shelf.specs.Held.{with_entry_if}
 use Rattle.mt_shelf.proofs.Puts.{joined_below}
 use Rattle.mt_shelf.proofs.Listings.{shown-put}
@@ -19,9 +17,7 @@ use Rattle.mt_check.specs.declared.accepted.Accepted.{Accepted}
 use Rattle.mt_check.specs.FolderChecks.{folder_checks}
 use Rattle.mt_command.specs.Outcomes.{Outcomes, ◌>>=◌, gives, refused_by}
 use Rattle.mt_command.specs.Parts.{folder_at, listed_names, part_files, part_steps}
-use Rattle.mt_command.specs.declared.status.Status.{Status}
 use Rattle.mt_command.specs.declared.status.Status.TheVariants.{AtFault}
-use Rattle.mt_shelf.specs.Files.{listing_of}
 use Rattle.mt_written.proofs.LookupLemmas.{other_name}
 use Rattle.mt_headline.proofs.GainedLemmas.{not_both}
 

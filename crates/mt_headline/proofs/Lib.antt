@@ -9,3 +9,4 @@ mod PublishedLemmas
 mod WrittenLemmas
 mod StorableLemmas
 mod ApartLemmas
+mod OutcomeLemmas

@@ -106,3 +106,11 @@ pub fn other_parts_stay()
         → is_at_or_below target other ≡ false → is_at_or_below other target ≡ false
         → part_steps table other (gained_files target draft files) outcome ↔ part_steps table other files outcome }
 {}
+
+/// The steps of a part have one outcome: what it stands for in one cut into granules, or one refusal.
+pub fn parts_have_one_outcome()
+    ensures { (table : Table) (part : List ℕ) (files : Files) (one other : Result Accepted Status)
+        → part_steps table part files one → part_steps table part files other → one ≡ other }
+{
+    folders_have_one_answer();
+}

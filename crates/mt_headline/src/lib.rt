@@ -7,5 +7,6 @@
 mod law;
 
 pub use law::{
-    other_parts_stay, parts_are_checked_exactly, published_parts_are_accepted, storable_rows_are_accepted,
+    other_parts_stay, parts_are_checked_exactly, parts_have_one_outcome,
+    published_parts_are_accepted, storable_rows_are_accepted,
 };

@@ -11,6 +11,7 @@ pub returns-clause-listing : goal.returns-clause-listing
 returns-clause-listing c = listing_stays
 
 pub returns-clause-steps : goal.returns-clause-steps
-returns-clause-steps c table target other draft files outcome one two =
-    (subst (λ (steps : Outcomes Accepted). steps outcome) (steps_stay table target other draft files one two),
-    subst (λ (steps : Outcomes Accepted). steps outcome) (sym (steps_stay table target other draft files one two)))
+returns-clause-steps c table target other draft files outcome one two = (
+  subst (λ (steps : Outcomes Accepted). steps outcome) (steps_stay table target other draft files one two),
+  subst (λ (steps : Outcomes Accepted). steps outcome) (sym (steps_stay table target other draft files one two)),
+)
