@@ -1,4 +1,5 @@
 pub mod Completeness
+pub mod InputLemmas
 pub mod PartitionLemmas
 pub mod ReadingLemmas
 pub mod Reported

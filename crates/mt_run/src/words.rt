@@ -1,6 +1,7 @@
 //! The words of a call.
-ghost use Rattle.std.specs.Prelude.{◌≡◌, ◌≢◌, ◌<◌, ◌≤◌, [], All, IfSome, IsTrue, length, map, true};
+ghost use Rattle.std.specs.Prelude.{◌≡◌, ◌≢◌, ◌<◌, ◌≤◌, [], All, IfSome, IsTrue, map, true};
 ghost use Rattle.mt_shelf.specs.Paths.{is_path};
+ghost use Rattle.std.specs.List.{list_all};
 ghost use Rattle.std.specs.String.{string_bytes};
 ghost use Rattle.mt_run.specs.Words.{are_inputs, are_paths, is_digit, is_first_digit, workers_in};
 
@@ -48,20 +49,23 @@ pub(crate) fn are_paths(path: &str, part: &str) -> bool
     is_path(path) && is_path(part)
 }
 
-/// Whether these are from 1 to 64 paths.
-pub(crate) fn are_inputs(inputs: &[String]) -> bool
-    ensures same { result ≡ are_inputs (map string_bytes inputs.now) }
-    ensures some { result ≡ true → inputs.now ≢ [] }
-    ensures few { result ≡ true → length inputs.now ≤ MAX_INPUTS }
-    ensures paths { result ≡ true → All (λ part. IsTrue (is_path (string_bytes part))) inputs.now }
+/// Whether all words are paths.
+fn are_all_paths(words: &[String]) -> bool
+    ensures { result ≡ list_all is_path (map string_bytes words.now) }
 {
-    if inputs.is_empty() || MAX_INPUTS < inputs.len() {
-        return false;
-    }
-    for input in inputs {
-        if !is_path(input.as_str()) {
+    for word in words {
+        if !is_path(word.as_str()) {
             return false;
         }
     }
     true
+}
+
+/// Whether these are from 1 to 64 paths.
+pub(crate) fn are_inputs(inputs: &[String]) -> bool
+    ensures same { result ≡ are_inputs (map string_bytes inputs.now) }
+    ensures some { result ≡ true → inputs.now ≢ [] }
+    ensures paths { result ≡ true → All (λ part. IsTrue (is_path (string_bytes part))) inputs.now }
+{
+    1 <= inputs.len() && inputs.len() <= MAX_INPUTS && are_all_paths(inputs)
 }
