@@ -10,7 +10,7 @@ use crate::files::Content::{Numbers, Written};
 use crate::files::{File, files_of};
 use crate::parts::{MOST_ROWS, Part, columns_of, text_of};
 use mt_compact::{read_compact, write_compact};
-use mt_layout::{layout_of, written_granules_hold_all_rows};
+use mt_layout::layout_of;
 use mt_shelf::FileBytes;
 use mt_table::{Column, Settings};
 use mt_types::{List, NoMemory, Row};
@@ -137,23 +137,26 @@ const JOINED: [Case; 3] = [
     ),
 ];
 
-/// The writer's granules of rows, of so many rows.
-fn granules_of(
-    alloc: Global,
-    columns: &[Column],
-    rows: &[Row],
-    granule_rows: u64,
-) -> Result<List<u64>, NoMemory>
-    ensures { IfOk result (λ granules. AreGranules granules rows.now) }
-{
-    let settings = Settings {
+/// Settings by which a granule has so many rows.
+fn settings_of(granule_rows: u64) -> Settings {
+    Settings {
         granule_rows,
         granule_bytes: 1000,
         wide_bytes: 0,
         wide_rows: 0,
-    };
-    written_granules_hold_all_rows();
-    let layout = layout_of(alloc, &settings, columns, rows)?;
+    }
+}
+
+/// The writer's granules of rows.
+fn granules_of(
+    alloc: Global,
+    settings: &Settings,
+    columns: &[Column],
+    rows: &[Row],
+) -> Result<List<u64>, NoMemory>
+    ensures { IfOk result (λ granules. AreGranules granules rows.now) }
+{
+    let layout = layout_of(alloc, settings, columns, rows)?;
     Ok(layout.granules)
 }
 
@@ -193,7 +196,8 @@ fn written_wide(
 ) -> Result<(List<FileBytes>, List<u8>), Fail> {
     let columns = columns_of(alloc, part)?;
     let rows = rows_of(alloc, &columns, part)?;
-    let granules = granules_of(alloc, &columns, rows.as_slice(), granule_rows)?;
+    let settings = settings_of(granule_rows);
+    let granules = granules_of(alloc, &settings, &columns, rows.as_slice())?;
     let files = write_wide(alloc, &columns, rows.as_slice(), granules.as_slice())?;
     if part.count == 0 || part.count > MOST_ROWS {
         return Err(Fail::new("a part with too many rows"));
@@ -211,7 +215,8 @@ fn written_compact(
 ) -> Result<(List<FileBytes>, List<u8>), Fail> {
     let columns = columns_of(alloc, part)?;
     let rows = rows_of(alloc, &columns, part)?;
-    let granules = granules_of(alloc, &columns, rows.as_slice(), granule_rows)?;
+    let settings = settings_of(granule_rows);
+    let granules = granules_of(alloc, &settings, &columns, rows.as_slice())?;
     let files = write_compact(alloc, &columns, rows.as_slice(), granules.as_slice())?;
     if part.count == 0 || part.count > MOST_ROWS {
         return Err(Fail::new("a part with too many rows"));
@@ -225,7 +230,8 @@ fn written_compact(
 fn lines_of(alloc: Global, part: &Part, granule_rows: u64) -> Result<List<u8>, Fail> {
     let columns = columns_of(alloc, part)?;
     let rows = rows_of(alloc, &columns, part)?;
-    let granules = granules_of(alloc, &columns, rows.as_slice(), granule_rows)?;
+    let settings = settings_of(granule_rows);
+    let granules = granules_of(alloc, &settings, &columns, rows.as_slice())?;
     text_of(alloc, &columns, Ok((rows, granules)))
 }
 
