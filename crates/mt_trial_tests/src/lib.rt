@@ -4,7 +4,7 @@
 ghost use Rattle.std.specs.Prelude.{◌≤◌, ◌<◌};
 
 use mt_command::Status;
-use mt_shelf::{NoGate, SureShelf, SureSink, SureSource};
+use mt_shelf::{FileSet, NoGate, SureShelf, SureSink, SureSource};
 use mt_trial::{number_in, rows_in, trial};
 use mt_types::List;
 use std::alloc::Global;
@@ -26,7 +26,7 @@ fn printed<R: Threads + Sync>(
 {
     let mut input = SureSource::new(List::new(alloc), 4);
     let mut output = SureSink::new(alloc, 4);
-    let mut shelf = SureShelf::new(alloc, List::new(alloc), 4);
+    let mut shelf = SureShelf::new(alloc, FileSet::new(alloc).into_files(), 4);
     let status = trial(
         rt,
         alloc,

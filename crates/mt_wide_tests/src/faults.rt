@@ -1,22 +1,11 @@
-//! Parts that stand for no rows, and the first fault of each.
+//! Wide parts that stand for no rows, and the first fault of each.
 
-use crate::examples::{COMPACT, NESTED, NULLABLE, WRITTEN};
+use crate::bad_frames::{CUT, METHOD, SIZES, TOO_LONG};
+use crate::examples::{MINIMA, NESTED, NULLABLE, WRITTEN};
 use crate::files::Content::{Absent, Bytes, Frames, Numbers};
-use crate::files::{Content, File};
-use crate::parts::{compact_text, wide_text};
+use crate::files::{Case, Content};
+use crate::parts::wide_text;
 use std::test::Fail;
-
-/// Files that are changed, and the fault that is named.
-type Case = (&'static [File], &'static str);
-
-/// The checksum, the method and both sizes of a frame of one byte, with one of them wrong.
-const METHOD: &[u8] = b"7777777777777777\x82\x0a\0\0\0\x01\0\0\0a";
-
-const SIZES: &[u8] = b"7777777777777777\x02\x0b\0\0\0\x01\0\0\0a";
-
-const TOO_LONG: &[u8] = b"7777777777777777\x02\x0a\0\0\x04\x01\0\0\x04a";
-
-const CUT: &[u8] = b"7777777777777777\x02\x0b\0\0\0\x02\0\0\0a";
 
 /// Of the files of one substream, in the order of their rules.
 const WIDE: [Case; 27] = [
@@ -112,80 +101,11 @@ const WIDE: [Case; 27] = [
     ),
 ];
 
-/// Of the two files of a Compact part.
-const JOINED: [Case; 10] = [
-    (
-        &[("data.bin", Absent), ("data.mrk3", Absent)],
-        "data.bin: Missing",
-    ),
-    (
-        &[("data.bin", Bytes(METHOD)), ("data.mrk3", Absent)],
-        "data.bin at 0: Method",
-    ),
-    (&[("data.mrk3", Absent)], "data.mrk3: Missing"),
-    (
-        &[("data.mrk3", Numbers(&[0, 0, 2, 33, 0, 1, 118, 0, 0]))],
-        "data.mrk3: Length",
-    ),
-    (
-        &[(
-            "data.mrk3",
-            Numbers(&[0, 0, 33, 0, 0, 62, 0, 91, 0, 1, 118, 0, 118, 0, 0]),
-        )],
-        "data.mrk3 granule 0: Rows",
-    ),
-    (
-        &[(
-            "data.mrk3",
-            Numbers(&[0, 0, 33, 0, 2, 62, 0, 33, 0, 1, 118, 0, 118, 0, 0]),
-        )],
-        "data.mrk3 granule 1: Order",
-    ),
-    (
-        &[(
-            "data.mrk3",
-            Numbers(&[0, 0, 33, 0, 2, 62, 0, 91, 0, 1, 91, 0, 118, 0, 0]),
-        )],
-        "data.mrk3 granule 2: Place",
-    ),
-    (
-        &[(
-            "data.mrk3",
-            Numbers(&[0, 0, 0, 4, 1, 62, 0, 91, 0, 1, 118, 0, 118, 0, 0]),
-        )],
-        "data.mrk3: Rows",
-    ),
-    (
-        &[(
-            "data.mrk3",
-            Numbers(&[0, 0, 0, 4, 2, 62, 0, 91, 0, 1, 118, 0, 118, 0, 0]),
-        )],
-        "data.bin granule 0: Short",
-    ),
-    (
-        &[(
-            "data.mrk3",
-            Numbers(&[0, 0, 33, 2, 2, 62, 0, 91, 0, 1, 118, 0, 118, 0, 0]),
-        )],
-        "data.bin granule 0: Over",
-    ),
-];
-
 #[test]
 fn first_faults_of_wide_parts_are_named(rt: HostRuntime) -> Result<(), Fail> {
     let alloc = rt.alloc();
     for (changed, fault) in WIDE {
         let read = wide_text(alloc, &WRITTEN, changed)?;
-        assert_eq!(rt; read.as_slice(), fault.as_bytes(), "at {fault}");
-    }
-    Ok(())
-}
-
-#[test]
-fn first_faults_of_compact_parts_are_named(rt: HostRuntime) -> Result<(), Fail> {
-    let alloc = rt.alloc();
-    for (changed, fault) in JOINED {
-        let read = compact_text(alloc, &COMPACT, changed)?;
         assert_eq!(rt; read.as_slice(), fault.as_bytes(), "at {fault}");
     }
     Ok(())
@@ -231,6 +151,28 @@ const NULLS: [Case; 2] = [
         "n.null.bin granule 0: Over",
     ),
 ];
+
+/// Of the states of min, in one granule.
+const STATES: [Case; 2] = [
+    (
+        &[("min%28v%29.bin", Frames(&[b"\0\x02\x07"]))],
+        "min%28v%29.bin granule 0: HasByte",
+    ),
+    (
+        &[("min%28v%29.bin", Frames(&[b"\x01\x07\x01"]))],
+        "min%28v%29.bin granule 0: Short",
+    ),
+];
+
+#[test]
+fn faults_of_states_are_named(rt: HostRuntime) -> Result<(), Fail> {
+    let alloc = rt.alloc();
+    for (changed, fault) in STATES {
+        let read = wide_text(alloc, &MINIMA, changed)?;
+        assert_eq!(rt; read.as_slice(), fault.as_bytes(), "at {fault}");
+    }
+    Ok(())
+}
 
 #[test]
 fn faults_of_arrays_are_named_in_order(rt: HostRuntime) -> Result<(), Fail> {

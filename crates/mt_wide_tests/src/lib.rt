@@ -4,12 +4,20 @@
 #![tactic(auto)]
 
 #[cfg(test)]
+mod bad_frames;
+#[cfg(test)]
+mod compact_faults;
+#[cfg(test)]
 mod examples;
 #[cfg(test)]
 mod faults;
 #[cfg(test)]
 mod files;
 #[cfg(test)]
+mod pairs;
+#[cfg(test)]
 mod parts;
 #[cfg(test)]
 mod rows;
+#[cfg(test)]
+mod writing;

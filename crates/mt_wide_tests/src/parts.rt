@@ -1,6 +1,6 @@
 //! What parts are read as, in words.
 
-ghost use Rattle.std.specs.Prelude.{IfOk, IsTrue};
+ghost use Rattle.std.specs.Prelude.{All, IfOk, IsTrue};
 ghost use Rattle.mt_types.specs.Profile.{is_profile};
 
 use crate::files::{File, files_of};
@@ -28,7 +28,7 @@ pub struct Part {
 }
 
 /// The most rows of a part here.
-const MOST_ROWS: u64 = 100;
+pub const MOST_ROWS: u64 = 100;
 
 /// A column.
 fn column_of(alloc: Global, name: &str, ty: &str) -> Result<Column, Fail>
@@ -39,14 +39,21 @@ fn column_of(alloc: Global, name: &str, ty: &str) -> Result<Column, Fail>
     Ok(Column { name, ty })
 }
 
+/// The two columns of a part.
+pub fn columns_of(alloc: Global, part: &Part) -> Result<[Column; 2], Fail>
+    ensures { IfOk result (All (λ column. IsTrue (is_profile column.ty))) }
+{
+    let [(key, key_type), (value, value_type)] = part.columns;
+    Ok([
+        column_of(alloc, key, key_type)?,
+        column_of(alloc, value, value_type)?,
+    ])
+}
+
 /// What a Wide part is read as, some of its files changed.
 pub fn wide_text(alloc: Global, part: &Part, changed: &[File]) -> Result<List<u8>, Fail> {
     let files = files_of(alloc, part.files, changed)?;
-    let [(key, key_type), (value, value_type)] = part.columns;
-    let columns = [
-        column_of(alloc, key, key_type)?,
-        column_of(alloc, value, value_type)?,
-    ];
+    let columns = columns_of(alloc, part)?;
     if part.count == 0 || part.count > MOST_ROWS {
         return Err(Fail::new("a part with too many rows"));
     }
@@ -57,11 +64,7 @@ pub fn wide_text(alloc: Global, part: &Part, changed: &[File]) -> Result<List<u8
 /// What a Compact part is read as, some of its files changed.
 pub fn compact_text(alloc: Global, part: &Part, changed: &[File]) -> Result<List<u8>, Fail> {
     let files = files_of(alloc, part.files, changed)?;
-    let [(key, key_type), (value, value_type)] = part.columns;
-    let columns = [
-        column_of(alloc, key, key_type)?,
-        column_of(alloc, value, value_type)?,
-    ];
+    let columns = columns_of(alloc, part)?;
     if part.count == 0 || part.count > MOST_ROWS {
         return Err(Fail::new("a part with too many rows"));
     }
