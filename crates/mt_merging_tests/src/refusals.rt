@@ -53,7 +53,14 @@ fn refuses_in_order(rt: HostRuntime) -> Result<(), Fail> {
     assert!(rt; matches!(status, Status::NoTable));
 
     // An input that is absent comes before a target that stands, and that before a fault.
-    let status = status_of(&rt, alloc, "a.sql", "p1", &["bad", "none", "a.sql"], &mut shelf)?;
+    let status = status_of(
+        &rt,
+        alloc,
+        "a.sql",
+        "p1",
+        &["bad", "none", "a.sql"],
+        &mut shelf,
+    )?;
     let Status::NoPart { part } = status else {
         return Err(Fail::from("no part"));
     };
@@ -67,7 +74,14 @@ fn refuses_in_order(rt: HostRuntime) -> Result<(), Fail> {
         return Err(Fail::from("no fault"));
     };
     assert!(rt; is_named(&part, "bad"));
-    let status = status_of(&rt, alloc, "a.sql", "q", &["p1", "p3", "p2", "bad"], &mut shelf)?;
+    let status = status_of(
+        &rt,
+        alloc,
+        "a.sql",
+        "q",
+        &["p1", "p3", "p2", "bad"],
+        &mut shelf,
+    )?;
     assert!(rt; matches!(status, Status::MixedPartitions { input: 3 }));
     let status = status_of(&rt, alloc, "a.sql", "q", &["p2", "p1", "p3"], &mut shelf)?;
     assert!(rt; matches!(status, Status::MixedPartitions { input: 2 }));

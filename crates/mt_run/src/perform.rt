@@ -173,7 +173,9 @@ fn perform_merge<R: Threads + Sync, S: Source, K: Sink, F: Shelf, G: Gate + Sync
     if !are_paths(path, target) || !are_inputs(inputs) {
         return Status::BadWords;
     }
-    merge(rt, alloc, path, target, inputs, workers, input, output, shelf, gate)
+    merge(
+        rt, alloc, path, target, inputs, workers, input, output, shelf, gate,
+    )
 }
 
 /// Does `trial NUMBER ROWS WORKERS`.
