@@ -17,7 +17,7 @@ pub use cells::few_cells;
 pub use folder::sorted_folder;
 pub use limits::{MAX_FOLDER, MAX_INPUT, MAX_INPUTS, MAX_TABLE_TEXT, MAX_WORKERS};
 pub use output::print;
-pub use part::{accept_part, at_fault, check_listed, list_part, read_part};
+pub use part::{accept_part, at_fault, check_listed, list_part, no_part, read_part};
 pub use status::{
     Status, What, finished, status_of_rows, status_of_shelf, status_of_sink, status_of_source,
 };

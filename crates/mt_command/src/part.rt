@@ -6,9 +6,6 @@ ghost use Rattle.mt_defs.specs.Rows.{ArePartRows};
 ghost use Rattle.mt_shelf.specs.Files.{IsListing, entries_below};
 ghost use Rattle.mt_shelf.specs.Paths.{is_path};
 ghost use Rattle.mt_shelf.specs.State.{files_of};
-ghost use Rattle.mt_defs.specs.Partition.{HaveOnePartition};
-ghost use Rattle.mt_defs.specs.Projections.{base_of};
-ghost use Rattle.mt_defs.specs.Rows.{ArePartRows};
 ghost use Rattle.mt_command.specs.Outcomes.{Returns, refused_by};
 ghost use Rattle.mt_command.specs.Parts.{listed_bytes, listing_in, part_checks, part_steps, table_part_steps};
 ghost use Rattle.mt_command.specs.Status.{Gives, IsNamed};
@@ -36,7 +33,7 @@ fn are_above_limit(listing: &[Entry]) -> bool
 }
 
 /// The refusal of a part of which there is no file.
-fn no_part(alloc: Global, part: &str) -> Status
+pub fn no_part(alloc: Global, part: &str) -> Status
     ensures { IsNamed (NoPart part.now) result }
 {
     match List::of_bytes(alloc, part.as_bytes()) {

@@ -4,7 +4,8 @@ ghost use Rattle.std.specs.Prelude.{◌≡◌};
 ghost use Rattle.std.specs.List.{sum_by};
 ghost use Rattle.mt_tsv.specs.Cells.{cells_of, room_after};
 
-use mt_types::{Row, Value};
+use mt_tsv::room_after;
+use mt_types::Row;
 
 /// What these rows leave of the room for cells, if they have room.
 pub(crate) fn room_after_rows(rows: &[Row], room: usize) -> Option<usize>
@@ -13,19 +14,6 @@ pub(crate) fn room_after_rows(rows: &[Row], room: usize) -> Option<usize>
     let mut left = room;
     for row in rows {
         left = room_after(row.as_slice(), left)?;
-    }
-    Some(left)
-}
-
-/// What these values and the elements of their arrays leave of the room for cells, if they have room.
-fn room_after(values: &[Value], room: usize) -> Option<usize>
-    ensures { result ≡ room_after (cells_of values.now) room }
-{
-    let mut left = room.checked_sub(values.len())?;
-    for value in values {
-        if let Value::List(items) = value {
-            left = room_after(items.as_slice(), left)?;
-        }
     }
     Some(left)
 }

@@ -5,25 +5,13 @@ ghost use Rattle.std.specs.String.{string_bytes};
 ghost use Rattle.mt_shelf.specs.Files.{entries_below, listing_of};
 ghost use Rattle.mt_shelf.specs.Paths.{is_path};
 ghost use Rattle.mt_shelf.specs.State.{files_of};
-ghost use Rattle.mt_command.specs.Status.{Gives, IsNamed};
+ghost use Rattle.mt_command.specs.Status.{Gives};
 ghost use Rattle.mt_command.specs.Steps.{StepCausedBy, of_shelf};
-ghost use Rattle.mt_command.specs.declared.status.Status.TheVariants.{NoPart};
 ghost use Rattle.mt_merging.specs.Inputs.{are_ready, are_there, some_files};
 
-use mt_command::{Status, free_target, status_of_shelf};
+use mt_command::{Status, free_target, no_part, status_of_shelf};
 use mt_shelf::Shelf;
-use mt_types::List;
 use std::alloc::Global;
-
-/// The refusal of a part of which there is no file.
-fn no_part(alloc: Global, part: &str) -> Status
-    ensures { IsNamed (NoPart part.now) result }
-{
-    match List::of_bytes(alloc, part.as_bytes()) {
-        Ok(part) => Status::NoPart { part },
-        Err(_) => Status::NoMemory,
-    }
-}
 
 /// Refuses a part of which there is no file.
 fn is_there<F: Shelf>(alloc: Global, shelf: &mut F, part: &str) -> Result<(), Status>

@@ -6,7 +6,6 @@
 mod columns;
 mod cond;
 mod condition;
-mod date;
 mod group;
 mod item;
 mod judge;

@@ -5,8 +5,8 @@ ghost use Rattle.mt_types.specs.declared.ty.Ty.{out-Ty};
 ghost use Rattle.mt_query.specs.Lists.{all_of};
 ghost use Rattle.mt_query.specs.Literals as literals;
 
-use crate::date::day_of;
 use mt_query_syntax::Literal;
+use mt_tsv::read_date;
 use mt_types::{List, NoMemory, Ty, Value};
 use std::alloc::Global;
 
@@ -36,7 +36,7 @@ fn date_value(literal: &Literal) -> Option<Value>
 {
     match literal {
         Literal::Number(_) => None,
-        Literal::Text(text) => match day_of(text.as_slice()) {
+        Literal::Text(text) => match read_date(text.as_slice()) {
             Some(day) => Some(Value::Num(day as i128)),
             None => None,
         },

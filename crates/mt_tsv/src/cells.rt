@@ -5,7 +5,7 @@ ghost use Rattle.mt_tsv.specs.Cells.{cells_of, room_after};
 
 use mt_types::Value;
 
-/// What these values leave of the room for cells, if they have room.
+/// What these values and the elements of their arrays leave of the room for cells, if they have room.
 pub fn room_after(values: &[Value], room: usize) -> Option<usize>
     ensures { result ≡ room_after (cells_of values.now) room }
 {

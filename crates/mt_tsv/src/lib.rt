@@ -26,6 +26,8 @@ mod split;
 mod text;
 mod writing;
 
+pub use cells::room_after;
+pub use date::read_date;
 pub use fault::{RowError, RowWhy};
 pub use law::written_rows_are_read;
 pub use mt_table::{MAX_CELLS, MAX_ROWS};
