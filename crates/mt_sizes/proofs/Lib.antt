@@ -1,0 +1,17 @@
+pub mod SumLemmas
+pub mod FrameSizes
+pub mod MarkSizes
+pub mod GranuleSizes
+pub mod ColumnSizes
+pub mod CompactSizes
+pub mod DefinitionSizes
+pub mod MinmaxSizes
+pub mod SkipSizes
+pub mod FolderSizes
+pub mod LevelLimits
+pub mod ItemLimits
+pub mod CellSums
+pub mod FrameLimits
+pub mod MarkLimits
+pub mod ValueLimits
+pub mod ShortFiles
