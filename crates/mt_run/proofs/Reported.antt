@@ -1,5 +1,5 @@
 -- What stays true as the status of a command is reported.
-use Rattle.std.proofs.Common.{◌≡◌, inl, inr, ℕ, List, length, Option, Some, None, refl, ap, sym, ◌∙◌}
+use Rattle.std.proofs.Common.{◌≡◌, ◌⊎◌, inl, inr, ℕ, true, List, length, Option, Some, None, Ok, refl, ap, sym, ◌∙◌, subst}
 use Rattle.std.proofs.Math.Seq.{take-length}
 use Rattle.std.specs.Io.KnownBytes.{append_known}
 use Rattle.mt_shelf.specs.Streams.{GrowsByPrefix}
@@ -7,15 +7,36 @@ use Rattle.mt_shelf.specs.Causes.{Rose}
 use Rattle.mt_command.specs.Plans.{World}
 use Rattle.mt_command.specs.declared.status.Status.{Status}
 use Rattle.mt_command.specs.declared.status.Status.TheVariants.{Done, AtFault, BadWords, NoTable, NoPart, BadTable, BadQuery, Exists, NoRows, BadRows, ManyPartitions, MixedPartitions, TooMuch, SourceFault, ShelfFault, SinkFault, NoMemory}
+use Rattle.mt_command.specs.Outcomes.{gives}
 use Rattle.mt_command.proofs.ReportedLemmas.{performs_reported, prints_reported, publishes_reported}
 use Rattle.mt_merging.specs.Merge.{merge_steps}
 use Rattle.mt_select.specs.Select.{select_steps}
 use Rattle.mt_show.specs.Show.{show_steps}
-use Rattle.mt_trial.specs.Trial.{trial_steps}
+use Rattle.mt_command.specs.Status.{is_outside}
+use Rattle.mt_trial.specs.Trial.{PrintsTrial, trial_text}
 use Rattle.mt_run.specs.Commands.{Command, Write, Check, Rows, Show, Select, Merge, Trial, Runs}
 use Rattle.mt_run.specs.Notes.{Noted, IsReported, line_of}
 use Rattle.mt_run.specs.Reading.{check_steps, rows_steps}
 use Rattle.mt_run.specs.Write.{write_plan}
+
+-- ---- a trial
+
+done_or_outside : (status reported : Status) → IsReported status reported → (status ≡ Done) ⊎ (is_outside status ≡ true) → (reported ≡ Done) ⊎ (is_outside reported ≡ true)
+done_or_outside status reported (inl same) ended = subst (λ s. (s ≡ Done) ⊎ (is_outside s ≡ true)) (sym same) ended
+done_or_outside status reported (inr (memory, other)) ended = inr (ap is_outside memory)
+
+was_done : (status reported : Status) → IsReported status reported → reported ≡ Done → status ≡ Done
+was_done status reported (inl same) done = sym same ∙ done
+was_done status reported (inr (memory, other)) done = let never : (let s : Status = NoMemory in s) ≡ Done = sym memory ∙ done in cc
+
+trial_reported : (number rows : ℕ) (old new : World) (status reported : Status) → IsReported status reported → PrintsTrial number rows old new status → PrintsTrial number rows old new reported
+trial_reported number rows old new status reported is runs = record {
+  unrefused = done_or_outside status reported is runs.unrefused;
+  printed = λ done. runs.printed (was_done status reported is done);
+  performed = prints_reported (λ files. gives (Ok (trial_text number rows))) old new status reported is runs.performed;
+}
+
+-- ---- any command
 
 -- what a run does of a command holds of the reported status too
 pub runs_reported : (command : Option Command) (old new : World) (status reported : Status) → IsReported status reported → Runs command old new status → Runs command old new reported
@@ -26,7 +47,7 @@ runs_reported (Some (Rows table part)) old new status reported is runs = prints_
 runs_reported (Some (Show table part)) old new status reported is runs = prints_reported (show_steps table part) old new status reported is runs
 runs_reported (Some (Select table part query)) old new status reported is runs = prints_reported (select_steps table part query) old new status reported is runs
 runs_reported (Some (Merge table target inputs)) old new status reported is runs = publishes_reported target (merge_steps table target inputs) old new status reported is runs
-runs_reported (Some (Trial number rows)) old new status reported is runs = prints_reported (λ files. trial_steps number rows) old new status reported is runs
+runs_reported (Some (Trial number rows)) old new status reported is runs = trial_reported number rows old new status reported is runs
 
 -- ---- the notes
 

@@ -6,7 +6,7 @@ use Rattle.mt_command.specs.declared.status.Status.{Status}
 use Rattle.mt_merging.specs.Merge.{merge_steps}
 use Rattle.mt_select.specs.Select.{select_steps}
 use Rattle.mt_show.specs.Show.{show_steps}
-use Rattle.mt_trial.specs.Trial.{trial_steps}
+use Rattle.mt_trial.specs.Trial.{PrintsTrial}
 use Rattle.mt_run.specs.Reading.{check_steps, rows_steps}
 use Rattle.mt_run.specs.Write.{write_plan}
 
@@ -29,4 +29,4 @@ Runs (Some (Rows table part)) old new status = PrintsTextOf (rows_steps table pa
 Runs (Some (Show table part)) old new status = PrintsTextOf (show_steps table part) old new status
 Runs (Some (Select table part query)) old new status = PrintsTextOf (select_steps table part query) old new status
 Runs (Some (Merge table target inputs)) old new status = PublishesFolderOf target (merge_steps table target inputs) old new status
-Runs (Some (Trial number rows)) old new status = PrintsTextOf (λ files. trial_steps number rows) old new status
+Runs (Some (Trial number rows)) old new status = PrintsTrial number rows old new status

@@ -1,5 +1,5 @@
 -- What a trial prints of rows, or its refusal.
-use Rattle.std.proofs.Common.{◌≡◌, ◌⊎◌, inl, inr, ℕ, List, ◌++◌, Result, Ok, Err, refl, ap}
+use Rattle.std.proofs.Common.{◌≡◌, inl, inr, ℕ, List, ◌++◌, Result, Ok, Err, refl, ap}
 use Rattle.mt_table.specs.declared.definition.Table.{Table}
 use Rattle.mt_query.specs.declared.query.Query.{Query}
 use Rattle.mt_fold.specs.Answer.{answer_text}
@@ -7,7 +7,9 @@ use Rattle.mt_defs.specs.Rows.{Row}
 use Rattle.mt_command.specs.Outcomes.{Returns}
 use Rattle.mt_command.specs.declared.status.Status.{Status}
 use Rattle.mt_select.specs.Select.{query_of}
-use Rattle.mt_trial.specs.Trial.{answer_of, answers_of, count_line, great_query, groups_query, totals_query}
+use Rattle.mt_trial.specs.Queries.{great_text, groups_text, totals_text}
+use Rattle.mt_trial.specs.Steps.{answer_of, answers_of}
+use Rattle.mt_trial.specs.Trial.{count_line}
 
 pub query_refused : (table : Table) (rows : List Row) (text : List ℕ) (status : Status) → Returns (let r : Result Query Status = Err status in r) (query_of table text)
     → Returns (let r : Result (List ℕ) Status = Err status in r) (answer_of table rows text)
@@ -16,18 +18,14 @@ query_refused table rows text status refused = λ inside. inr (status, refused i
 pub query_answered : (table : Table) (rows : List Row) (text : List ℕ) (query : Query) (answer : List ℕ) → query_of table text (Ok query) → answer ≡ answer_text table query rows → answer_of table rows text (Ok answer)
 query_answered table rows text query answer asked is = inl (query, asked, ap Ok is)
 
-pub totals_refused : (table : Table) (rows : List Row) (status : Status) → Returns (let r : Result (List ℕ) Status = Err status in r) (answer_of table rows totals_query)
-    → Returns (let r : Result (List ℕ) Status = Err status in r) (answers_of table rows)
-totals_refused table rows status refused = λ inside. inr (status, refused inside, refl)
-
-pub groups_refused : (table : Table) (rows : List Row) (totals : List ℕ) (status : Status) → answer_of table rows totals_query (Ok totals) → Returns (let r : Result (List ℕ) Status = Err status in r) (answer_of table rows groups_query)
+pub groups_refused : (table : Table) (rows : List Row) (totals : List ℕ) (status : Status) → answer_of table rows totals_text (Ok totals) → Returns (let r : Result (List ℕ) Status = Err status in r) (answer_of table rows groups_text)
     → Returns (let r : Result (List ℕ) Status = Err status in r) (answers_of table rows)
 groups_refused table rows totals status first refused = λ inside. inl (totals, first, inr (status, refused inside, refl))
 
-pub great_refused : (table : Table) (rows : List Row) (totals groups : List ℕ) (status : Status) → answer_of table rows totals_query (Ok totals) → answer_of table rows groups_query (Ok groups)
-    → Returns (let r : Result (List ℕ) Status = Err status in r) (answer_of table rows great_query) → Returns (let r : Result (List ℕ) Status = Err status in r) (answers_of table rows)
+pub great_refused : (table : Table) (rows : List Row) (totals groups : List ℕ) (status : Status) → answer_of table rows totals_text (Ok totals) → answer_of table rows groups_text (Ok groups)
+    → Returns (let r : Result (List ℕ) Status = Err status in r) (answer_of table rows great_text) → Returns (let r : Result (List ℕ) Status = Err status in r) (answers_of table rows)
 great_refused table rows totals groups status first second refused = λ inside. inl (totals, first, inl (groups, second, inr (status, refused inside, refl)))
 
-pub all_answered : (table : Table) (rows : List Row) (totals groups great text : List ℕ) → answer_of table rows totals_query (Ok totals) → answer_of table rows groups_query (Ok groups) → answer_of table rows great_query (Ok great)
+pub all_answered : (table : Table) (rows : List Row) (totals groups great text : List ℕ) → answer_of table rows totals_text (Ok totals) → answer_of table rows groups_text (Ok groups) → answer_of table rows great_text (Ok great)
     → text ≡ count_line rows ++ totals ++ groups ++ great → answers_of table rows (Ok text)
 all_answered table rows totals groups great text first second third is = inl (totals, first, inl (groups, second, inl (great, third, ap Ok is)))

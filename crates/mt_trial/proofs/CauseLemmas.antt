@@ -1,5 +1,5 @@
 -- A step that uses no object, beside a shelf.
-use Rattle.std.proofs.Common.{◌≡◌, ℕ, Result, Err, refl, arith}
+use Rattle.std.proofs.Common.{ℕ, Result, Err, refl, arith}
 use Rattle.mt_shelf.specs.Causes.{Rose}
 use Rattle.mt_command.specs.Steps.{StepCausedBy, of_nothing, of_shelf}
 use Rattle.mt_command.specs.declared.status.Status.{Status}

@@ -10,7 +10,7 @@ use Rattle.mt_defs.specs.Writer.{written_folder}
 use Rattle.mt_command.specs.Status.{Gives}
 use Rattle.mt_command.specs.Targets.{within_limit}
 use Rattle.mt_command.specs.declared.status.Status.{Status}
-use Rattle.mt_trial.specs.Trial.{half_folder}
+use Rattle.mt_trial.specs.Steps.{half_folder}
 use Rattle.mt_defs.specs.Rows.{Row, RowFits, key_cmp}
 use Rattle.mt_defs.specs.Sorting.{sorted_rows}
 use Rattle.mt_defs.proofs.Sorted.{All-sorted_rows, IsSorted-sorted_rows, some_sorted_rows}

@@ -1,5 +1,5 @@
 -- The steps of a trial one after another.
-use Rattle.std.proofs.Common.{◌≡◌, ◌⊎◌, inl, inr, ℕ, true, false, List, map, Option, Some, None, IfSome, Result, Ok, Err, refl, sym, ap, ◌∙◌, subst}
+use Rattle.std.proofs.Common.{◌≡◌, inl, inr, ℕ, false, List, map, Option, Some, None, IfSome, Result, Ok, Err, refl, sym, ap, ◌∙◌, subst}
 use Rattle.std.specs.Prelude.{codes}
 use Rattle.std.specs.Option.{option_map}
 use Rattle.mt_table.specs.declared.definition.Table.{Table}
@@ -7,14 +7,15 @@ use Rattle.mt_shelf.specs.declared.file.FileBytes.{FileBytes}
 use Rattle.mt_shelf.specs.Files.{Files, gained_files}
 use Rattle.mt_shelf.specs.Held.{pair_of}
 use Rattle.mt_check.specs.declared.accepted.Accepted.{Accepted}
-use Rattle.mt_command.specs.Outcomes.{Returns}
+use Rattle.mt_command.specs.Outcomes.{Returns, gives}
 use Rattle.mt_command.specs.Parts.{part_steps}
 use Rattle.mt_command.specs.Status.{is_outside}
 use Rattle.mt_command.specs.Tables.{table_of}
 use Rattle.mt_command.specs.declared.status.Status.{Status}
 use Rattle.mt_merging.specs.Merge.{merge_table_steps}
-use Rattle.mt_trial.specs.Tables.{trial_text}
-use Rattle.mt_trial.specs.Trial.{answers_of, half_folder, half_names, merge_answers, part_answers, trial_steps, two_parts, with_part}
+use Rattle.mt_trial.specs.Tables.{trial_table_text}
+use Rattle.mt_trial.specs.Trial.{trial_text}
+use Rattle.mt_trial.specs.Steps.{answers_of, half_folder, half_names, merge_answers, part_answers, trial_steps, two_parts, with_part}
 
 -- ---- the merged part
 
@@ -50,23 +51,23 @@ merge_answered table folder r (Some f) mid late given same stored answers =
 
 -- ---- the whole
 
-pub table_refused : (number rows : ℕ) (status : Status) → (is_outside status ≡ false → table_of trial_text ≡ Err status) → Returns (let r : Result (List ℕ) Status = Err status in r) (trial_steps number rows)
+pub table_refused : (number rows : ℕ) (status : Status) → (is_outside status ≡ false → table_of trial_table_text ≡ Err status) → Returns (let r : Result (List ℕ) Status = Err status in r) (trial_steps number rows)
 table_refused number rows status refused = λ inside. inr (status, sym (refused inside), refl)
 
-pub even_refused : (number rows : ℕ) (table : Table) (status : Status) → table_of trial_text ≡ Ok table → (is_outside status ≡ false → half_folder table number rows 0 ≡ Err status)
+pub even_refused : (number rows : ℕ) (table : Table) (status : Status) → table_of trial_table_text ≡ Ok table → (is_outside status ≡ false → half_folder table number rows 0 ≡ Err status)
     → Returns (let r : Result (List ℕ) Status = Err status in r) (trial_steps number rows)
 even_refused number rows table status read refused = λ inside. inl (table, sym read, inr (status, sym (refused inside), refl))
 
-pub odd_refused : (number rows : ℕ) (table : Table) (even : List FileBytes) (status : Status) → table_of trial_text ≡ Ok table → half_folder table number rows 0 ≡ Ok even → (is_outside status ≡ false → half_folder table number rows 1 ≡ Err status)
+pub odd_refused : (number rows : ℕ) (table : Table) (even : List FileBytes) (status : Status) → table_of trial_table_text ≡ Ok table → half_folder table number rows 0 ≡ Ok even → (is_outside status ≡ false → half_folder table number rows 1 ≡ Err status)
     → Returns (let r : Result (List ℕ) Status = Err status in r) (trial_steps number rows)
 odd_refused number rows table even status read one refused = λ inside. inl (table, sym read, inl (even, sym one, inr (status, sym (refused inside), refl)))
 
-both_here : (number rows : ℕ) (table : Table) (even odd : List FileBytes) (r : Result (List ℕ) Status) → table_of trial_text ≡ Ok table → half_folder table number rows 0 ≡ Ok even → half_folder table number rows 1 ≡ Ok odd
+both_here : (number rows : ℕ) (table : Table) (even odd : List FileBytes) (r : Result (List ℕ) Status) → table_of trial_table_text ≡ Ok table → half_folder table number rows 0 ≡ Ok even → half_folder table number rows 1 ≡ Ok odd
     → Returns r (merge_answers table (two_parts even odd)) → Returns r (trial_steps number rows)
 both_here number rows table even odd (Ok text) read one two answers = inl (table, sym read, inl (even, sym one, inl (odd, sym two, answers)))
 both_here number rows table even odd (Err status) read one two answers = λ inside. inl (table, sym read, inl (even, sym one, inl (odd, sym two, answers inside)))
 
-pub both_answered : (number rows : ℕ) (table : Table) (even odd : List FileBytes) (r : Result (List ℕ) Status) (files : Option Files) → table_of trial_text ≡ Ok table → half_folder table number rows 0 ≡ Ok even
+pub both_answered : (number rows : ℕ) (table : Table) (even odd : List FileBytes) (r : Result (List ℕ) Status) (files : Option Files) → table_of trial_table_text ≡ Ok table → half_folder table number rows 0 ≡ Ok even
     → half_folder table number rows 1 ≡ Ok odd → files ≡ Some (two_parts even odd) → IfSome files (λ f. Returns r (merge_answers table f)) → Returns r (trial_steps number rows)
 both_answered number rows table even odd r files read one two held answers =
     let P : Option Files → Type 0 = λ o. IfSome o (λ f. Returns r (merge_answers table f)) in
@@ -86,3 +87,9 @@ pub named_answered : (table : Table) (names : List (List ℕ)) (folder : List Fi
 named_answered table names folder r files mid late is given same stored answers =
     let P : List (List ℕ) → Type 0 = λ n. IfSome files (λ f. merge_table_steps table (codes "merged") n f (Ok folder)) in
     merge_answered table folder r files mid late (subst P is given) same stored answers
+
+-- ---- by the law
+
+pub text_only : (number rows : ℕ) (r : Result (List ℕ) Status) → ((outcome : Result (List ℕ) Status) → trial_steps number rows outcome → outcome ≡ Ok (trial_text number rows)) → Returns r (trial_steps number rows) → Returns r (gives (Ok (trial_text number rows)))
+text_only number rows (Ok text) law is = law (Ok text) is
+text_only number rows (Err status) law is = λ inside. law (Err status) (is inside)

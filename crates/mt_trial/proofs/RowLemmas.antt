@@ -1,6 +1,6 @@
 -- The rows of a trial fit its columns, and are of one month.
-use Rattle.std.proofs.Common.{◌≡◌, ◌≢◌, ℕ, zero, suc, ◌+◌, ◌*◌, ◌/◌, ◌%◌, ◌^◌, ◌-◌, ◌<◌, ◌≤◌, ◌==◌, arith, Bool, true, false, List, [], ◌∷◌, ◌++◌, length, map, refl, ap, sym, ◌∙◌, subst, lit≤, get_or}
-use Rattle.std.specs.Prelude.{All, Contains, pos, codes, filter, nat_lt, nat_le, if◌then◌else◌}
+use Rattle.std.proofs.Common.{◌≡◌, ◌≢◌, ℕ, zero, suc, ◌+◌, ◌/◌, ◌%◌, ◌^◌, ◌<◌, ◌≤◌, ◌==◌, arith, Bool, true, false, List, [], ◌∷◌, ◌++◌, length, map, refl, ap, sym, ◌∙◌, lit≤, get_or}
+use Rattle.std.specs.Prelude.{All, pos, filter, nat_le, if◌then◌else◌}
 use Rattle.std.specs.Fmt.{decimal}
 use Rattle.std.specs.Int.{w32, to_le_bytes}
 use Rattle.std.specs.List.{flat_map, list_all, range_with_len}
@@ -107,10 +107,10 @@ in_month r small =
     let at : is_january (get_or (range_with_len 0 31) r 0) ≡ true = AllPass-from_list_all is_january (range_with_len 0 31) all r 0 here in
     eqb-true (month_of (FIRST_DAY + r)) 202401 (sym (ap is_january (get_or-range_with_len 0 31 r 0 small ∙ zero-add r)) ∙ at)
 
-abbrev january : List ℕ
+abbrev pub january : List ℕ
 january = to_le_bytes w32 202401 ++ []
 
-row_month : (table : Table) (x : ℕ) → table.partition ≡ trial_partition → partition_bytes table (row_of x) ≡ january
+pub row_month : (table : Table) (x : ℕ) → table.partition ≡ trial_partition → partition_bytes table (row_of x) ≡ january
 row_month table x is =
     let month : month_at (out-Value (Num (pos (FIRST_DAY + x % 31)))) ≡ 202401 = ap month_at (outs-Num (pos (FIRST_DAY + x % 31))) ∙ in_month (x % 31) (mod_below x 31 (lit≤ tt)) in
     ap (λ (partition : List PartExpr). flat_map (expression_bytes table.columns (row_of x)) partition) is ∙ ap (λ m. to_le_bytes w32 m ++ []) month

@@ -1,103 +1,81 @@
--- The table of the trial's text.
-use Rattle.std.proofs.Common.{◌≡◌, ℕ, Bool, true, false, if◌then◌else◌, List, [], ◌∷◌, Option, Some, None, refl, ap, sym, ◌∙◌, Result, Ok, Err}
-use Rattle.std.specs.Prelude.{codes, option_and_then, option_map}
-use Rattle.mt_types.specs.declared.ty.Ty.{Ty, out-Ty}
-use Rattle.mt_types.specs.declared.ty.Ty.TheOpen.{Ty-F}
-use Rattle.mt_types.specs.declared.ty.Ty.TheVariants.{UInt, Str, Date, outs-UInt, outs-Str, outs-Date}
-use Rattle.mt_types.specs.declared.ty.Agg.TheVariants as agg
+-- The trial's text is read as the trial's table.
+use Rattle.std.proofs.Common.{◌≡◌, Bool, true, false, [], Some, refl, ap, sym, ◌∙◌, Result, Ok}
+use Rattle.std.specs.Prelude.{IsTrue}
+use Rattle.std.specs.List.{list_all}
+use Rattle.std.proofs.Math.Bool.{Bool-set}
+use Rattle.mt_types.specs.declared.ty.Ty.TheVariants.{outs-UInt, outs-Date}
 use Rattle.mt_types.specs.declared.ty.Width.TheVariants.{W32, W64}
-use Rattle.mt_types.specs.NameReading.{type_named}
-use Rattle.mt_tokens.specs.Tokens.{Tok}
-use Rattle.mt_tokens.specs.Lexis.{token_at}
-use Rattle.mt_syntax.specs.declared.tree.Element.{Element}
-use Rattle.mt_syntax.specs.declared.tree.Element.TheVariants as element
-use Rattle.mt_syntax.specs.declared.tree.IndexKind.TheVariants.{Minmax}
-use Rattle.mt_syntax.specs.declared.tree.Selected.TheVariants.{Items}
-use Rattle.mt_syntax.specs.declared.tree.Selection.TheVariants as item
-use Rattle.mt_syntax.specs.declared.tree.PartitionText.TheVariants.{Month}
-use Rattle.mt_syntax.specs.declared.tree.TableText.{TableText}
-use Rattle.mt_syntax.specs.declared.tree.TypeText.{TypeText}
-use Rattle.mt_syntax.specs.Readers.{more}
-use Rattle.mt_tokens.specs.Numbers.{number_of}
-use Rattle.mt_types.specs.Names.{state_opening}
-use Rattle.std.proofs.lemmas.List.{append-nil}
-use Rattle.mt_table.specs.ColumnTypes.{is_state_at}
-use Rattle.mt_syntax.specs.Reading.{sentence_at, type_at, column_at, index_at, item_at, projection_at, element_at, expression_at, clause_at, more_clauses, engine_at, body_at, rest_at}
-use Rattle.mt_table.specs.declared.column.Column.{Column}
-use Rattle.mt_table.specs.Sentence.{columns_of}
-use Rattle.mt_table.specs.TypeTexts.{column_type_of, column_type_if}
+use Rattle.mt_types.specs.Steps.{◌>>=◌}
+use Rattle.mt_types.proofs.StepLemmas.{ok_one}
+use Rattle.mt_table.specs.declared.why.TableWhy.{TableWhy}
+use Rattle.mt_table.specs.declared.why.TableWhy.TheVariants.{BadKey, BadPartition, BadProjection, BadSkip, Codec, NoSuchColumn, TooMany}
+use Rattle.mt_table.specs.Fields.{Fields}
+use Rattle.mt_table.specs.Kept.{keeps_rules}
+use Rattle.mt_table.specs.Rules.{all_are_there, are_few, fields_judged, fields_of, has_form, has_keys, is_index, is_partition, is_uncompressed}
+use Rattle.mt_table.specs.Sentence.{column_names}
+use Rattle.mt_table.specs.SettingTexts.{settings_of}
 use Rattle.mt_table.specs.declared.definition.Table.{Table}
-use Rattle.mt_table.specs.Tables.{judged}
-use Rattle.mt_table.specs.TextReading.{judged_sentence, table_reading, tokens_of, tokens_from}
-use Rattle.mt_trial.proofs.JudgedLemmas.{table_of_sentence}
-use Rattle.mt_table.proofs.TypeTextLemmas.{type_text_is}
-use Rattle.mt_trial.specs.Tables.{trial_columns, trial_partition, trial_text}
+use Rattle.mt_table.specs.Tables.{judged, table_if, table_of_fields, table_with}
+use Rattle.mt_table.specs.TextReading.{judged_sentence, table_reading}
+use Rattle.mt_table.proofs.JudgeLemmas.{begun, from_codecs, from_forms, from_indexes, from_keys, from_partition, from_settings, kept, set}
+use Rattle.mt_trial.specs.Tables.{trial_columns, trial_fields, trial_partition, trial_settings, trial_table_text}
+use Rattle.mt_trial.specs.KeptRules.{trial_keeps}
+use Rattle.mt_trial.specs.TrialTable.{trial_table}
+use Rattle.mt_trial.proofs.SentenceLemmas.{columns_are, elements, sentence, sentence_is}
 
--- ---- its sentence
+-- ---- the rules
 
--- a type without arguments
-abbrev word : List ℕ → TypeText
-word name = record { word = name; args = [] }
+keys_are : has_keys trial_columns sentence ≡ true
+keys_are = simp (outs-UInt W32, outs-UInt W64)
 
-abbrev elements : List Element
-elements =
-    element.Column (codes "d") (word (codes "Date")) None
-    ∷ element.Column (codes "k") (word (codes "UInt32")) None
-    ∷ element.Column (codes "v") (word (codes "UInt64")) None
-    ∷ element.Column (codes "s") (word (codes "String")) None
-    ∷ element.Index (codes "iv") (codes "v") Minmax 2
-    ∷ element.Projection (codes "pk") (Items (item.Column (codes "k") ∷ item.Count ∷ item.Of agg.Sum (codes "v") ∷ [])) (Some (codes "k" ∷ [])) None
-    ∷ []
+partition_is : is_partition trial_columns sentence.partition ≡ true
+partition_is = simp outs-Date
 
-abbrev sentence : TableText
-sentence = record {
-  name = codes "trial";
-  elements = elements;
-  partition = Month (codes "d") ∷ [];
-  primary = None;
-  order = codes "k" ∷ codes "v" ∷ [];
-  settings = [];
-}
+indexes_are : list_all (is_index trial_columns) elements ≡ true
+indexes_are = simp (outs-UInt W64)
 
-sentence_is : option_and_then sentence_at (tokens_of trial_text) ≡ Some sentence
-unfolding trial_text tokens_from token_at number_of more sentence_at type_at column_at index_at item_at projection_at element_at expression_at clause_at more_clauses engine_at body_at rest_at
-sentence_is = refl
+forms_are : list_all (has_form trial_columns) elements ≡ true
+forms_are = simp (outs-UInt W32, outs-UInt W64)
 
--- ---- its columns
+settings_are : settings_of [] ≡ Some trial_settings
+unfolding settings_of
+settings_are = refl
 
-type_is : (name : List ℕ) → column_type_of (word name) ≡ column_type_if (type_named name)
-type_is name = ap (λ text. column_type_if (type_named text)) (type_text_is (word name) ∙ append-nil name)
-
--- a type that is no state
-no_state : (ty : Ty) (level : Ty-F Ty) → out-Ty ty ≡ level → is_state_at level ≡ false → column_type_if (Some ty) ≡ Some ty
-no_state ty level is none = ap (λ b. if b then None else Some ty) (ap is_state_at is ∙ none)
-
-date_is : column_type_of (word (codes "Date")) ≡ Some Date
-date_is = type_is (codes "Date") ∙ no_state Date _ outs-Date refl
-
-u32_is : column_type_of (word (codes "UInt32")) ≡ Some (UInt W32)
-u32_is = type_is (codes "UInt32") ∙ no_state (UInt W32) _ (outs-UInt W32) refl
-
-u64_is : column_type_of (word (codes "UInt64")) ≡ Some (UInt W64)
-u64_is = type_is (codes "UInt64") ∙ no_state (UInt W64) _ (outs-UInt W64) refl
-
-text_is : column_type_of (word (codes "String")) ≡ Some Str
-text_is = type_is (codes "String") ∙ no_state Str _ outs-Str refl
-
-columns_are : columns_of elements ≡ Some trial_columns
-columns_are = simp (date_is, u32_is, u64_is, text_is)
+fields_read : fields_judged sentence ≡ Ok trial_fields
+fields_read =
+    let present = begun sentence trial_columns (sym columns_are) refl in
+    let keys = kept (all_are_there (column_names elements) sentence) NoSuchColumn (from_keys trial_columns sentence) (fields_judged sentence) present refl in
+    let partition = kept (has_keys trial_columns sentence) BadKey (from_partition trial_columns sentence) (fields_judged sentence) keys keys_are in
+    let indexes = kept (is_partition trial_columns sentence.partition) BadPartition (from_indexes trial_columns sentence) (fields_judged sentence) partition partition_is in
+    let forms = kept (list_all (is_index trial_columns) elements) BadSkip (from_forms trial_columns sentence) (fields_judged sentence) indexes indexes_are in
+    let codecs = kept (list_all (has_form trial_columns) elements) BadProjection (from_codecs trial_columns sentence) (fields_judged sentence) forms forms_are in
+    let settings = kept (list_all is_uncompressed elements) Codec (from_settings trial_columns sentence) (fields_judged sentence) codecs refl in
+    let counts = set sentence trial_columns trial_settings (fields_judged sentence) settings (sym settings_are) in
+    kept (are_few sentence) TooMany (Ok (fields_of trial_columns trial_settings sentence)) (fields_judged sentence) counts refl
 
 -- ---- its table
 
-table_is : (table : Table) → table_reading trial_text ≡ Ok table → judged sentence ≡ Ok table
+-- the table of fields that keep the rules, whichever proof says so
+table_kept : (f : Fields) (b : Bool) (e : keeps_rules f ≡ b) (rules : IsTrue (keeps_rules f)) → table_if f b e ≡ Ok (table_with f rules)
+table_kept f true e rules = ap (λ (r : IsTrue (keeps_rules f)). Ok (table_with f r)) (Bool-set (keeps_rules f) true e rules)
+table_kept f false e rules = absurd (let never : true ≡ false = sym rules ∙ e in cc)
+
+sentence_judged : judged sentence ≡ Ok trial_table
+unfolding judged
+sentence_judged = ap (λ (r : Result Fields TableWhy). r >>= table_of_fields) fields_read ∙ table_kept trial_fields (keeps_rules trial_fields) refl trial_keeps
+
+-- the text is read, and says the trial's table
+pub trial_table_read : table_reading trial_table_text ≡ Ok trial_table
 unfolding table_reading
-table_is table e = sym (ap judged_sentence sentence_is) ∙ e
+trial_table_read = ap judged_sentence sentence_is ∙ sentence_judged
 
-trial_table_is : (table : Table) → table_reading trial_text ≡ Ok table → (table.columns ≡ trial_columns) × (table.partition ≡ trial_partition)
-trial_table_is table e = table_of_sentence sentence trial_columns table (sym columns_are) (table_is table e)
+-- ---- what is known of it
 
-pub columns_known : (table : Table) → table_reading trial_text ≡ Ok table → table.columns ≡ trial_columns
-columns_known table e = (trial_table_is table e).0
+pub table_known : (table : Table) → table_reading trial_table_text ≡ Ok table → table ≡ trial_table
+table_known table e = ok_one trial_table table (sym trial_table_read ∙ e)
 
-pub partition_known : (table : Table) → table_reading trial_text ≡ Ok table → table.partition ≡ trial_partition
-partition_known table e = (trial_table_is table e).1
+pub columns_known : (table : Table) → table_reading trial_table_text ≡ Ok table → table.columns ≡ trial_columns
+columns_known table e = ap (λ (t : Table). t.columns) (table_known table e)
+
+pub partition_known : (table : Table) → table_reading trial_table_text ≡ Ok table → table.partition ≡ trial_partition
+partition_known table e = ap (λ (t : Table). t.partition) (table_known table e)

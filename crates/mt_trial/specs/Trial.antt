@@ -1,92 +1,44 @@
--- The command `trial`: its two parts, their merge, and what it prints, docs/CLI.md.
-use Rattle.std.specs.Prelude.{ℕ, List, [], ◌∷◌, ◌++◌, length, map, codes, Result, Ok}
+-- What `trial` prints: docs/CLI.md, "trial".
+use Rattle.std.specs.Prelude.{◌≡◌, ◌⊎◌, ℕ, true, List, [], ◌∷◌, ◌++◌, length, codes, Ok}
 use Rattle.std.specs.Fmt.{decimal}
-use Rattle.mt_table.specs.declared.definition.Table.{Table}
-use Rattle.mt_shelf.specs.declared.file.FileBytes.{FileBytes}
-use Rattle.mt_shelf.specs.Files.{Files, gained_files}
-use Rattle.mt_shelf.specs.Held.{files_in, pair_of}
+use Rattle.std.specs.Io.KnownBytes.{append_known}
 use Rattle.mt_fold.specs.Answer.{answer_text}
 use Rattle.mt_defs.specs.Rows.{Row}
-use Rattle.mt_defs.specs.Sorting.{sorted_rows}
-use Rattle.mt_defs.specs.Writer.{written_folder}
-use Rattle.mt_command.specs.Outcomes.{Outcomes, ◌>>=◌, gives}
-use Rattle.mt_command.specs.Parts.{part_steps}
-use Rattle.mt_command.specs.Tables.{table_of}
-use Rattle.mt_command.specs.Targets.{within_limit}
+use Rattle.mt_defs.specs.Sorting.{merged_rows, sorted_rows}
+use Rattle.mt_command.specs.Commands.{PrintsTextOf}
+use Rattle.mt_command.specs.Outcomes.{gives}
+use Rattle.mt_command.specs.Plans.{World}
+use Rattle.mt_command.specs.Status.{is_outside}
 use Rattle.mt_command.specs.declared.status.Status.{Status}
-use Rattle.mt_select.specs.Select.{query_of}
-use Rattle.mt_merging.specs.Merge.{merge_table_steps}
+use Rattle.mt_command.specs.declared.status.Status.TheVariants.{Done}
+use Rattle.mt_trial.specs.Queries.{totals_query, groups_query, great_query}
 use Rattle.mt_trial.specs.Rows.{half_rows}
-use Rattle.mt_trial.specs.Tables.{trial_text}
+use Rattle.mt_trial.specs.TrialTable.{trial_table}
 
--- ---- the parts
+-- the rows at even places, or at odd ones, in key order
+abbrev pub part_rows : (number rows remainder : ℕ) → List Row
+part_rows number rows remainder = sorted_rows trial_table.sort (half_rows number rows remainder)
 
--- the folder of the rows at even places, or at odd ones, as `write` makes it
-abbrev pub half_folder : Table → (number rows remainder : ℕ) → Result (List FileBytes) Status
-half_folder table number rows remainder = within_limit (written_folder table (sorted_rows table.sort (half_rows number rows remainder)))
-
--- the files with a folder below a part
-abbrev pub with_part : List ℕ → List FileBytes → Files → Files
-with_part part folder files = gained_files part (map pair_of folder) files
-
--- the two parts, and no other file
-abbrev pub two_parts : (even odd : List FileBytes) → Files
-two_parts even odd = with_part (codes "odd") odd (with_part (codes "even") even (files_in []))
-
--- the names of the two parts
-abbrev pub half_names : List (List ℕ)
-half_names = codes "even" ∷ codes "odd" ∷ []
-
--- ---- what is printed
+-- the rows of both, merged
+abbrev pub trial_rows : (number rows : ℕ) → List Row
+trial_rows number rows = merged_rows trial_table.sort (part_rows number rows 0 ∷ part_rows number rows 1 ∷ [])
 
 -- how many rows there are
 abbrev pub count_line : List Row → List ℕ
 count_line rows = codes "rows " ++ decimal (length rows) ++ codes "\n"
 
--- all rows together
-abbrev pub totals_query : List ℕ
-totals_query = codes "SELECT count(), sum(v), min(v), max(v) FROM part ORDER BY ALL"
-
--- the first groups
-abbrev pub groups_query : List ℕ
-groups_query = codes "SELECT k, count(), sum(v) FROM part WHERE k < 30 GROUP BY k ORDER BY ALL LIMIT 3"
-
--- the first rows with a great v
-abbrev pub great_query : List ℕ
-great_query = codes "SELECT k, v FROM part WHERE v >= 900 ORDER BY ALL LIMIT 2"
-
--- the lines of a query's answer over rows
-abbrev pub answer_of : Table → List Row → (text : List ℕ) → Outcomes (List ℕ)
-answer_of table rows text = do
-  query ← query_of table text
-  gives (Ok (answer_text table query rows))
-
 -- how many rows there are, and the answers of the three queries
-abbrev pub answers_of : Table → List Row → Outcomes (List ℕ)
-answers_of table rows = do
-  totals ← answer_of table rows totals_query
-  groups ← answer_of table rows groups_query
-  great ← answer_of table rows great_query
-  gives (Ok (count_line rows ++ totals ++ groups ++ great))
+abbrev pub answers_over : List Row → List ℕ
+answers_over rows =
+    count_line rows ++ answer_text trial_table totals_query rows ++ answer_text trial_table groups_query rows ++ answer_text trial_table great_query rows
 
--- ---- all of it
+-- these of the merged rows
+abbrev pub trial_text : (number rows : ℕ) → List ℕ
+trial_text number rows = answers_over (trial_rows number rows)
 
--- these of the merged part, once it is checked
-abbrev pub part_answers : Table → Files → Outcomes (List ℕ)
-part_answers table files = do
-  accepted ← part_steps table (codes "merged") files
-  answers_of table accepted.rows
-
--- the two parts are merged as `merge` does, and the merge is stored beside them
-abbrev pub merge_answers : Table → Files → Outcomes (List ℕ)
-merge_answers table files = do
-  folder ← merge_table_steps table (codes "merged") half_names files
-  part_answers table (with_part (codes "merged") folder files)
-
--- trial NUMBER ROWS WORKERS
-abbrev pub trial_steps : (number rows : ℕ) → Outcomes (List ℕ)
-trial_steps number rows = do
-  table ← gives (table_of trial_text)
-  even ← gives (half_folder table number rows 0)
-  odd ← gives (half_folder table number rows 1)
-  merge_answers table (two_parts even odd)
+-- a run that prints this text. It looks at no file and no input, so whatever these are, it isn't refused, and the whole
+-- text is printed where it is Done
+pub record PrintsTrial (number rows : ℕ) (old new : World) (status : Status) : Type 0 where
+  pub unrefused : (status ≡ Done) ⊎ (is_outside status ≡ true)
+  pub printed : status ≡ Done → new.written ≡ append_known old.written (trial_text number rows)
+  pub performed : PrintsTextOf (λ files. gives (Ok (trial_text number rows))) old new status

@@ -3,7 +3,8 @@
 ghost use Rattle.std.specs.Prelude.{◌≡◌, ◌++◌, IfOk};
 ghost use Rattle.mt_command.specs.Outcomes.{Returns};
 ghost use Rattle.mt_command.specs.Steps.{StepCausedBy, of_nothing};
-ghost use Rattle.mt_trial.specs.Trial.{answer_of, answers_of, count_line};
+ghost use Rattle.mt_trial.specs.Steps.{answer_of, answers_of};
+ghost use Rattle.mt_trial.specs.Trial.{count_line};
 
 use itoa::Buffer;
 use mt_command::Status;
@@ -67,6 +68,7 @@ fn text_of_answers(
 }
 
 /// How many rows there are, and the answers of the three queries over them.
+#[tactic(auto, unfolding(crate::specs::Queries::totals_text, crate::specs::Queries::groups_text, crate::specs::Queries::great_text))]
 pub(crate) fn answers_of(alloc: Global, table: &Table, rows: &[Row]) -> Result<List<u8>, Status>
     ensures gives { Returns result (answers_of table.now rows.now) }
     ensures cause { StepCausedBy result of_nothing of_nothing }

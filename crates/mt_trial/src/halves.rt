@@ -6,7 +6,7 @@ ghost use Rattle.mt_shelf.specs.State.{files_of};
 ghost use Rattle.mt_command.specs.Status.{Gives};
 ghost use Rattle.mt_command.specs.Steps.{StepCausedBy, of_nothing};
 ghost use Rattle.mt_trial.specs.Tables.{trial_columns, trial_partition};
-ghost use Rattle.mt_trial.specs.Trial.{half_folder, two_parts};
+ghost use Rattle.mt_trial.specs.Steps.{half_folder, two_parts};
 ghost use Rattle.mt_trial.specs.declared.rows.TheConstants.{MAX_TRIAL_ROWS};
 
 use crate::rows::half_rows;

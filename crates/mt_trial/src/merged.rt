@@ -6,7 +6,7 @@ ghost use Rattle.mt_shelf.specs.Paths.{is_path};
 ghost use Rattle.mt_shelf.specs.State.{files_of};
 ghost use Rattle.mt_command.specs.Outcomes.{Returns};
 ghost use Rattle.mt_command.specs.Steps.{StepCausedBy, of_shelf};
-ghost use Rattle.mt_trial.specs.Trial.{half_names, merge_answers, part_answers};
+ghost use Rattle.mt_trial.specs.Steps.{half_names, merge_answers, part_answers};
 
 use crate::answers::answers_of;
 use mt_command::{Status, accept_part, store_folder};

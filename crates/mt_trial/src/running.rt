@@ -1,15 +1,15 @@
 //! The command `trial`.
 
-ghost use Rattle.std.specs.Prelude.{◌≤◌, ◌<◌};
+ghost use Rattle.std.specs.Prelude.{◌≤◌, ◌<◌, Ok};
 ghost use Rattle.mt_shelf.specs.State.{files_of};
-ghost use Rattle.mt_command.specs.Commands.{PrintsTextOf};
-ghost use Rattle.mt_command.specs.Outcomes.{Returns};
+ghost use Rattle.mt_command.specs.Outcomes.{Returns, gives};
 ghost use Rattle.mt_command.specs.Plans.{world};
 ghost use Rattle.mt_command.specs.Steps.{StepCausedBy, of_nothing};
-ghost use Rattle.mt_trial.specs.Trial.{trial_steps};
+ghost use Rattle.mt_trial.specs.Trial.{PrintsTrial, trial_text};
 ghost use Rattle.mt_trial.specs.declared.rows.TheConstants.{MAX_TRIAL_ROWS};
 
 use crate::halves::{half_folder, two_parts};
+use crate::law::trials_have_one_outcome;
 use crate::merged::merge_answers;
 use crate::table::trial_table;
 use mt_command::{Status, finished, print};
@@ -18,7 +18,7 @@ use mt_types::List;
 use std::alloc::Global;
 use std::thread::Threads;
 
-/// What a trial prints, or its refusal. All is done in memory.
+/// What a trial prints. All is done in memory, and nothing but memory can fail.
 fn trial_text<R: Threads + Sync, G: Gate + Sync>(
     rt: &R,
     alloc: Global,
@@ -31,9 +31,10 @@ fn trial_text<R: Threads + Sync, G: Gate + Sync>(
     requires most { rows ≤ MAX_TRIAL_ROWS }
     requires few { 0 < workers }
     requires many { workers ≤ 64 }
-    ensures gives { Returns result (trial_steps number rows) }
+    ensures gives { Returns result (gives (Ok (trial_text number rows))) }
     ensures cause { StepCausedBy result of_nothing of_nothing }
 {
+    trials_have_one_outcome();
     let table = match trial_table(alloc) {
         Ok(table) => table,
         Err(status) => return Err(status),
@@ -53,8 +54,8 @@ fn trial_text<R: Threads + Sync, G: Gate + Sync>(
 }
 
 /// The command `trial NUMBER ROWS WORKERS` (docs/CLI.md): rows that the number determines are written as two parts,
-/// which are merged; the merge is checked and queried, and the answers are printed. No file of the shelf is read or
-/// written. The same for any number of workers.
+/// which are merged; the merge is checked and queried, and the answers are printed: always the text of these numbers,
+/// for any number of workers. No file of the shelf is read or written.
 pub fn trial<R: Threads + Sync, S: Source, K: Sink, F: Shelf, G: Gate + Sync>(
     rt: &R,
     alloc: Global,
@@ -70,7 +71,7 @@ pub fn trial<R: Threads + Sync, S: Source, K: Sink, F: Shelf, G: Gate + Sync>(
     requires most { rows ≤ MAX_TRIAL_ROWS }
     requires few { 0 < workers }
     requires many { workers ≤ 64 }
-    ensures { PrintsTextOf (λ _. trial_steps number rows)
+    ensures { PrintsTrial number rows
         (world (S.left _input.old) (K.written output.old) (files_of (F.state _shelf.old))
         (S.faults _input.old) (K.faults output.old) (F.faults _shelf.old))
         (world (S.left _input.new) (K.written output.new) (files_of (F.state _shelf.new))
