@@ -4,9 +4,10 @@ use Rattle.std.specs.Prelude.{nat_le}
 use Rattle.std.specs.List.{All}
 use Rattle.std.proofs.lemmas.Bool.{cases_Bool, and_from}
 use Rattle.std.proofs.lemmas.List.Elements.{All-nil, All-cons}
-use Rattle.mt_tokens.specs.declared.limits.TheConstants.{MAX_NAME}
+use Rattle.mt_types.specs.declared.limits.TheConstants.{MAX_NAME}
 use Rattle.mt_tokens.specs.Tokens.{Tok, Word, Quoted, Text, Digits, OfSign}
-use Rattle.mt_tokens.specs.Words.{is_word_text, NamesWord}
+use Rattle.mt_types.specs.Words.{is_word_text}
+use Rattle.mt_tokens.specs.Words.{NamesWord}
 use Rattle.mt_tokens.specs.Lexis.{skip_blanks, AreTokens}
 use Rattle.mt_tokens.specs.Writing.{IsWritten}
 use Rattle.mt_tokens.proofs.ReadTokens.{IsRead, token_is_read}

@@ -7,9 +7,9 @@ use Rattle.std.proofs.lemmas.List.{append-nil}
 use Rattle.std.specs.Prelude.{position, ◌==◌}
 use Rattle.mt_tokens.specs.declared.ascii.TheConstants.{QUOTE, BACKQUOTE}
 use Rattle.mt_tokens.specs.declared.sign.Sign.{Sign}
-use Rattle.mt_tokens.specs.Bytes.{is_blank, is_word_start, is_word_byte}
+use Rattle.mt_types.specs.Words.{is_word_start, is_word_byte, is_name}
+use Rattle.mt_tokens.specs.Bytes.{is_blank}
 use Rattle.mt_tokens.specs.Tokens.{Tok, Word, Quoted, Digits, OfSign}
-use Rattle.mt_tokens.specs.Words.{is_name}
 use Rattle.mt_tokens.specs.Texts.{text_len}
 use Rattle.mt_tokens.specs.Signs.{double_sign, single_sign, sign_or, sign_at}
 use Rattle.mt_tokens.specs.Lexis.{run_of, text_of_len, name_of_len, token_at, skip_blanks, AreTokens, IsTokens}

@@ -9,9 +9,8 @@ use Rattle.std.proofs.lemmas.List.{append-nil, length-append}
 use Rattle.mt_tokens.specs.declared.ascii.TheConstants.{QUOTE, BACKQUOTE, BACKSLASH}
 use Rattle.mt_tokens.specs.declared.sign.Sign.{Sign}
 use Rattle.mt_tokens.specs.declared.sign.Sign.TheVariants.{Open, Close, Comma, Dot, Semicolon, Star, Minus, Equal, NotEqual, Less, LessEqual, Greater, GreaterEqual}
-use Rattle.mt_tokens.specs.Bytes.{is_word_start, is_word_byte}
+use Rattle.mt_types.specs.Words.{is_word_start, is_word_byte, is_word_text, is_name}
 use Rattle.mt_tokens.specs.Tokens.{Tok, Word, Quoted, Text, Digits, OfSign}
-use Rattle.mt_tokens.specs.Words.{is_word_text, is_name}
 use Rattle.mt_tokens.specs.Texts.{is_escape, plus, text_len, escape_len}
 use Rattle.mt_tokens.specs.Signs.{double_sign, single_sign, sign_or, sign_at}
 use Rattle.mt_tokens.specs.Lexis.{run_of, token_at}

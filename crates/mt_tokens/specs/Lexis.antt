@@ -7,9 +7,9 @@ use Rattle.mt_tokens.specs.declared.ascii.TheConstants.{QUOTE, BACKQUOTE}
 use Rattle.mt_tokens.specs.declared.token.Token.{Token}
 use Rattle.mt_tokens.specs.declared.error.TokenError.{TokenError}
 use Rattle.mt_tokens.specs.declared.error.TokenError.TheVariants as error
-use Rattle.mt_tokens.specs.Bytes.{is_blank, is_word_start, is_word_byte}
+use Rattle.mt_types.specs.Words.{is_word_start, is_word_byte, is_name}
+use Rattle.mt_tokens.specs.Bytes.{is_blank}
 use Rattle.mt_tokens.specs.Tokens.{Tok, Word, Quoted, Text, Digits, OfSign, plains}
-use Rattle.mt_tokens.specs.Words.{is_name}
 use Rattle.mt_tokens.specs.Texts.{text_len}
 use Rattle.mt_tokens.specs.Signs.{sign_at}
 

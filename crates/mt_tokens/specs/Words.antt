@@ -1,22 +1,12 @@
 -- What a token is in a sentence: docs/LANGUAGE.md, "Tokens".
-use Rattle.std.specs.Prelude.{◌≡◌, ℕ, List, [], ◌∷◌, length, map, Option, Some, None, Bool, true, false, nat_le, ◌&&◌, ◌==◌, if◌then◌else◌}
-use Rattle.std.specs.List.{list_all}
+use Rattle.std.specs.Prelude.{◌≡◌, ℕ, List, length, map, Option, Some, None, Bool, true, false, nat_le, ◌==◌, if◌then◌else◌}
 use Rattle.std.specs.Str.{bytes_eq}
 use Rattle.std.specs.Char.{to_ascii_lowercase}
-use Rattle.mt_tokens.specs.declared.limits.TheConstants.{MAX_NAME}
+use Rattle.mt_types.specs.declared.limits.TheConstants.{MAX_NAME}
+use Rattle.mt_types.specs.Words.{is_name}
 use Rattle.mt_tokens.specs.declared.sign.Sign.{Sign}
 use Rattle.mt_tokens.specs.declared.sign.Sign.TheVariants.{Open, Close, Comma, Dot, Semicolon, Star, Minus, Equal, NotEqual, Less, LessEqual, Greater, GreaterEqual}
-use Rattle.mt_tokens.specs.Bytes.{is_word_start, is_word_byte}
 use Rattle.mt_tokens.specs.Tokens.{Tok, Word, Quoted, OfSign}
-
--- a word: a letter or _, then letters, digits and _
-abbrev pub is_word_text : List ℕ → Bool
-is_word_text [] = false
-is_word_text (c ∷ rest) = is_word_start c && list_all is_word_byte rest
-
--- a name: a word of at most 64 bytes
-abbrev pub is_name : List ℕ → Bool
-is_name text = is_word_text text && nat_le (length text) MAX_NAME
 
 -- the name that a token is: a plain word that isn't too long, or what stands in backquotes
 abbrev pub name_of : Tok → Option (List ℕ)

@@ -7,7 +7,7 @@ use Rattle.mt_tokens.specs.declared.ascii.TheConstants.{QUOTE, BACKQUOTE, BACKSL
 use Rattle.mt_tokens.specs.declared.sign.Sign.{Sign}
 use Rattle.mt_tokens.specs.declared.sign.Sign.TheVariants.{Open, Close, Comma, Dot, Semicolon, Star, Minus, Equal, NotEqual, Less, LessEqual, Greater, GreaterEqual}
 use Rattle.mt_tokens.specs.Tokens.{Tok, Word, Quoted, Text, Digits, OfSign}
-use Rattle.mt_tokens.specs.Words.{is_word_text, is_name}
+use Rattle.mt_types.specs.Words.{is_word_text, is_name}
 use Rattle.mt_tokens.specs.Texts.{is_escape}
 
 -- one or more digits

@@ -1,7 +1,8 @@
 //! The bytes that tokens are made of (docs/LANGUAGE.md, "Tokens").
 
 ghost use Rattle.std.specs.Prelude.{◌≡◌};
-ghost use Rattle.mt_tokens.specs.Bytes.{is_blank, is_word_start, is_word_byte};
+ghost use Rattle.mt_types.specs.Words.{is_word_start, is_word_byte};
+ghost use Rattle.mt_tokens.specs.Bytes.{is_blank};
 
 /// Round a text.
 pub(crate) const QUOTE: u8 = b'\'';

@@ -8,7 +8,7 @@ use std::error::Error;
 use std::fmt;
 
 /// Why a text has no tokens.
-#[derive(Clone, Copy, Debug, PartialEq, Eq)]
+#[derive(Clone, Copy, Debug)]
 pub enum TokenError {
     /// The text is no list of tokens: somewhere in it no token begins.
     Bad,

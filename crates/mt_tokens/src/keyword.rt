@@ -5,9 +5,9 @@ ghost use Rattle.std.specs.Option.{option_copied};
 ghost use Rattle.mt_tokens.specs.Tokens.{plain};
 ghost use Rattle.mt_tokens.specs.Words.{is_keyword, is_sign, is_word, name_of};
 
-use crate::limits::MAX_NAME;
 use crate::sign::Sign;
 use crate::token::Token;
+use mt_types::MAX_NAME;
 
 /// Whether the token is this keyword: a plain word, in any case.
 pub fn is_keyword(token: Token<'_>, key: &[u8]) -> bool

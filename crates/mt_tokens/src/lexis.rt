@@ -4,16 +4,16 @@ ghost use Rattle.std.specs.Prelude.{◌≡◌, ◌∷◌, ◌==◌, [], MatchOpt
 ghost use Rattle.std.specs.List.{prefix_len, list_all};
 ghost use Rattle.std.specs.Char.{is_ascii_digit};
 ghost use Rattle.mt_tokens.specs.declared.ascii.TheConstants.{BACKQUOTE};
-ghost use Rattle.mt_tokens.specs.Bytes.{is_blank, is_word_byte};
-ghost use Rattle.mt_tokens.specs.Words.{is_name, is_word_text};
+ghost use Rattle.mt_types.specs.Words.{is_word_byte, is_name, is_word_text};
+ghost use Rattle.mt_tokens.specs.Bytes.{is_blank};
 ghost use Rattle.mt_tokens.specs.Tokens.{Word, Digits, plain};
 ghost use Rattle.mt_tokens.specs.Lexis.{run_of, text_at, quoted_at, token_at, skip_blanks};
 
 use crate::ascii::{BACKQUOTE, QUOTE, is_blank, is_word_byte, is_word_start};
 use crate::escape::text_len;
-use crate::limits::MAX_NAME;
 use crate::sign::split_sign;
 use crate::token::Token;
+use mt_types::MAX_NAME;
 
 /// The first byte and the others.
 pub(crate) fn split_byte(bytes: &[u8]) -> Option<(u8, &[u8])>

@@ -10,12 +10,9 @@ mod escape;
 mod keyword;
 mod law;
 mod lexis;
-mod limits;
 mod reading;
 mod sign;
 mod split;
-#[cfg(test)]
-mod tests;
 mod token;
 
 pub use digits::number_of;
@@ -23,7 +20,6 @@ pub use error::TokenError;
 pub use escape::unescaped;
 pub use keyword::{is_keyword, is_sign, is_word, name_of};
 pub use law::{names_are_words, the_longest_token_is_read};
-pub use limits::MAX_NAME;
 pub use reading::read_tokens;
 pub use sign::Sign;
 pub use split::{after_keyword, after_sign, after_word, split_first, split_name, split_number};

@@ -6,7 +6,7 @@ ghost use Rattle.mt_tokens.specs.Signs.{double_sign, single_sign, sign_at};
 use crate::lexis::split_byte;
 
 /// A sign of one or two bytes (docs/LANGUAGE.md, "Tokens").
-#[derive(Clone, Copy, Debug, PartialEq, Eq)]
+#[derive(Clone, Copy)]
 pub enum Sign {
     /// `(`
     Open,

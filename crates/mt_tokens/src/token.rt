@@ -3,7 +3,7 @@
 use crate::sign::Sign;
 
 /// A token of a text (docs/LANGUAGE.md, "Tokens"). Its bytes are a slice of the text.
-#[derive(Clone, Copy, Debug)]
+#[derive(Clone, Copy)]
 pub enum Token<'a> {
     /// A letter or `_`, then letters, digits and `_`, as written; it may be longer than a name.
     Word(&'a [u8]),

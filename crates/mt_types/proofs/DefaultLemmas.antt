@@ -1,7 +1,8 @@
 -- A type's default is one of its values.
-use Rattle.std.proofs.Common.{◌≡◌, pos, Bool, true, [], refl, ap, ◌∙◌}
+use Rattle.std.proofs.Common.{◌≡◌, ℕ, zero, suc, pos, Bool, true, [], refl, ap, ◌∙◌}
 use Rattle.std.specs.Prelude.{replicate, length}
-use Rattle.std.proofs.lemmas.Bool.{eq-eqb}
+use Rattle.std.specs.List.{list_all}
+use Rattle.std.proofs.lemmas.Bool.{and_from, eq-eqb}
 use Rattle.std.proofs.lemmas.List.{length-replicate}
 use Rattle.mt_types.specs.declared.ty.Width.{Width}
 use Rattle.mt_types.specs.declared.ty.Width.TheVariants.{W8, W16, W32, W64}
@@ -11,6 +12,7 @@ use Rattle.mt_types.specs.declared.ty.Ty.TheOpen.{Ty-F}
 use Rattle.mt_types.specs.declared.ty.Ty.TheFolds.{fold_out-Ty}
 use Rattle.mt_types.specs.declared.value.Value.{Value}
 use Rattle.mt_types.specs.declared.value.Value.TheVariants.{outs-Num, outs-Text, outs-Null, outs-List, outs-State}
+use Rattle.mt_types.specs.Bytes.{is_byte}
 use Rattle.mt_types.specs.Defaults.{default_of, default_at}
 use Rattle.mt_types.specs.Fits.{fits_of, fits_step, bits, is_unsigned, is_signed}
 
@@ -28,11 +30,16 @@ zero_signed W16 = refl
 zero_signed W32 = refl
 zero_signed W64 = refl
 
+-- zeros are bytes
+zeros_are_bytes : (n : ℕ) → list_all is_byte (replicate n 0) ≡ true
+zeros_are_bytes zero = refl
+zeros_are_bytes (suc n) = zeros_are_bytes n
+
 -- at one level
 default_fits_step : (l : Ty-F Ty) → fits_step (map-Ty Ty (Value → Bool) (λ t. fits_of t) l) (default_at l) ≡ true
 default_fits_step (Ty-F.UInt w) = rw (outs-Num (pos 0)) (zero_unsigned w)
 default_fits_step (Ty-F.Int w) = rw (outs-Num (pos 0)) (zero_signed w)
-default_fits_step (Ty-F.FixedString n) = rw (outs-Text (replicate n 0)) (eq-eqb (length (replicate n 0)) n (length-replicate n 0))
+default_fits_step (Ty-F.FixedString n) = rw (outs-Text (replicate n 0)) (and_from _ _ (eq-eqb (length (replicate n 0)) n (length-replicate n 0)) (zeros_are_bytes n))
 default_fits_step Ty-F.Str = rw (outs-Text []) refl
 default_fits_step Ty-F.Date = rw (outs-Num (pos 0)) refl
 default_fits_step (Ty-F.Nullable t) = rw outs-Null refl

@@ -1,3 +1,4 @@
+pub mod ByteLemmas
 pub mod OrderLemmas
 pub mod Leb128Lemmas
 pub mod DefaultLemmas

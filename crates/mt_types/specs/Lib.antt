@@ -1,4 +1,5 @@
 pub mod formers
+pub mod Bytes
 pub mod Fits
 pub mod Order
 pub mod Profile
@@ -12,3 +13,4 @@ pub mod Ties
 pub mod Ordered
 pub mod Hashed
 pub mod Steps
+pub mod Words

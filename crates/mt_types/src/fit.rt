@@ -1,7 +1,8 @@
 //! Which values a type has.
 
-ghost use Rattle.std.specs.Prelude.{◌≡◌};
+ghost use Rattle.std.specs.Prelude.{◌≡◌, ◌==◌, ◌&&◌, nat_le, length};
 ghost use Rattle.std.specs.List.{list_all};
+ghost use Rattle.mt_types.specs.Bytes.{is_byte};
 ghost use Rattle.mt_types.specs.Fits.{bits, fits_of, is_signed, is_unsigned};
 ghost use Rattle.mt_types.specs.Fits.{is_count, is_least_of, is_state_of};
 
@@ -44,8 +45,8 @@ pub fn fits(ty: &Ty, value: &Value) -> bool
         (Ty::UInt(width), Value::Num(number)) => width.holds_unsigned(*number),
         (Ty::Int(width), Value::Num(number)) => width.holds_signed(*number),
         (Ty::Date, Value::Num(day)) => Width::W16.holds_unsigned(*day),
-        (Ty::FixedString(size), Value::Text(bytes)) => bytes.len() == *size as usize,
-        (Ty::Str, Value::Text(bytes)) => bytes.len() <= MAX_TEXT,
+        (Ty::FixedString(size), Value::Text(bytes)) => fixed_fits(*size, bytes.as_slice()),
+        (Ty::Str, Value::Text(bytes)) => text_fits(bytes.as_slice()),
         (Ty::Nullable(_), Value::Null) => true,
         (Ty::Nullable(inner), _) => fits(inner.get(), value),
         (Ty::Array(inner), Value::List(items)) => {
@@ -55,6 +56,18 @@ pub fn fits(ty: &Ty, value: &Value) -> bool
         (Ty::CountState, Value::State(state)) => is_count(*state),
         _ => false,
     }
+}
+
+fn fixed_fits(size: u32, bytes: &[u8]) -> bool
+    ensures { result ≡ (length bytes.now == size && list_all is_byte bytes.now) }
+{
+    bytes.len() == size as usize
+}
+
+fn text_fits(bytes: &[u8]) -> bool
+    ensures { result ≡ (nat_le (length bytes.now) MAX_TEXT && list_all is_byte bytes.now) }
+{
+    bytes.len() <= MAX_TEXT
 }
 
 #[cycle(fits)]

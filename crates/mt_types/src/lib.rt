@@ -10,8 +10,6 @@ mod list;
 mod memory;
 mod order;
 mod row;
-#[cfg(test)]
-mod tests;
 mod ty;
 mod value;
 mod varint;
@@ -22,10 +20,11 @@ pub use law::{
     rows_are_totally_ordered, tied_rows_are_the_same, tied_values_are_the_same,
     types_have_their_own_names, values_are_totally_ordered, written_numbers_are_read,
 };
-pub use limits::{MAX_ARRAY_DEPTH, MAX_ELEMENTS, MAX_FIXED_STRING, MAX_TEXT};
+pub use limits::{MAX_ARRAY_DEPTH, MAX_ELEMENTS, MAX_FIXED_STRING, MAX_NAME, MAX_TEXT};
 pub use list::List;
 pub use memory::NoMemory;
 pub use order::{compare, compare_items};
+pub use row::hash_value;
 pub use sqlite_items::Boxed;
 pub use ty::{Agg, Ty, TyError, Width};
 pub use value::{AggState, Row, Value, copy_items};

@@ -1,4 +1,4 @@
-//! The limits on types and values (docs/FORMAT.md, "Limits").
+//! The limits on types, values and names (docs/FORMAT.md, "Limits"; docs/LANGUAGE.md, "Tokens").
 
 /// The most bytes of a `String`, 16 MiB: several of that length fit into one frame.
 pub const MAX_TEXT: usize = 16_777_216;
@@ -11,3 +11,6 @@ pub const MAX_ELEMENTS: usize = 1_048_576;
 
 /// The most arrays inside each other, so that recursion over a type or a value is shallow.
 pub const MAX_ARRAY_DEPTH: u32 = 3;
+
+/// The most bytes of a name. A longer word is one token, and no name.
+pub const MAX_NAME: usize = 64;

@@ -5,7 +5,7 @@ use std::error::Error;
 use std::fmt;
 
 /// Memory was refused. It has one value, so no clause need say which it is.
-#[derive(Clone, Copy, Debug, PartialEq, Eq)]
+#[derive(Clone, Copy, Debug)]
 pub struct NoMemory;
 
 impl fmt::Display for NoMemory {

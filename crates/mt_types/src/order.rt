@@ -1,9 +1,9 @@
 //! The order on values, and on rows.
 
 ghost use Rattle.std.specs.Prelude.{◌≡◌};
-ghost use Rattle.mt_types.specs.Order.{state_cmp, value_cmp, values_cmp};
+ghost use Rattle.mt_types.specs.Order.{value_cmp, values_cmp};
 
-use crate::value::{AggState, Value};
+use crate::value::Value;
 use std::cmp::Ordering;
 
 /// Numbers, texts, lists, states, and NULL last. It takes no memory.
@@ -15,7 +15,7 @@ pub fn compare(a: &Value, b: &Value) -> Ordering
         (Value::Num(m), Value::Num(n)) => m.cmp(n),
         (Value::Text(x), Value::Text(y)) => x.as_slice().cmp(y.as_slice()),
         (Value::List(x), Value::List(y)) => compare_items(x.as_slice(), y.as_slice()),
-        (Value::State(s), Value::State(t)) => compare_states(s, t),
+        (Value::State(s), Value::State(t)) => s.cmp(t),
         (Value::Null, Value::Null) => Ordering::Equal,
         (Value::Num(_), _) => Ordering::Less,
         (_, Value::Num(_)) => Ordering::Greater,
@@ -47,10 +47,4 @@ pub fn compare_items(a: &[Value], b: &[Value]) -> Ordering
     } else {
         Ordering::Equal
     }
-}
-
-fn compare_states(a: &AggState, b: &AggState) -> Ordering
-    ensures { result ≡ state_cmp a.now b.now }
-{
-    a.cmp(b)
 }

@@ -16,7 +16,7 @@ use sqlite_items::Boxed;
 use std::alloc::Global;
 
 /// The size of an integer in bits.
-#[derive(Clone, Copy, Debug, PartialEq, Eq)]
+#[derive(Clone, Copy, PartialEq)]
 pub enum Width {
     /// 8 bits, one byte in a file.
     W8,
@@ -29,7 +29,7 @@ pub enum Width {
 }
 
 /// An aggregate function that has an argument.
-#[derive(Clone, Copy, Debug, PartialEq, Eq)]
+#[derive(Clone, Copy, Debug, PartialEq)]
 pub enum Agg {
     /// The sum modulo 2^64.
     Sum,
@@ -53,7 +53,7 @@ impl Agg {
 }
 
 /// The type of a column (ClickHouse: `IDataType`).
-#[derive(Debug, Drop)]
+#[derive(Drop)]
 pub enum Ty {
     /// `UInt8` to `UInt64`.
     UInt(Width),

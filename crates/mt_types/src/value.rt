@@ -7,7 +7,7 @@ use crate::memory::NoMemory;
 use std::alloc::Global;
 
 /// What an aggregate has gathered so far (ClickHouse: the state of an `IAggregateFunction`).
-#[derive(Clone, Copy, Debug, PartialEq, Eq, PartialOrd, Ord)]
+#[derive(Clone, Copy, PartialEq, Eq, PartialOrd, Ord)]
 pub enum AggState {
     /// The number of rows, modulo 2^64.
     Count(u64),
@@ -20,7 +20,7 @@ pub enum AggState {
 }
 
 /// One value of a column (ClickHouse: `Field`).
-#[derive(Debug, Drop)]
+#[derive(Drop)]
 pub enum Value {
     /// A whole number, or the days of a date since 1970-01-01.
     Num(i128),

@@ -4,7 +4,7 @@ ghost use Rattle.std.specs.Prelude.{◌≡◌, ◌≤◌, ◌++◌, length, drop
 ghost use Rattle.mt_types.specs.Leb128.{leb128, Reads};
 
 /// What some bytes begin with.
-#[derive(Clone, Copy, Debug, PartialEq, Eq)]
+#[derive(Clone, Copy, Debug, PartialEq)]
 pub enum VarInt {
     /// A number below 2^64 in its shortest encoding, and how many bytes that takes.
     Got { value: u64, used: usize },

@@ -5,7 +5,7 @@ use std::error::Error;
 use std::fmt;
 
 /// Why a text names no type.
-#[derive(Clone, Copy, Debug, PartialEq, Eq)]
+#[derive(Clone, Copy, Debug, PartialEq)]
 pub enum TyError {
     /// The text is the name of no type of the profile.
     NotAType,

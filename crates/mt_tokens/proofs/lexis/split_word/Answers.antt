@@ -1,5 +1,5 @@
 use Rattle.std.proofs.lemmas.List.Sums.{prefix_len-le-length}
-use Rattle.mt_tokens.specs.Bytes.{is_word_byte}
+use Rattle.mt_types.specs.Words.{is_word_byte}
 use Rattle.mt_tokens.proofs.lexis.split_word.Goals as goal
 
 pub split_at-requires : goal.split_at-requires
