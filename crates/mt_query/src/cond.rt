@@ -4,7 +4,7 @@ use mt_query_syntax::Op;
 use mt_types::{Boxed, List, Value};
 
 /// A condition on a row: true, false or NULL (docs/LANGUAGE.md, "Queries"; ClickHouse: an expression of `WHERE`).
-#[derive(Debug, Drop)]
+#[derive(Drop)]
 pub enum Cond {
     /// The column's value compared with a literal; NULL on NULL.
     Cmp { column: u32, op: Op, literal: Value },

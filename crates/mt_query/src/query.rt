@@ -4,7 +4,7 @@ use crate::cond::Cond;
 use mt_types::{Agg, List};
 
 /// What a query selects of a row, or of a group of rows.
-#[derive(Clone, Copy, Debug, PartialEq, Eq)]
+#[derive(Clone, Copy)]
 pub enum Item {
     /// A column.
     Column(u32),
@@ -15,7 +15,7 @@ pub enum Item {
 }
 
 /// A query over a table (docs/LANGUAGE.md, "Queries"; ClickHouse: `ASTSelectQuery`).
-#[derive(Debug, Drop)]
+#[derive(Drop)]
 pub struct Query {
     /// What it selects, at least one; for `*` all columns in the table's order.
     pub items: List<Item>,

@@ -8,7 +8,7 @@ use std::error::Error;
 use std::fmt;
 
 /// The rule of a query text that is broken, in the order in which the rules are judged.
-#[derive(Clone, Copy, Debug, PartialEq, Eq)]
+#[derive(Clone, Copy, Debug, PartialEq)]
 pub enum QueryWhy {
     /// The text has more than 65,536 bytes.
     TooMany,
@@ -25,7 +25,7 @@ pub enum QueryWhy {
 }
 
 /// Why no query was read.
-#[derive(Clone, Copy, Debug, PartialEq, Eq)]
+#[derive(Clone, Copy, Debug, PartialEq)]
 pub enum QueryError {
     /// The first rule that the text breaks.
     Bad(QueryWhy),

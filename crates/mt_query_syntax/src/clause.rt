@@ -14,7 +14,7 @@ use mt_types::List;
 use std::alloc::Global;
 
 /// What stands behind a table's name.
-#[derive(Debug, Drop)]
+#[derive(Drop)]
 pub(crate) struct Clauses {
     /// The condition of WHERE.
     pub(crate) cond: Option<CondText>,

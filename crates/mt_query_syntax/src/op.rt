@@ -1,7 +1,7 @@
 //! Comparisons.
 
 /// A comparison of a column's value with a literal.
-#[derive(Clone, Copy, Debug, PartialEq, Eq)]
+#[derive(Clone, Copy)]
 pub enum Op {
     /// `=`
     Eq,

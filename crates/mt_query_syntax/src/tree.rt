@@ -6,7 +6,7 @@ use mt_syntax::Selected;
 use mt_types::{Boxed, List};
 
 /// What a query text says (ClickHouse: `ASTSelectQuery`).
-#[derive(Debug, Drop)]
+#[derive(Drop)]
 pub struct QueryText {
     /// What it selects.
     pub items: Selected,
@@ -19,7 +19,7 @@ pub struct QueryText {
 }
 
 /// A condition (ClickHouse: an expression of `WHERE`).
-#[derive(Debug, Drop)]
+#[derive(Drop)]
 pub enum CondText {
     /// A column compared with a literal.
     Cmp {
@@ -67,7 +67,7 @@ pub enum CondText {
 }
 
 /// A literal.
-#[derive(Debug, Drop)]
+#[derive(Drop)]
 pub enum Literal {
     /// A number; none where 128 bits signed don't have it.
     Number(Option<i128>),

@@ -7,7 +7,8 @@ use Rattle.mt_types.proofs.StepLemmas.{both_of, both_true}
 use Rattle.mt_tokens.specs.declared.sign.Sign.TheVariants.{Open, Close, Comma, Dot, Semicolon, Star, Equal}
 use Rattle.mt_tokens.specs.Lexis.{IsTokens, skip_blanks}
 use Rattle.mt_tokens.specs.Tokens.{Tok, Word, Quoted, Text, Digits, OfSign}
-use Rattle.mt_tokens.specs.Words.{is_name, is_sign, is_word_text, name_of}
+use Rattle.mt_types.specs.Words.{is_name, is_word_text}
+use Rattle.mt_tokens.specs.Words.{is_sign, name_of}
 use Rattle.mt_syntax.specs.declared.clause.Clause.{Clause}
 use Rattle.mt_syntax.specs.declared.clause.Clause.TheVariants as clause
 use Rattle.mt_syntax.specs.declared.clause.Clauses.{Clauses}

@@ -1,7 +1,7 @@
 -- What every sentence of the grammar has: names that are names, and lists of at least one.
 use Rattle.std.specs.Prelude.{Bool, true, ◌&&◌, nat_le, List, length, Option, Some, None}
 use Rattle.std.specs.List.{list_all, list_any}
-use Rattle.mt_tokens.specs.Words.{is_name}
+use Rattle.mt_types.specs.Words.{is_name}
 use Rattle.mt_syntax.specs.declared.tree.Element.{Element}
 use Rattle.mt_syntax.specs.declared.tree.Element.TheVariants as element
 use Rattle.mt_syntax.specs.declared.tree.TableText.{TableText}

@@ -7,7 +7,7 @@ use crate::tree::{PartitionText, SettingText};
 use mt_types::List;
 
 /// One clause.
-#[derive(Debug, Drop)]
+#[derive(Drop)]
 pub(crate) enum Clause {
     /// PARTITION BY.
     Partition(List<PartitionText>),
@@ -20,7 +20,7 @@ pub(crate) enum Clause {
 }
 
 /// The clauses that stand so far, each at most once.
-#[derive(Debug, Drop)]
+#[derive(Drop)]
 pub(crate) struct Clauses {
     /// PARTITION BY.
     pub(crate) partition: Option<List<PartitionText>>,

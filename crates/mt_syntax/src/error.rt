@@ -5,7 +5,7 @@ use std::error::Error;
 use std::fmt;
 
 /// Why a text isn't read.
-#[derive(Clone, Copy, Debug, PartialEq, Eq)]
+#[derive(Clone, Copy, Debug)]
 pub enum SyntaxError {
     /// The text is no sentence.
     Bad,

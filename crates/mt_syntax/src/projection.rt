@@ -15,7 +15,7 @@ use mt_types::List;
 use std::alloc::Global;
 
 /// What stands in the parentheses of a projection.
-#[derive(Debug, Drop)]
+#[derive(Drop)]
 struct SelectText {
     /// What it selects.
     items: Selected,

@@ -3,7 +3,7 @@
 use mt_types::{Agg, List};
 
 /// What a table text says (ClickHouse: `ASTCreateQuery`).
-#[derive(Debug, Drop)]
+#[derive(Drop)]
 pub struct TableText {
     /// The table's name, without its database.
     pub name: List<u8>,
@@ -20,7 +20,7 @@ pub struct TableText {
 }
 
 /// One of the things between the parentheses of a table.
-#[derive(Debug, Drop)]
+#[derive(Drop)]
 pub enum Element {
     /// A column.
     Column {
@@ -56,7 +56,7 @@ pub enum Element {
 }
 
 /// The kind of a skip index.
-#[derive(Clone, Copy, Debug, PartialEq, Eq)]
+#[derive(Clone, Copy)]
 pub enum IndexKind {
     /// `minmax`.
     Minmax,
@@ -65,7 +65,7 @@ pub enum IndexKind {
 }
 
 /// What a projection selects.
-#[derive(Debug, Drop)]
+#[derive(Drop)]
 pub enum Selected {
     /// `*`.
     All,
@@ -74,7 +74,7 @@ pub enum Selected {
 }
 
 /// One item of a projection.
-#[derive(Debug, Drop)]
+#[derive(Drop)]
 pub enum Selection {
     /// A column.
     Column(List<u8>),
@@ -85,7 +85,7 @@ pub enum Selection {
 }
 
 /// One expression of a partition key.
-#[derive(Debug, Drop)]
+#[derive(Drop)]
 pub enum PartitionText {
     /// A column.
     Plain(List<u8>),
@@ -94,7 +94,7 @@ pub enum PartitionText {
 }
 
 /// One setting.
-#[derive(Debug, Drop)]
+#[derive(Drop)]
 pub struct SettingText {
     /// Its name, as written.
     pub name: List<u8>,
@@ -103,7 +103,7 @@ pub struct SettingText {
 }
 
 /// The value of a setting. Of a text or a word no more is kept, since no rule speaks of it.
-#[derive(Clone, Copy, Debug, PartialEq, Eq)]
+#[derive(Clone, Copy)]
 pub enum SettingValue {
     /// A number.
     Number(u64),
@@ -114,7 +114,7 @@ pub enum SettingValue {
 }
 
 /// One codec of CODEC.
-#[derive(Debug, Drop)]
+#[derive(Drop)]
 pub struct CodecText {
     /// Its word.
     pub word: List<u8>,
@@ -124,7 +124,7 @@ pub struct CodecText {
 
 /// A type as it is written.
 #[cycle(type_text)]
-#[derive(Debug, Drop)]
+#[derive(Drop)]
 pub struct TypeText {
     /// Its word.
     pub word: List<u8>,
@@ -134,7 +134,7 @@ pub struct TypeText {
 
 /// An argument of a type.
 #[cycle(type_text)]
-#[derive(Debug, Drop)]
+#[derive(Drop)]
 pub enum TypeArg {
     /// A number.
     Number(u64),

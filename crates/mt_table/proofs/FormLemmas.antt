@@ -12,7 +12,7 @@ use Rattle.mt_types.specs.declared.ty.Ty.TheOpen.{Ty-F}
 use Rattle.mt_types.specs.declared.ty.Ty.TheVariants.{UInt, outs-UInt}
 use Rattle.mt_types.proofs.Levels.{same_level}
 use Rattle.mt_types.proofs.StepLemmas.{both_true}
-use Rattle.mt_tokens.specs.Words.{is_name}
+use Rattle.mt_types.specs.Words.{is_name}
 use Rattle.mt_table.specs.declared.column.Column.{Column}
 use Rattle.mt_table.specs.declared.definition.Table.{Table}
 use Rattle.mt_table.specs.declared.limits.TheConstants.{MAX_COLUMNS, MAX_KEY}

@@ -3,7 +3,7 @@ use Rattle.std.proofs.Common.{◌≡◌, ℕ, ◌≤◌, arith, true, List, leng
 use Rattle.std.proofs.lemmas.Bool.{leb-true}
 use Rattle.std.specs.Prelude.{nat_le, ◌&&◌}
 use Rattle.mt_types.proofs.StepLemmas.{both_true}
-use Rattle.mt_tokens.specs.Words.{is_name}
+use Rattle.mt_types.specs.Words.{is_name}
 use Rattle.mt_table.specs.declared.column.Column.{Column}
 use Rattle.mt_table.specs.declared.limits.TheConstants.{MAX_KEY}
 use Rattle.mt_table.specs.Fields.{Fields}

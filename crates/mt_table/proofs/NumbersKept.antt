@@ -7,7 +7,7 @@ use Rattle.mt_types.specs.declared.ty.Ty.TheFolds.{fold_out-Ty}
 use Rattle.mt_types.specs.declared.ty.Width.TheVariants.{W64}
 use Rattle.mt_types.specs.Profile.{Kind, is_known, is_profile, kind_of, kind_step}
 use Rattle.mt_types.proofs.StepLemmas.{both_of}
-use Rattle.mt_tokens.specs.Words.{is_name}
+use Rattle.mt_types.specs.Words.{is_name}
 use Rattle.mt_table.specs.ColumnTypes.{is_column_type, is_key_at, is_key_type, is_state_at, place_has}
 use Rattle.mt_table.specs.Form.{numbers_fields, uint64_column, wide_settings}
 use Rattle.mt_table.specs.Kept.{keeps_rules, keeps_settings}

@@ -16,7 +16,7 @@ use Rattle.mt_table.specs.declared.skip.SkipKind.{SkipKind}
 use Rattle.mt_table.specs.declared.skip.SkipKind.TheVariants as kept
 use Rattle.mt_table.specs.ColumnTypes.{is_column_type, is_date_type, is_integer_type, is_key_type, is_number_type, place_has}
 use Rattle.mt_table.specs.Fields.{Fields}
-use Rattle.mt_tokens.specs.Words.{is_name}
+use Rattle.mt_types.specs.Words.{is_name}
 use Rattle.mt_table.specs.Names.{are_apart, names_differ, places_differ}
 
 -- ---- columns

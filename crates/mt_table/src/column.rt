@@ -6,7 +6,7 @@ use mt_types::{List, NoMemory, Ty};
 use std::alloc::Global;
 
 /// A column of a table or of a projection.
-#[derive(Debug, Drop)]
+#[derive(Drop)]
 pub struct Column {
     /// Its name: a letter or `_`, then letters, digits and `_`, from 1 to 64 bytes; in an aggregate
     /// projection also `count()` or `sum(v)`.

@@ -12,7 +12,7 @@ use crate::skip::Skip;
 use mt_types::List;
 
 /// A MergeTree table. A `u32` names a column by its place in `columns`, from 0.
-#[derive(Debug, Drop)]
+#[derive(Drop)]
 pub struct Table {
     /// The table's name, without its database.
     pub name: List<u8>,
@@ -34,7 +34,7 @@ pub struct Table {
 }
 
 /// What one folder stores: the base part of a table, or one of its projections.
-#[derive(Debug, Drop)]
+#[derive(Drop)]
 pub struct PartDef {
     /// The stored columns.
     pub columns: List<Column>,

@@ -1,34 +1,16 @@
-//! The table that a part belongs to: columns, keys, indexes, projections and settings.
-//!
-//! `Table::read` gives the table that a text defines, or the first rule that the text breaks.
+//! The table that a part belongs to: columns, keys, indexes, projections and settings, and what its
+//! parts store. Each `Table` keeps the rules of tables (`specs/Kept.antt`).
 #![tactic(auto)]
 
-mod codecs;
 mod column;
-mod columns;
-mod counts;
 mod definition;
-mod expressions;
 mod form;
-mod forms;
-mod indexes;
-mod judge;
-mod keys;
 mod limits;
-mod names;
-mod own_names;
 mod partition;
-mod places;
-mod present;
 mod projection;
-mod reading;
-mod sentence;
-mod setting_texts;
 mod settings;
 mod skip;
 mod stored;
-mod type_text;
-mod why;
 
 pub use column::Column;
 pub use definition::{PartDef, Table};
@@ -41,4 +23,3 @@ pub use partition::PartExpr;
 pub use projection::{Aggregate, Projection};
 pub use settings::Settings;
 pub use skip::{Skip, SkipKind};
-pub use why::{TableError, TableWhy};

@@ -1,7 +1,7 @@
 //! The partition key.
 
 /// One expression of the partition key.
-#[derive(Clone, Copy, Debug, PartialEq, Eq)]
+#[derive(Clone, Copy, Debug, PartialEq)]
 pub enum PartExpr {
     /// The value of a column, by its place in the table from 0.
     Plain(u32),

@@ -3,7 +3,7 @@
 use mt_types::{Agg, List};
 
 /// An aggregate of a projection.
-#[derive(Clone, Copy, Debug, PartialEq, Eq)]
+#[derive(Clone, Copy, Debug, PartialEq)]
 pub enum Aggregate {
     /// `count()`.
     Count,
@@ -12,7 +12,7 @@ pub enum Aggregate {
 }
 
 /// A projection of a table. Columns are named by their places in the table, from 0.
-#[derive(Debug, Drop)]
+#[derive(Drop)]
 pub enum Projection {
     /// Some columns of all rows, in an order of its own.
     Normal {

@@ -1,7 +1,7 @@
 //! The settings that a part's layout depends on.
 
 /// The settings of a table that the writer goes by.
-#[derive(Clone, Copy, Debug, PartialEq, Eq)]
+#[derive(Clone, Copy, Debug, PartialEq)]
 pub struct Settings {
     /// `index_granularity`: at most so many rows a granule, from 1 to 1,048,576.
     pub granule_rows: u64,

@@ -3,7 +3,7 @@
 use mt_types::List;
 
 /// What an index keeps of the values of its granules.
-#[derive(Clone, Copy, Debug, PartialEq, Eq)]
+#[derive(Clone, Copy, Debug, PartialEq)]
 pub enum SkipKind {
     /// The least and the greatest value.
     Minmax,
@@ -12,7 +12,7 @@ pub enum SkipKind {
 }
 
 /// A skip index over one column.
-#[derive(Debug, Drop)]
+#[derive(Drop)]
 pub struct Skip {
     /// Its name, in the names of its files.
     pub name: List<u8>,

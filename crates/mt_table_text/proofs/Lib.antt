@@ -1,0 +1,14 @@
+pub mod SetLemmas
+pub mod SentenceLemmas
+pub mod TypeTextLemmas
+pub mod ColumnLemmas
+pub mod KeyLemmas
+pub mod PartLemmas
+pub mod JudgeLemmas
+pub mod KeepingLemmas
+pub mod PlacesDiffer
+pub mod ReadLemmas
+pub mod ColumnsKept
+pub mod PartitionKept
+pub mod ProjectionsKept
+pub mod TextReadingLemmas

@@ -1,0 +1,10 @@
+pub mod NameSets
+pub mod TypeTexts
+pub mod Sentence
+pub mod SentenceNames
+pub mod SettingTexts
+pub mod Projections
+pub mod Rules
+pub mod Judging
+pub mod Tables
+pub mod TextReading

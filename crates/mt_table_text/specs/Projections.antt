@@ -1,0 +1,101 @@
+-- The projections of a sentence, and the two forms that they may have: docs/LANGUAGE.md, "Table text".
+use Rattle.std.specs.Prelude.{ℕ, Bool, true, false, not, ◌&&◌, nat_le, List, [], length, Option, Some, None}
+use Rattle.std.specs.List.{count_by, filter_map, list_all, list_any, range_with_len}
+use Rattle.mt_types.specs.declared.ty.Agg.{Agg}
+use Rattle.mt_types.specs.declared.ty.Agg.TheVariants.{Sum, Min, Max}
+use Rattle.mt_syntax.specs.declared.tree.Selection.{Selection}
+use Rattle.mt_syntax.specs.declared.tree.Selection.TheVariants as selection
+use Rattle.mt_syntax.specs.declared.tree.Selected.{Selected}
+use Rattle.mt_syntax.specs.declared.tree.Selected.TheVariants.{All, Items}
+use Rattle.mt_table.specs.declared.column.Column.{Column}
+use Rattle.mt_table.specs.declared.projection.Aggregate.{Aggregate}
+use Rattle.mt_table.specs.declared.projection.Aggregate.TheVariants.{Count, Of}
+use Rattle.mt_table.specs.declared.projection.Projection.{Projection}
+use Rattle.mt_table.specs.declared.projection.Projection.TheVariants.{Normal, Grouped}
+use Rattle.mt_table.specs.ColumnTypes.{is_integer_type, is_key_type, is_number_type, named_has}
+use Rattle.mt_table.specs.Names.{are_among, names_differ}
+use Rattle.mt_table_text.specs.Sentence.{is_aggregate, is_count, item_column, max_column, min_column, names_or_none, place_in, places_in, sum_column}
+
+-- different names of integer, FixedString, String or Date columns
+abbrev pub is_key : List Column → List (List ℕ) → Bool
+is_key columns names = names_differ names && list_all (named_has is_key_type columns) names
+
+-- ---- a normal projection
+
+-- plain columns, each once, among them those of the sort key
+abbrev pub selects_key : List Selection → List (List ℕ) → Bool
+selects_key items sort =
+    not (list_any is_aggregate items)
+    && (names_differ (filter_map item_column items) && are_among (filter_map item_column items) sort)
+
+-- all columns, or some with those of the sort key
+abbrev pub selects_for : Selected → List (List ℕ) → Bool
+selects_for All sort = true
+selects_for (Items items) sort = selects_key items sort
+
+-- it selects columns and has a sort key among them
+abbrev pub is_normal : List Column → Selected → List (List ℕ) → Bool
+is_normal columns items sort = selects_for items sort && is_key columns sort
+
+-- ---- an aggregate projection
+
+-- what an aggregate may be over
+abbrev pub takes : Agg → List Column → List ℕ → Bool
+takes Sum columns name = named_has is_integer_type columns name
+takes Min columns name = named_has is_number_type columns name
+takes Max columns name = named_has is_number_type columns name
+
+-- sum is over an integer, min and max over an integer or Date
+abbrev pub is_over : List Column → Selection → Bool
+is_over columns (selection.Of agg name) = takes agg columns name
+is_over columns _ = true
+
+-- each aggregate stands once
+abbrev pub aggregates_differ : List Selection → Bool
+aggregates_differ items =
+    nat_le (count_by is_count items) 1
+    && (names_differ (filter_map sum_column items)
+    && (names_differ (filter_map min_column items) && names_differ (filter_map max_column items)))
+
+-- the two are the same names, each once, in any order
+abbrev pub are_same : List (List ℕ) → List (List ℕ) → Bool
+are_same names others =
+    (names_differ names && names_differ others) && (are_among others names && are_among names others)
+
+-- it has keys, selects them, and selects aggregates beside them
+abbrev pub is_grouped : List Column → List Selection → List (List ℕ) → Bool
+is_grouped columns items keys =
+    is_key columns keys
+    && (are_same (filter_map item_column items) keys
+    && (list_any is_aggregate items && (aggregates_differ items && list_all (is_over columns) items)))
+
+-- ---- both
+
+-- one of the two forms: ORDER BY and no GROUP BY, or GROUP BY, no ORDER BY and no *
+abbrev pub is_projection : List Column → Selected → Option (List (List ℕ)) → Option (List (List ℕ)) → Bool
+is_projection columns items None (Some sort) = is_normal columns items sort
+is_projection columns (Items items) (Some keys) None = is_grouped columns items keys
+is_projection columns _ _ _ = false
+
+-- ---- the projection of a sentence that has one of the two forms
+
+-- the aggregate of an item, if it is one
+abbrev pub aggregate_of : List (List ℕ) → Selection → Option Aggregate
+aggregate_of names (selection.Column name) = None
+aggregate_of names selection.Count = Some Count
+aggregate_of names (selection.Of agg name) = Some (Of agg (place_in names name))
+
+-- the selected columns
+abbrev pub selected_places : List (List ℕ) → Selected → List ℕ
+selected_places names All = range_with_len 0 (length names)
+selected_places names (Items items) = places_in names (filter_map item_column items)
+
+-- the selected aggregates
+abbrev pub selected_aggregates : List (List ℕ) → Selected → List Aggregate
+selected_aggregates names All = []
+selected_aggregates names (Items items) = filter_map (aggregate_of names) items
+
+-- an aggregate projection where there is GROUP BY, else a normal one
+abbrev pub projection_of : List (List ℕ) → List ℕ → Selected → Option (List (List ℕ)) → Option (List (List ℕ)) → Projection
+projection_of names name items (Some keys) order = Grouped name (places_in names keys) (selected_aggregates names items)
+projection_of names name items None order = Normal name (selected_places names items) (places_in names (names_or_none order))

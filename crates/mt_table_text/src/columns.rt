@@ -1,0 +1,97 @@
+//! The columns of a sentence, and their types by their names.
+
+ghost use Rattle.std.specs.Prelude.{◌≡◌, IfOk, option_copied};
+ghost use Rattle.mt_table.specs.ColumnTypes as types;
+ghost use Rattle.mt_table.specs.ColumnTypes.{column_named, named_has};
+ghost use Rattle.mt_table.specs.Kept.{names_of};
+ghost use Rattle.mt_table_text.specs.NameSets.{listed};
+ghost use Rattle.mt_table_text.specs.Sentence.{columns_of};
+
+use crate::names::Names;
+use crate::type_text::column_type;
+use mt_syntax::Element;
+use mt_table::Column;
+use mt_types::{List, NoMemory, Ty};
+use std::alloc::Global;
+
+/// The columns of a table text, if each type is one of a column.
+pub(crate) fn read_columns(
+    alloc: Global,
+    elements: &[Element],
+) -> Result<Option<List<Column>>, NoMemory>
+    ensures { IfOk result (λ columns. columns ≡ columns_of elements.now) }
+{
+    let mut columns = List::new(alloc);
+    for element in elements {
+        if let Element::Column { name, ty, .. } = element {
+            let Some(ty) = column_type(alloc, ty)? else {
+                return Ok(None);
+            };
+            let name = List::of_bytes(alloc, name.as_slice())?;
+            columns.push(Column { name, ty })?;
+        }
+    }
+    Ok(Some(columns))
+}
+
+/// Columns of different names.
+#[derive(Drop)]
+pub(crate) struct Columns<'n, 'c> {
+    /// Their names.
+    pub(crate) names: Names<'n>,
+    /// The columns, in the order of the names.
+    pub(crate) columns: &'c [Column],
+    pub(crate) ghost same: { listed names ≡ names_of columns.now },
+}
+
+impl<'n, 'c> Columns<'n, 'c> {
+    /// The column of a name.
+    fn named(&self, name: &[u8]) -> Option<&Column>
+        ensures { option_copied result ≡ column_named self.now.columns.now name.now }
+    {
+        self.columns.get(self.names.place(name))
+    }
+
+    /// There is such a column, of a type that a key may have.
+    pub(crate) fn is_key(&self, name: &[u8]) -> bool
+        ensures { result ≡ named_has types.is_key_type self.now.columns.now name.now }
+    {
+        match self.named(name) {
+            Some(column) => matches!(
+                column.ty,
+                Ty::UInt(_) | Ty::Int(_) | Ty::FixedString(_) | Ty::Str | Ty::Date
+            ),
+            None => false,
+        }
+    }
+
+    /// There is such a column, of integers.
+    pub(crate) fn is_integer(&self, name: &[u8]) -> bool
+        ensures { result ≡ named_has types.is_integer_type self.now.columns.now name.now }
+    {
+        match self.named(name) {
+            Some(column) => matches!(column.ty, Ty::UInt(_) | Ty::Int(_)),
+            None => false,
+        }
+    }
+
+    /// There is such a column, of dates.
+    pub(crate) fn is_date(&self, name: &[u8]) -> bool
+        ensures { result ≡ named_has types.is_date_type self.now.columns.now name.now }
+    {
+        match self.named(name) {
+            Some(column) => matches!(column.ty, Ty::Date),
+            None => false,
+        }
+    }
+
+    /// There is such a column, of integers or dates.
+    pub(crate) fn is_number(&self, name: &[u8]) -> bool
+        ensures { result ≡ named_has types.is_number_type self.now.columns.now name.now }
+    {
+        match self.named(name) {
+            Some(column) => matches!(column.ty, Ty::UInt(_) | Ty::Int(_) | Ty::Date),
+            None => false,
+        }
+    }
+}
