@@ -1,3 +1,4 @@
+pub mod ByteLemmas
 pub mod Slices
 pub mod Drafts
 pub mod PathNames

@@ -11,14 +11,13 @@ use Rattle.std.proofs.lemmas.Option.{slice_get_read}
 use Rattle.std.proofs.lemmas.Cmp.{nat_list_cmp_total}
 use Rattle.std.proofs.lemmas.Map.Lookups.{exact_bytes}
 use Rattle.std.specs.FinMap.{put, is_sorted, entries, entries-insert, entries_sorted}
-use Rattle.std.specs.BTreeMap.Comparable.{le_lt_trans}
 use Rattle.mt_shelf.specs.Paths.{joined_path, name_below, is_path, is_relative}
 use Rattle.std.specs.Str.{is_utf8, IsUtf8}
-use Rattle.mt_shelf.specs.Files.{Files, entry_of, entries_below, is_file_path, HasPaths, IsListing, is_before}
+use Rattle.mt_shelf.specs.Files.{Files, entry_of, entries_below, is_file_path, HasPaths, IsListing}
 use Rattle.mt_shelf.proofs.Puts.{joined_below, first_true, second_true, both_true, good_name_below}
 use Rattle.mt_shelf.specs.KeptPaths.{entries-empty}
 use Rattle.std.specs.List.{list_any, list_all, insert, filter_map, cons_option}
-use Rattle.std.specs.Ordering.{nat_cmp, ordering_then, is_lt, is_le}
+use Rattle.std.specs.Ordering.{nat_cmp, ordering_then, is_lt}
 use Rattle.std.specs.Cmp.Lexicographic.{slice_cmp}
 use Rattle.std.specs.declared.cmp.Ordering.{Ordering}
 use Rattle.std.specs.declared.cmp.Ordering.TheVariants.{Less, Equal, Greater}
@@ -81,24 +80,24 @@ put_last name size i es past before =
 nat_same : (p : ℕ) → nat_cmp p p ≡ Equal
 nat_same p = tied_itself nat_cmp_total p
 
-first : (a b : Bool) → T (a && b) → T a
+pub first : (a b : Bool) → T (a && b) → T a
 first true b p = tt
 first false b p = absurd p
 
-second : (a b : Bool) → T (a && b) → T b
+pub second : (a b : Bool) → T (a && b) → T b
 second true b p = p
 second false b p = absurd p
 
-both : (a b : Bool) → T a → T b → T (a && b)
+pub both : (a b : Bool) → T a → T b → T (a && b)
 both true b p q = q
 both false b p q = absurd p
 
-is_less : (r : Ordering) → T (is_lt r) → r ≡ Less
+pub is_less : (r : Ordering) → T (is_lt r) → r ≡ Less
 is_less Less h = refl
 is_less Equal h = absurd h
 is_less Greater h = absurd h
 
-less_is : (r : Ordering) → r ≡ Less → T (is_lt r)
+pub less_is : (r : Ordering) → r ≡ Less → T (is_lt r)
 less_is r e = subst (λ o. T (is_lt o)) (sym e) tt
 
 cmp_joined : (part n m : List ℕ) → slice_cmp nat_cmp (joined_path part n) (joined_path part m) ≡ slice_cmp nat_cmp n m
@@ -185,7 +184,7 @@ listed_from part held i j file next inside is =
     ∙ sym (entries_below-cons part file (drop (suc j) held))
     ∙ ap (λ (h : List FileBytes). entries_below part (files_in h)) (ap (λ (f : FileBytes). f ∷ drop (suc j) held) is ∙ sym (drop-cons held j file inside))
 
-abbrev keyed : Entry → List ℕ × ℕ
+abbrev pub keyed : Entry → List ℕ × ℕ
 keyed e = (e.name, e.size)
 
 -- what lies above a path has names above its name
@@ -206,7 +205,7 @@ rising-shown part (e ∷ es) sorted = by_name (name_below part e.0) refl (rising
     by_name None is later = later
     by_name (Some m) is later = both (below_all (slice_cmp nat_cmp) m (map keyed (shown part es))) (is_sorted (slice_cmp nat_cmp) (map keyed (shown part es))) (above part e.0 m is es (first (below_all (slice_cmp nat_cmp) e.0 es) (is_sorted (slice_cmp nat_cmp) es) sorted)) later
 
-true_from_T : (b : Bool) → T b → b ≡ true
+pub true_from_T : (b : Bool) → T b → b ≡ true
 true_from_T true h = refl
 true_from_T false h = absurd h
 
@@ -227,34 +226,3 @@ is_listing part files utf8 form paths = record {
   names = names-shown part utf8 form (entries files) paths;
   rising = true_from_T _ (rising-shown part (entries files) (entries_sorted files));
 }
-
-T_from_true : (b : Bool) → b ≡ true → T b
-T_from_true b is = subst T (sym is) tt
-
--- what lies above a name lies above each lesser one
-widened : (k q : List ℕ) → slice_cmp nat_cmp k q ≡ Less → (es : List (List ℕ × ℕ)) → T (below_all (slice_cmp nat_cmp) q es) → T (below_all (slice_cmp nat_cmp) k es)
-widened k q less [] all = tt
-widened k q less (e ∷ es) all =
-    let later : slice_cmp nat_cmp q e.0 ≡ Less = is_less (slice_cmp nat_cmp q e.0) (first (is_lt (slice_cmp nat_cmp q e.0)) (below_all (slice_cmp nat_cmp) q es) all) in
-    both (is_lt (slice_cmp nat_cmp k e.0)) (below_all (slice_cmp nat_cmp) k es)
-    (less_is (slice_cmp nat_cmp k e.0) (le_lt_trans nat_list_cmp_total k q e.0 (ap is_le less) later))
-    (widened k q less es (second (is_lt (slice_cmp nat_cmp q e.0)) (below_all (slice_cmp nat_cmp) q es) all))
-
--- a lesser name in front of names that rise
-rising_cons : (e : Entry) (es : List Entry) → is_before e es ≡ true → is_sorted (slice_cmp nat_cmp) (map keyed es) ≡ true → is_sorted (slice_cmp nat_cmp) (map keyed (e ∷ es)) ≡ true
-rising_cons e [] less rising = refl
-rising_cons e (f ∷ es) less rising =
-    let lt : T (is_lt (slice_cmp nat_cmp e.name f.name)) = T_from_true (is_lt (slice_cmp nat_cmp e.name f.name)) less in
-    let sorted : T (below_all (slice_cmp nat_cmp) f.name (map keyed es) && is_sorted (slice_cmp nat_cmp) (map keyed es)) = T_from_true _ rising in
-    let all : T (below_all (slice_cmp nat_cmp) f.name (map keyed es)) = first (below_all (slice_cmp nat_cmp) f.name (map keyed es)) (is_sorted (slice_cmp nat_cmp) (map keyed es)) sorted in
-    true_from_T _ (both (below_all (slice_cmp nat_cmp) e.name (map keyed (f ∷ es))) (is_sorted (slice_cmp nat_cmp) (map keyed (f ∷ es)))
-    (both (is_lt (slice_cmp nat_cmp e.name f.name)) (below_all (slice_cmp nat_cmp) e.name (map keyed es)) lt (widened e.name f.name (is_less (slice_cmp nat_cmp e.name f.name) lt) (map keyed es) all))
-    sorted)
-
--- one entry more, by its index
-pub rising_from : (entries : List Entry) (i j : ℕ) (e : Entry) → i ≡ suc j → j < length entries → e ≡ get_or entries j e → is_before e (drop i entries) ≡ true
-    → is_sorted (slice_cmp nat_cmp) (map keyed (drop i entries)) ≡ true → is_sorted (slice_cmp nat_cmp) (map keyed (drop j entries)) ≡ true
-rising_from entries i j e next inside is less rising =
-    let P : List Entry → Type 0 = λ es. is_sorted (slice_cmp nat_cmp) (map keyed es) ≡ true in
-    let rest : e ∷ drop i entries ≡ drop j entries = ap (λ (n : ℕ). e ∷ drop n entries) next ∙ ap (λ (x : Entry). x ∷ drop (suc j) entries) is ∙ sym (drop-cons entries j e inside) in
-    subst P rest (rising_cons e (drop i entries) less rising)

@@ -1,9 +1,9 @@
 -- Files as a finite map from paths to bytes, and what listings and reads show of them.
-use Rattle.std.specs.Prelude.{◌≡◌, ◌<◌, ◌≤◌, ◌+◌, take, drop, IsSomeAnd, ℕ, Bool, true, List, [], ◌∷◌, length, map, Option, None, Some, IsTrue, ◌&&◌}
+use Rattle.std.specs.Prelude.{◌≡◌, ◌<◌, ◌≤◌, ◌+◌, take, drop, IsSomeAnd, ℕ, Bool, List, [], ◌∷◌, length, map, Option, None, Some, IsTrue, ◌&&◌}
 use Rattle.std.specs.Str.{is_utf8}
 use Rattle.std.specs.List.{list_any, list_all, filter_map}
 use Rattle.std.specs.Option.{option_map}
-use Rattle.std.specs.Ordering.{nat_cmp, is_lt}
+use Rattle.std.specs.Ordering.{nat_cmp}
 use Rattle.std.specs.Cmp.Lexicographic.{slice_cmp}
 use Rattle.std.specs.FinMap.{FinMap, get, entries, keys, insert, is_sorted}
 use Rattle.mt_shelf.specs.Paths.{joined_path, name_below, is_at_or_below, is_path, is_relative}
@@ -50,11 +50,6 @@ is_file_name name = is_utf8 name && is_relative name
 -- each file stands at a path, in UTF-8
 abbrev pub HasPaths : Files → Type 0
 HasPaths files = IsTrue (list_all is_file_path (keys files))
-
--- the entry's name is less than that of the first of the others
-abbrev pub is_before : Entry → List Entry → Bool
-is_before entry [] = true
-is_before entry (first ∷ others) = is_lt (slice_cmp nat_cmp entry.name first.name)
 
 -- the names are in UTF-8, differ and rise
 pub record IsListing (listing : List Entry) : Type 0 where

@@ -1,5 +1,6 @@
 pub mod Paths
 pub mod Files
+pub mod Bytes
 pub mod Causes
 pub mod State
 pub mod Held

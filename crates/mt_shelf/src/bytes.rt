@@ -1,6 +1,8 @@
 //! Slices of bytes, with the facts that loops over them need.
 ghost use Rattle.std.specs.Prelude.{IfOk, ◌≡◌, ◌<◌, ◌≤◌, ◌+◌, ◌-◌, length, take, drop};
+ghost use Rattle.mt_shelf.specs.Bytes.{AreBytes, AllHoldBytes};
 
+use crate::FileBytes;
 use mt_types::NoMemory;
 use std::alloc::Global;
 
@@ -41,4 +43,18 @@ pub fn copy_bytes(alloc: Global, bytes: &[u8]) -> Result<Vec<u8>, NoMemory>
     ensures { IfOk result (λ copy. copy.items ≡ bytes.now) }
 {
     Ok(bytes.to_vec(alloc)?)
+}
+
+/// Only reads the slice. The numbers in it are bytes, which its type says and that of a list does not.
+pub fn know_bytes(bytes: &[u8])
+    ensures { AreBytes bytes.now }
+{}
+
+/// Only reads the files. The numbers in them are bytes.
+pub fn know_files(files: &[FileBytes])
+    ensures { AllHoldBytes files.now }
+{
+    for file in files {
+        know_bytes(file.bytes.as_slice());
+    }
 }

@@ -8,7 +8,7 @@ use std::error::Error;
 use std::fmt;
 
 /// An object outside failed, and counted a fault.
-#[derive(Clone, Copy, Debug, PartialEq, Eq)]
+#[derive(Clone, Copy, Debug)]
 pub struct Failed;
 
 impl fmt::Display for Failed {
@@ -20,7 +20,7 @@ impl fmt::Display for Failed {
 impl Error for Failed {}
 
 /// Why a call failed that takes memory in some implementations.
-#[derive(Clone, Copy, Debug, PartialEq, Eq)]
+#[derive(Clone, Copy, Debug)]
 pub enum CallError {
     /// The object failed, and counted a fault.
     Failed,

@@ -6,7 +6,7 @@ ghost use Rattle.mt_shelf.specs.Causes.{Rose};
 use mt_types::List;
 
 /// Which calls fail, by number from 1, and how many did.
-#[derive(Debug, Drop)]
+#[derive(Drop)]
 pub struct Failures {
     failing: List<u64>,
     calls: u64,

@@ -5,7 +5,7 @@ use std::error::Error;
 use std::fmt;
 
 /// Why a part stands for no rows (docs/FORMAT.md, "The first fault").
-#[derive(Clone, Copy, Debug, PartialEq, Eq)]
+#[derive(Clone, Copy, Debug, PartialEq)]
 pub enum Why {
     /// A file isn't there.
     Missing,

@@ -3,7 +3,7 @@
 use mt_types::List;
 
 /// A file and its bytes.
-#[derive(Debug, Drop)]
+#[derive(Drop)]
 pub struct FileBytes {
     /// Its path, or its name below a part.
     pub name: List<u8>,
@@ -12,7 +12,7 @@ pub struct FileBytes {
 }
 
 /// A file of a listing.
-#[derive(Debug, Drop)]
+#[derive(Drop)]
 pub struct Entry {
     /// Its name below the listed part, with `/` between folders.
     pub name: List<u8>,

@@ -13,7 +13,7 @@ use std::error::Error;
 use std::fmt;
 
 /// Why a file wasn't put into a set.
-#[derive(Clone, Copy, Debug, PartialEq, Eq)]
+#[derive(Clone, Copy, Debug)]
 pub enum PutError {
     /// The name isn't a path.
     NotAPath,
@@ -33,7 +33,7 @@ impl fmt::Display for PutError {
 impl Error for PutError {}
 
 /// Files by different paths.
-#[derive(Debug, Drop)]
+#[derive(Drop)]
 pub struct FileSet {
     files: Vec<FileBytes>,
     ghost paths: { all_paths files.items ≡ true },

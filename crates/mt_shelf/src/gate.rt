@@ -7,7 +7,7 @@ pub trait Gate {
 }
 
 /// A gate that lets each task pass.
-#[derive(Clone, Copy, Debug)]
+#[derive(Clone, Copy)]
 pub struct NoGate;
 
 impl Gate for NoGate {

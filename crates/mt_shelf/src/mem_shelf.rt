@@ -58,6 +58,8 @@ impl Shelf for MemShelf {
 
     ghost paths = { λ s. known_paths s.shelf.files.items s.shelf.paths };
 
+    ghost bytes = { λ s. s.shelf.bytes };
+
     fn size(&mut self, path: &str) -> Result<Option<u64>, CallError> {
         if self.failures.fails_next() {
             return Err(CallError::Failed);

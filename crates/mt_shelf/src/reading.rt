@@ -16,7 +16,7 @@ use std::alloc::Global;
 const READ_BYTES: usize = 65536;
 
 /// What a source had left.
-#[derive(Debug, Drop)]
+#[derive(Drop)]
 pub enum Input {
     /// All of it.
     Whole(List<u8>),

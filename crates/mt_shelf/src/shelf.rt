@@ -5,6 +5,7 @@ ghost use Rattle.std.specs.FinMap.{get};
 ghost use Rattle.mt_shelf.specs.Causes.{HasCause, grown_count};
 ghost use Rattle.mt_shelf.specs.Paths.{is_path, is_relative};
 ghost use Rattle.mt_shelf.specs.Files.{stands, entries_below, listing_of, IsListing, IsOffsetIn, IsSliceOf, HasPaths};
+ghost use Rattle.mt_shelf.specs.Bytes.{HasBytes};
 ghost use Rattle.mt_shelf.specs.State.{State, Closes, Drops, AllOrNone, after_begin, after_put, after_read, files_of, published_files};
 
 use crate::{CallError, Entry};
@@ -82,4 +83,7 @@ pub trait Shelf {
 
     /// The known files stand at paths.
     ghost paths: { (shelf : Self) → IfSome (files_of (state shelf)) HasPaths };
+
+    /// The known files hold bytes.
+    ghost bytes: { (shelf : Self) → IfSome (files_of (state shelf)) HasBytes };
 }

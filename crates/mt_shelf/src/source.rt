@@ -1,8 +1,9 @@
 //! Sources in memory.
 ghost use Rattle.std.specs.Prelude.{◌≡◌, ◌<◌, ◌≤◌, ◌++◌, Some, length, take, drop, ℕ, ◌^◌};
+ghost use Rattle.mt_shelf.specs.Bytes.{AreBytes};
 ghost use Rattle.std.specs.Io.KnownBytes.{prepend_known, IsAtEnd};
 
-use crate::bytes::copy_some;
+use crate::bytes::{copy_some, know_bytes};
 use crate::failures::Failures;
 use crate::{Failed, Source};
 use mt_types::List;
@@ -15,6 +16,7 @@ pub struct SureSource {
     most: usize,
     ghost inside: { at ≤ length bytes },
     ghost some: { 0 < most },
+    ghost are_bytes: { AreBytes bytes },
 }
 
 impl SureSource {
@@ -24,6 +26,7 @@ impl SureSource {
         ensures left { ⟦<SureSource as Source>⟧.left result ≡ Some bytes }
         ensures faults { ⟦<SureSource as Source>⟧.faults result ≡ 0 }
     {
+        know_bytes(bytes.as_slice());
         SureSource { bytes, at: 0, most }
     }
 
@@ -54,9 +57,14 @@ impl SureSource {
 }
 
 impl Source for SureSource {
+    ghost use Rattle.std.specs.Prelude.{Some, drop, ◌<◌};
+    ghost use Rattle.std.proofs.lemmas.List.Elements.{All-drop};
+
     ghost left = { λ s. Some (drop s.at s.bytes) };
 
     ghost faults = { λ _. 0 };
+
+    ghost bytes = { λ s. All-drop (λ byte. byte < 256) s.at s.bytes s.are_bytes };
 
     fn read(&mut self, into: &mut [u8]) -> Result<usize, Failed> {
         Ok(self.give(into))
@@ -92,9 +100,14 @@ impl MemSource {
 }
 
 impl Source for MemSource {
+    ghost use Rattle.std.specs.Prelude.{◌<◌};
+    ghost use Rattle.std.proofs.lemmas.List.Elements.{All-drop};
+
     ghost left = { λ s. ⟦<SureSource as Source>⟧.left s.source };
 
     ghost faults = { λ s. s.failures.faults };
+
+    ghost bytes = { λ s. All-drop (λ byte. byte < 256) s.source.at s.source.bytes s.source.are_bytes };
 
     fn read(&mut self, into: &mut [u8]) -> Result<usize, Failed> {
         if self.failures.fails_next() {

@@ -3,10 +3,11 @@ ghost use Rattle.std.specs.Prelude.{◌≡◌, ◌<◌, ◌≤◌, [], Some, Non
 ghost use Rattle.std.specs.List.{list_all};
 ghost use Rattle.mt_shelf.specs.Paths.{is_path, joined_path};
 ghost use Rattle.mt_shelf.specs.Files.{is_file_path};
+ghost use Rattle.mt_shelf.specs.Bytes.{HasBytes, AllHoldBytes};
 ghost use Rattle.mt_shelf.specs.Held.{files_in, all_paths, AllDiffer, draft_in, is_put};
 ghost use Rattle.mt_shelf.specs.State.{State, Drops, files_of};
 
-use crate::bytes::{copy_bytes, copy_some, rest_from};
+use crate::bytes::{copy_bytes, copy_some, know_files, rest_from};
 use crate::entries::entries_below;
 use crate::held::{position_of, set_files, stands};
 use crate::paths::joined_path;
@@ -27,7 +28,9 @@ pub struct SureShelf {
     ghost some: { 0 < most },
     ghost paths: { all_paths files.items ≡ true },
     ghost names: { AllDiffer files.items },
+    ghost bytes: { HasBytes (files_in files.items) },
     ghost puts: { list_all (is_put target.items) draft.items ≡ true },
+    ghost draft_bytes: { AllHoldBytes draft.items },
     ghost target_path: { begun ≡ true → is_file_path target.items ≡ true },
 }
 
@@ -42,6 +45,7 @@ impl SureShelf {
         ensures taken { (⟦<SureShelf as Shelf>⟧.state result).taken ≡ 0 }
         ensures faults { ⟦<SureShelf as Shelf>⟧.faults result ≡ 0 }
     {
+        know_files(files.as_slice());
         SureShelf {
             alloc,
             files: files.into_vec(),
@@ -89,6 +93,8 @@ impl Shelf for SureShelf {
     ghost faults = { λ _. 0 };
 
     ghost paths = { λ s. known_paths s.files.items s.paths };
+
+    ghost bytes = { λ s. s.bytes };
 
     fn size(&mut self, path: &str) -> Result<Option<u64>, CallError> {
         match position_of(self.files.as_slice(), path.as_bytes()) {

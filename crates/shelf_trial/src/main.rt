@@ -5,7 +5,8 @@
 mod folders;
 mod same;
 
-use mt_shelf::{DirShelf, FileSet, MemShelf, SureShelf};
+use mt_host::DirShelf;
+use mt_shelf::{FileSet, MemShelf, SureShelf};
 use mt_types::List;
 use std::{env, fs, io};
 

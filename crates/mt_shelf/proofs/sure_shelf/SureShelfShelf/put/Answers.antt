@@ -1,6 +1,8 @@
-use Rattle.std.proofs.Common.{◌≡◌, rules, ◌∙◌, ap, refl, List, ◌++◌, ◌∷◌, [], is_ok, ℕ}
+use Rattle.std.proofs.Common.{◌≡◌, rules, ◌∙◌, ap, sym, subst, refl, List, ◌++◌, ◌∷◌, [], is_ok, ℕ}
 use Rattle.mt_shelf.specs.Paths.{joined_path}
+use Rattle.mt_shelf.specs.Bytes.{AreBytes}
 use Rattle.mt_shelf.specs.Held.{draft_in}
+use Rattle.mt_shelf.proofs.ByteLemmas.{are_bytes, push_bytes}
 use Rattle.mt_shelf.proofs.Puts.{draft_in-push, puts_either, is_put-joined_path}
 use Rattle.mt_shelf.proofs.sure_shelf.SureShelfShelf.put.Goals as goal
 
@@ -11,6 +13,9 @@ invariant_of-self c =
       some = search rules;
       paths = search rules;
       names = search rules;
+      bytes = c.args.self.now.bytes;
+      draft_bytes = push_bytes (is_ok c.push.result) c.args.self.now.draft.items c.push.new.self.items c.in-Ok.file c.push.ensures.items c.args.self.now.draft_bytes
+          (subst AreBytes (sym c.in-Ok.ensures.bytes) (are_bytes c.args.bytes.now c.type_inv.bytes));
       puts = puts_either (is_ok c.push.result) c.args.self.now.target.items c.args.self.now.draft.items c.push.new.self.items c.in-Ok.file c.push.ensures.items c.args.self.now.puts
           (is_put-joined_path c.args.self.now.target.items c.args.name.now c.in-Ok.file named (c.args.self.now.target_path c.requires.begun) c.utf8.name c.requires.name);
       target_path = c.args.self.now.target_path;
