@@ -1,3 +1,2 @@
 pub mod FoldLemmas
 pub mod StateLemmas
-pub mod Examples

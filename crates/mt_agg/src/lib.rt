@@ -8,8 +8,6 @@ mod join;
 mod law;
 mod number;
 mod state;
-#[cfg(test)]
-mod tests;
 
 pub use folding::Folding;
 pub use law::merged_states_are_folds;

@@ -21,8 +21,7 @@ use Rattle.mt_table.specs.declared.column.Column.{Column}
 use Rattle.mt_table.specs.declared.definition.Table.{Table}
 use Rattle.mt_table.specs.declared.definition.PartDef.{PartDef}
 use Rattle.std.specs.Char.{is_ascii_digit}
-use Rattle.mt_tokens.specs.Bytes.{is_word_start, is_word_byte as is_name_byte}
-use Rattle.mt_tokens.specs.Words.{is_name, is_word_text}
+use Rattle.mt_types.specs.Words.{is_word_start, is_word_byte as is_name_byte, is_name, is_word_text}
 use Rattle.mt_table.specs.Form.{IsNumbersTable, uint64_column, numbers_fields, numbers_table}
 use Rattle.mt_table.specs.Kept.{keeps_rules}
 use Rattle.mt_defs.specs.Rows.{Row}

@@ -1,5 +1,5 @@
 -- Marks of a data file and the positions that they denote: docs/FORMAT.md, "Marks" (ClickHouse: MarkInCompressedFile).
-use Rattle.std.specs.Prelude.{◌≡◌, ℕ, ◌+◌, ◌≤◌, ◌<◌, ◌^◌, ◌⊎◌, List, [], ◌∷◌, ◌++◌, length, map, take, drop, sum, replicate, All}
+use Rattle.std.specs.Prelude.{◌≡◌, ℕ, ◌+◌, ◌≤◌, ◌<◌, ◌^◌, ◌⊎◌, List, [], ◌∷◌, ◌++◌, length, map, sum, replicate, All}
 use Rattle.std.specs.List.{flat_map, zip}
 use Rattle.std.specs.List.Sorted.{IsNonDecreasingBy}
 use Rattle.std.specs.Int.{w64, to_le_bytes}
@@ -48,11 +48,6 @@ entry_bytes marks rows = flat_map mark_bytes marks ++ u64_bytes rows
 abbrev pub marks_bytes : List (List Mark) → List ℕ → List ℕ
 marks_bytes marks rows = flat_map (λ (entry_marks, entry_rows). entry_bytes entry_marks entry_rows) (zip marks rows)
 
--- the marks of each entry, where all are listed in the file's order
-abbrev pub entry_marks : ℕ → List Mark → List ℕ → List (List Mark)
-entry_marks per_granule marks [] = []
-entry_marks per_granule marks (count ∷ rows) = take per_granule marks ∷ entry_marks per_granule (drop per_granule marks) rows
-
 -- where the payloads of each granule begin
 abbrev pub granule_starts : ℕ → List (List ℕ) → List (List ℕ)
 granule_starts position [] = []
@@ -64,5 +59,6 @@ pub record IsMarksFile (per_granule : ℕ) (data_file : List ℕ) (sizes : List 
   pub marks : List (List Mark)
   pub encoded : bytes ≡ marks_bytes marks (granules ++ 0 ∷ [])
   pub few_rows : All (λ count. count < 2 ^ 64) granules
+  pub few_offsets : All (λ mark. mark.offset < 2 ^ 64) (flat_map (λ entry_marks. entry_marks) marks)
   pub positions : Pointwise (Pointwise (MarksPosition data_file)) marks (granule_starts 0 sizes ++ replicate per_granule (sum (map sum sizes)) ∷ [])
   pub order : IsNonDecreasingBy (λ mark. mark.offset) (flat_map (λ entry_marks. entry_marks) marks)

@@ -88,12 +88,15 @@ pub record HasProjection (table : Table) (folder : Folder) (rows : List Row) (pr
   pub holds : HoldsRows (inner_of table projection) (folder_below folder (projection_prefix projection)) stored granules
   pub stands : IsProjectionOf table projection rows stored
 
--- the folder stands for these rows: it holds them, with all that belongs to them, and nothing else
-pub record StandsFor (table : Table) (folder : Folder) (rows : List Row) : Type 0 where
-  pub granules : List ℕ
+-- the folder holds these rows in these granules, with all that belongs to them, and nothing else
+pub record StandsForIn (table : Table) (folder : Folder) (rows : List Row) (granules : List ℕ) : Type 0 where
   pub holds : HoldsRows (base_of table) folder rows granules
   pub one_partition : HaveOnePartition table rows
   pub partition : HasPartition table rows folder
   pub skips : All (λ skip. HasSkipIndex table skip (marks_ending (is_compact folder)) rows granules folder) table.skips
   pub projections : All (HasProjection table folder rows) table.projections
   pub known : (name : List ℕ) → IsSome (folder name) → Contains (known_names table folder) name
+
+-- the folder stands for these rows
+abbrev pub StandsFor : Table → Folder → List Row → Type 0
+StandsFor table folder rows = (granules : List ℕ) × StandsForIn table folder rows granules

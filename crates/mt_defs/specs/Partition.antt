@@ -1,8 +1,9 @@
 -- The partition's files: docs/FORMAT.md, "Partition" (ClickHouse: MergeTreePartition, IMergeTreeDataPart::MinMaxIndex).
-use Rattle.std.specs.Prelude.{◌≡◌, ℕ, ◌+◌, ◌-◌, ◌*◌, ◌/◌, pos, nat_lt, true, ◌==◌, if◌then◌else◌, List, ◌++◌, length, map, take, codes, Some, None, All, Contains}
-use Rattle.std.specs.List.{flat_map}
+use Rattle.std.specs.Prelude.{◌≡◌, ℕ, ◌+◌, ◌-◌, ◌*◌, ◌/◌, pos, nat_lt, Bool, true, ◌&&◌, ◌==◌, if◌then◌else◌, List, ◌++◌, length, map, take, codes, Some, None, All, Contains}
+use Rattle.std.specs.List.{flat_map, list_all, list_any}
 use Rattle.std.specs.Int.{w32, to_le_bytes}
 use Rattle.std.specs.Ordering.{is_le}
+use Rattle.std.specs.Str.{bytes_eq}
 use Rattle.mt_types.specs.declared.ty.Ty.{Ty}
 use Rattle.mt_types.specs.declared.value.Value.{Value, out-Value}
 use Rattle.mt_types.specs.declared.value.Value.TheOpen.{Value-F}
@@ -63,10 +64,23 @@ pub record IsGreatest (values : List Value) (value : Value) : Type 0 where
   pub among : Contains values value
   pub greatest : All (λ other. is_le (value_cmp other value) ≡ true) values
 
+-- none of the values is below it
+abbrev pub is_least : List Value → Value → Bool
+is_least values value = list_all (λ other. is_le (value_cmp value other)) values
+
+-- none of the values is above it
+abbrev pub is_greatest : List Value → Value → Bool
+is_greatest values value = list_all (λ other. is_le (value_cmp other value)) values
+
 -- the bytes are the least of some values and then the greatest
 abbrev pub IsMinmaxOf : Ty → List Value → List ℕ → Type 0
 IsMinmaxOf ty values bytes =
     (least greatest : Value) × IsLeast values least × IsGreatest values greatest × (bytes ≡ item_bytes ty least ++ item_bytes ty greatest)
+
+-- the test of it: a value that is least and one that is greatest have these bytes
+abbrev pub is_minmax_of : Ty → List Value → List ℕ → Bool
+is_minmax_of ty values bytes =
+    list_any (λ least. is_least values least && list_any (λ greatest. is_greatest values greatest && bytes_eq bytes (item_bytes ty least ++ item_bytes ty greatest)) values) values
 
 -- ---- the files
 

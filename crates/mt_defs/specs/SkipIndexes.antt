@@ -1,9 +1,10 @@
 -- Skip indexes: their entries and files, docs/FORMAT.md, "Skip indexes" (ClickHouse: IMergeTreeIndexGranule). The bytes of a set entry are this project's.
-use Rattle.std.specs.Prelude.{◌≡◌, ◌≢◌, ℕ, zero, suc, ◌^◌, ◌<◌, nat_lt, Bool, true, ◌&&◌, List, [], ◌∷◌, ◌++◌, length, map, take, drop, codes, Some, AllPairs, IsTrue, IsPermutation}
+use Rattle.std.specs.Prelude.{◌≡◌, ◌≢◌, ℕ, zero, suc, ◌^◌, ◌<◌, nat_lt, Bool, true, ◌&&◌, if◌then◌else◌, List, [], ◌∷◌, ◌++◌, length, map, take, drop, codes, Some, All, AllPairs, IsTrue, IsPermutation}
 use Rattle.std.specs.Bool.{MatchBool}
-use Rattle.std.specs.List.{flat_map, list_all, concat}
+use Rattle.std.specs.List.{flat_map, list_all, list_any, concat}
 use Rattle.std.specs.List.Sorted.{IsNonDecreasingBy}
 use Rattle.std.specs.Ordering.{is_le, is_eq}
+use Rattle.std.specs.Str.{bytes_eq}
 use Rattle.mt_types.specs.declared.ty.Ty.{Ty}
 use Rattle.mt_types.specs.declared.value.Value.{Value}
 use Rattle.mt_types.specs.Fits.{fits_of}
@@ -14,7 +15,7 @@ use Rattle.mt_table.specs.declared.skip.SkipKind.{SkipKind}
 use Rattle.mt_table.specs.declared.skip.SkipKind.TheVariants.{Minmax, Set}
 use Rattle.mt_table.specs.declared.definition.Table.{Table}
 use Rattle.mt_defs.specs.declared.mark.Mark.{Mark}
-use Rattle.mt_defs.specs.Lists.{Pointwise, distinct_by, offsets_from}
+use Rattle.mt_defs.specs.Lists.{Pointwise, distinct_by, offsets_from, orders_of}
 use Rattle.mt_defs.specs.Folder.{Folder}
 use Rattle.mt_defs.specs.Rows.{Row, column_values}
 use Rattle.mt_defs.specs.Granules.{granule_rows}
@@ -22,7 +23,7 @@ use Rattle.mt_defs.specs.Frames.{IsFramed}
 use Rattle.mt_defs.specs.Marks.{MarksPosition, mark_bytes, u64_bytes}
 use Rattle.mt_defs.specs.FileNames.{file_name}
 use Rattle.mt_defs.specs.Metadata.{column_at}
-use Rattle.mt_defs.specs.Partition.{IsMinmaxOf}
+use Rattle.mt_defs.specs.Partition.{IsMinmaxOf, is_minmax_of}
 
 -- ---- the form of an entry
 
@@ -71,6 +72,15 @@ abbrev pub Summarizes : SkipKind → Ty → List Value → List ℕ → Type 0
 Summarizes Minmax ty values entry = IsMinmaxOf ty values entry
 Summarizes (Set max_rows) ty values entry = MatchBool (is_too_many max_rows values) (entry ≡ u64_bytes 0) (ListsDistinct ty values entry)
 
+-- the test that the entry lists the distinct values, in one of their orders
+abbrev pub lists_distinct : Ty → List Value → List ℕ → Bool
+lists_distinct ty values entry = list_any (λ listed. bytes_eq entry (set_bytes ty listed)) (orders_of (distinct_values values))
+
+-- the test that the entry is one of these values
+abbrev pub summarizes : SkipKind → Ty → List Value → List ℕ → Bool
+summarizes Minmax ty values entry = is_minmax_of ty values entry
+summarizes (Set max_rows) ty values entry = if is_too_many max_rows values then bytes_eq entry (u64_bytes 0) else lists_distinct ty values entry
+
 -- ---- the files
 
 -- granules taken together, so many an entry, the last entry over what is left; no more entries than granules
@@ -114,6 +124,7 @@ pub record HasSkipIndex (table : Table) (skip : Skip) (marks_ending : List ℕ) 
   pub has_data : folder (skip_data_name skip) ≡ Some data_file
   pub has_marks : folder (skip_marks_name skip marks_ending) ≡ Some (flat_map skip_mark_bytes marks)
   pub framed : IsFramed (concat entries) data_file
+  pub few_offsets : All (λ skip_mark. skip_mark.mark.offset < 2 ^ 64) marks
   pub positions : Pointwise (λ skip_mark position. MarksPosition data_file skip_mark.mark position) marks (offsets_from 0 (map length entries))
   pub order : IsNonDecreasingBy (λ skip_mark. skip_mark.mark.offset) marks
   pub summaries : Pointwise (λ group entry. Summarizes skip.kind (column_at table.columns skip.column).ty (column_values skip.column group) entry) (entry_rows skip rows granules) entries

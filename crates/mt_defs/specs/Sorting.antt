@@ -1,9 +1,11 @@
 -- Rows in key order, rows of equal key in their former order.
-use Rattle.std.specs.Prelude.{ℕ, List, [], ◌∷◌, if◌then◌else◌}
+use Rattle.std.specs.Prelude.{ℕ, Bool, List, [], ◌∷◌, if◌then◌else◌}
 use Rattle.std.specs.List.{flat_map}
 use Rattle.std.specs.List.Sorted.{IsPermutation, IsSorted, IsStable}
-use Rattle.std.specs.Ordering.{is_gt}
+use Rattle.std.specs.Ordering.{is_gt, is_eq}
 use Rattle.std.specs.declared.cmp.Ordering.{Ordering}
+use Rattle.std.specs.Cmp.Lexicographic.{slice_cmp}
+use Rattle.mt_types.specs.Order.{values_cmp}
 use Rattle.mt_defs.specs.Rows.{Row, key_cmp}
 
 -- a reordering that never falls and keeps the order of elements that tie
@@ -27,3 +29,7 @@ sorted_rows sort rows = sorted_by (key_cmp sort) rows
 -- the rows of several lists in the order of a sort key, equal keys by the earlier list
 abbrev pub merged_rows : List ℕ → List (List Row) → List Row
 merged_rows sort inputs = sorted_rows sort (flat_map (λ rows. rows) inputs)
+
+-- the test that one list is a reordering of the other: they are the same once both are in the order of whole rows
+abbrev pub is_reordering : List Row → List Row → Bool
+is_reordering rows others = is_eq (slice_cmp values_cmp (sorted_by values_cmp rows) (sorted_by values_cmp others))

@@ -20,7 +20,7 @@ pub const MAX_PAYLOAD: u64 = 67_108_864;
 pub const FRAME_PAYLOAD: usize = 1_048_576;
 
 /// A frame of a data file (docs/FORMAT.md, "Frames"; ClickHouse: a block of `CompressedReadBuffer`).
-#[derive(Clone, Copy, Debug, PartialEq, Eq)]
+#[derive(Clone, Copy, Debug, PartialEq)]
 pub struct Frame {
     /// Where it begins in the file, in bytes.
     pub offset: u64,

@@ -16,7 +16,7 @@ one_file file cs ds a b =
 pub one_payload : (file p q : List ℕ) → IsFramed p file → IsFramed q file → p ≡ q
 one_payload file p q (cs, a, e) (ds, b, f) = e ∙ ap (λ (blocks : List Block). payload_of blocks) (one_file file cs ds a b) ∙ sym f
 
-bytes_at : (bytes : List ℕ) → AreBytes bytes → BytesAt bytes
+pub bytes_at : (bytes : List ℕ) → AreBytes bytes → BytesAt bytes
 bytes_at [] are i = lit< tt
 bytes_at (b ∷ bytes) are zero = All-head (λ byte. byte < 256) b bytes are
 bytes_at (b ∷ bytes) are (suc i) = bytes_at bytes (All-tail (λ byte. byte < 256) b bytes are) i

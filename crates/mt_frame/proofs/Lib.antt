@@ -6,3 +6,4 @@ pub mod BytesLemmas
 pub mod TakingLemmas
 pub mod OneFrameLemmas
 pub mod LawLemmas
+pub mod WrittenLemmas

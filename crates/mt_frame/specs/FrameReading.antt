@@ -12,7 +12,7 @@ use Rattle.mt_types.specs.Steps.{◌>>=◌, require, at, onto}
 abbrev pub u32_at : ℕ → List ℕ → ℕ
 u32_at offset bytes = from_le_bytes w32 (take 4 (drop offset bytes))
 
--- the frame at the start of some bytes and what follows it, or the first condition that they break
+-- the frame at the start of some bytes and what follows it, or the first condition that they break (F1 to F5)
 unfoldable pub frame_reading : List ℕ → Result (Block × List ℕ) FrameWhy
 frame_reading bytes = do
   _ ← require (nat_le HEADER_BYTES (length bytes)) Cut

@@ -10,7 +10,7 @@ use std::error::Error;
 use std::fmt;
 
 /// The first condition of a frame that the bytes at an offset break.
-#[derive(Clone, Copy, Debug, PartialEq, Eq)]
+#[derive(Clone, Copy, Debug, PartialEq)]
 pub enum FrameWhy {
     /// Fewer than 25 bytes remain, or the file ends inside the payload.
     Cut,
@@ -23,7 +23,7 @@ pub enum FrameWhy {
 }
 
 /// Why no frame was read.
-#[derive(Clone, Copy, Debug, PartialEq, Eq)]
+#[derive(Clone, Copy, Debug, PartialEq)]
 pub enum FrameError {
     /// No frame stands at this offset of the file, in bytes.
     At { offset: u64, why: FrameWhy },

@@ -7,7 +7,7 @@ use mt_defs::Frame;
 use mt_types::List;
 
 /// The frames of a file, one after another from its start to its end.
-#[derive(Debug, Drop)]
+#[derive(Drop)]
 pub struct Frames {
     /// The frames in the file's order, with payloads from 1 to `MAX_PAYLOAD` bytes.
     pub list: List<Frame>,

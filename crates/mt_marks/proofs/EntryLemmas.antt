@@ -19,18 +19,18 @@ unfolding last_reading
 last_none frames last former = refl
 
 last_next : (frames : Frames) (last : Bool) (former : Option Former) (m : Mark) (ms : List Mark) →
-    last_reading frames last former (m ∷ ms) ≡ (mark_reading frames last former m >>= λ here. last_reading frames last (Some here) ms)
+    last_reading frames last former (m ∷ ms) ≡ (mark_reading frames.end frames.list last former m >>= λ here. last_reading frames last (Some here) ms)
 unfolding last_reading
 last_next frames last former m ms = refl
 
 module _ (frames : Frames) (last : Bool) (former : Option Former) (entry : List Mark) (i : ℕ) (d : Mark) where
-  pub mark_holds : (here : Former) → i < length entry → mark_reading frames last former (get_or entry i d) ≡ Ok here
+  pub mark_holds : (here : Former) → i < length entry → mark_reading frames.end frames.list last former (get_or entry i d) ≡ Ok here
       → last_reading frames last former (drop i entry) ≡ last_reading frames last (Some here) (drop (i + 1) entry)
   mark_holds here under is =
       ap (λ (ms : List Mark). last_reading frames last former ms) (drop_more entry i d under) ∙ last_next frames last former (get_or entry i d) (drop (i + 1) entry)
       ∙ ap (λ (r : Result Former Why). r >>= λ here. last_reading frames last (Some here) (drop (i + 1) entry)) is
 
-  pub mark_breaks : (w : Why) → i < length entry → mark_reading frames last former (get_or entry i d) ≡ Err w → last_reading frames last former (drop i entry) ≡ Err w
+  pub mark_breaks : (w : Why) → i < length entry → mark_reading frames.end frames.list last former (get_or entry i d) ≡ Err w → last_reading frames last former (drop i entry) ≡ Err w
   mark_breaks w under is =
       ap (λ (ms : List Mark). last_reading frames last former ms) (drop_more entry i d under) ∙ last_next frames last former (get_or entry i d) (drop (i + 1) entry)
       ∙ ap (λ (r : Result Former Why). r >>= λ here. last_reading frames last (Some here) (drop (i + 1) entry)) is

@@ -8,3 +8,4 @@ pub mod EntryLemmas
 pub mod ReadingLemmas
 pub mod WrittenLemmas
 pub mod RecutLemmas
+pub mod WordLemmas

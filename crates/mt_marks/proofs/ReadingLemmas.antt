@@ -7,12 +7,12 @@ use Rattle.mt_shelf.specs.declared.fault.Why.{Why}
 use Rattle.mt_shelf.specs.declared.fault.Why.TheVariants as why
 use Rattle.mt_defs.specs.declared.mark.Mark.{Mark}
 use Rattle.mt_frame.specs.declared.frames.Frames.{Frames}
-use Rattle.mt_types.specs.Steps.{◌>>=◌, require}
+use Rattle.mt_types.specs.Steps.{◌>>=◌, require, ok_or}
 use Rattle.mt_marks.specs.declared.marks.Marks.{Marks}
 use Rattle.mt_marks.specs.declared.fault.MarksError.{MarksError}
 use Rattle.mt_marks.specs.declared.fault.MarksError.TheVariants.{At, NoMemory}
 use Rattle.mt_marks.specs.Entries.{Entry, entries_in, entries_of}
-use Rattle.mt_marks.specs.MarkReading.{marks_from, entries_from, entries_reading, marks_of, entry_len, marks_reading, rules_reading, in_granule, ok_or, u64_at}
+use Rattle.mt_marks.specs.MarkReading.{marks_from, entries_from, entries_reading, marks_of, entry_len, marks_reading, rules_reading, in_granule, u64_at}
 use Rattle.mt_marks.specs.Results.{GivesMarks, GivesRules}
 use Rattle.mt_marks.proofs.RawLemmas.{all_marks, all_rows, length-marks_from, entries_none, entries_next}
 

@@ -4,13 +4,14 @@ use Rattle.std.specs.List.{flat_map}
 use Rattle.std.specs.Int.{w64, from_le_bytes}
 use Rattle.mt_shelf.specs.declared.fault.Why.{Why}
 use Rattle.mt_shelf.specs.declared.fault.Why.TheVariants as why
+use Rattle.mt_defs.specs.declared.frame.Frame.{Frame}
 use Rattle.mt_defs.specs.declared.mark.Mark.{Mark}
 use Rattle.mt_frame.specs.declared.frames.Frames.{Frames}
-use Rattle.mt_types.specs.Steps.{◌>>=◌, require, at}
+use Rattle.mt_types.specs.Steps.{◌>>=◌, ok_or, require, at}
 use Rattle.mt_marks.specs.declared.marks.Marks.{Marks}
 use Rattle.mt_marks.specs.declared.rules.Former.{Former}
 use Rattle.mt_marks.specs.Entries.{Entry}
-use Rattle.mt_marks.specs.Positions.{position_of}
+use Rattle.mt_marks.specs.Positions.{position_from}
 
 -- ---- the numbers as they stand
 
@@ -54,25 +55,21 @@ abbrev pub position_before : Option Former → ℕ
 position_before None = 0
 position_before (Some former) = former.position
 
--- the uncompressed length of a file
-abbrev pub payload_len : Frames → ℕ
-payload_len frames = sum (map (λ frame. frame.payload) frames.list)
+-- the uncompressed length of a file of these frames
+abbrev pub payload_len : List Frame → ℕ
+payload_len frames = sum (map (λ frame. frame.payload) frames)
 
--- the first mark of the file is at position 0, and each mark of the last entry at the end
+-- the first mark of the file is at position 0, and each mark of an entry for the end at the end
 abbrev pub is_placed : Option Former → Bool → ℕ → ℕ → Bool
 is_placed None last end position = (position == 0) && (not last || (position == end))
 is_placed (Some former) last end position = not last || (position == end)
 
--- the value, or this is wrong
-abbrev pub ok_or : {A E : Type 0} → E → Option A → Result A E
-ok_or e (Some x) = Ok x
-ok_or e None = Err e
-
--- a mark, with the mark before it
-unfoldable pub mark_reading : Frames → Bool → Option Former → Mark → Result Former Why
-mark_reading frames last former mark = do
+-- A mark with its position, or the first rule that it breaks, in a data file of these frames, which ends
+-- there. The mark before it is given, and whether it marks the end, as no mark of a skip index does (M4 to M7).
+unfoldable pub mark_reading : ℕ → List Frame → Bool → Option Former → Mark → Result Former Why
+mark_reading end frames last former mark = do
   _ ← require (nat_le (offset_before former) mark.offset) why.Order
-  position ← ok_or why.Place (position_of frames mark)
+  position ← ok_or why.Place (position_from 0 end frames mark)
   _ ← require (is_placed former last (payload_len frames) position) why.Place
   _ ← require (nat_le (position_before former) position) why.Order
   Ok (record { offset = mark.offset; position = position })
@@ -81,10 +78,10 @@ mark_reading frames last former mark = do
 unfoldable pub last_reading : Frames → Bool → Option Former → List Mark → Result (Option Former) Why
 last_reading frames last former [] = Ok former
 last_reading frames last former (mark ∷ marks) = do
-  here ← mark_reading frames last former mark
+  here ← mark_reading frames.end frames.list last former mark
   last_reading frames last (Some here) marks
 
--- an entry's rows, with the rows up to it: none in the last entry
+-- an entry's rows, with the rows up to it: none in the last entry (M3)
 abbrev pub are_rows : Bool → ℕ → ℕ → Bool
 are_rows true rows total = rows == 0
 are_rows false rows total = nat_le 1 rows && nat_lt total (2 ^ 64)
@@ -94,7 +91,7 @@ abbrev pub is_last : List Entry → Bool
 is_last [] = true
 is_last (entry ∷ entries) = false
 
--- the entries from a granule on, with the rows and the mark before them
+-- the entries from a granule on, with the rows and the mark before them (M3)
 unfoldable pub rules_reading : Frames → ℕ → ℕ → Option Former → List Entry → Result (Unit {0}) (ℕ × Why)
 rules_reading frames granule rows former [] = Ok tt
 rules_reading frames granule rows former (entry ∷ entries) = do
@@ -107,7 +104,7 @@ abbrev pub in_granule : {A : Type 0} → Result A (ℕ × Why) → Result A (Opt
 in_granule (Ok x) = Ok x
 in_granule (Err (granule, w)) = Err (Some granule, w)
 
--- the marks of a file whose frames these are, or the first broken rule and its granule
+-- the marks of a file whose frames these are, or the first broken rule and its granule (M1, M2)
 abbrev pub marks_reading : ℕ → Frames → List ℕ → Result Marks (Option ℕ × Why)
 marks_reading per_granule frames bytes = do
   entries ← ok_or (None, why.Length) (entries_reading per_granule bytes)

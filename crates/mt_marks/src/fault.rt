@@ -9,7 +9,7 @@ use std::error::Error;
 use std::fmt;
 
 /// Why no marks were read.
-#[derive(Clone, Copy, Debug, PartialEq, Eq)]
+#[derive(Clone, Copy, Debug, PartialEq)]
 pub enum MarksError {
     /// The first broken rule, `Length`, `Rows`, `Order` or `Place`, and its entry from 0; a length has
     /// no entry.

@@ -3,9 +3,10 @@
 ghost use Rattle.std.specs.Prelude.{◌≡◌, ◌≤◌, ◌↔◌, ℕ, List, length, Ok, Some, option_map};
 ghost use Rattle.mt_defs.specs.declared.mark.Mark.{Mark};
 ghost use Rattle.mt_defs.specs.Frames.{IsFramed};
+ghost use Rattle.mt_defs.specs.Lists.{AreBytes};
 ghost use Rattle.mt_defs.specs.Marks.{MarksPosition, marks_bytes};
 ghost use Rattle.mt_marks.specs.declared.marks.Marks.{Marks};
-ghost use Rattle.mt_marks.specs.Entries.{AreMarks, HaveWords, entry_marks};
+ghost use Rattle.mt_marks.specs.Entries.{AreMarks, Entry, HaveWords, entry_marks};
 ghost use Rattle.mt_marks.specs.MarkReading.{entries_reading, marks_of};
 ghost use Rattle.mt_marks.specs.Recut.{payload_reading, HasMark};
 
@@ -23,6 +24,12 @@ pub fn frames_may_be_cut_anywhere()
         → (position ≤ length payload) ↔ HasMark file position }
     ensures moved { (payload one other : List ℕ) → IsFramed payload one → IsFramed payload other
         → (mark : Mark) (position : ℕ) → MarksPosition one mark position → HasMark other position }
+{}
+
+/// The numbers that are read of bytes, as marks or as rows, are below 2^64.
+pub fn read_marks_have_words()
+    ensures { (per_granule : ℕ) (bytes : List ℕ) (entries : List Entry) → AreBytes bytes
+        → entries_reading per_granule bytes ≡ Some entries → HaveWords (marks_of per_granule entries) }
 {}
 
 /// The marks that are read of a written file are those that were written.

@@ -8,7 +8,7 @@ pub const MAX_PER_GRANULE: u64 = 256;
 
 /// The entries of a marks file, one for each granule and one for the end (docs/FORMAT.md, "Marks";
 /// ClickHouse: `MarksInCompressedFile`).
-#[derive(Debug, Drop)]
+#[derive(Drop)]
 pub struct Marks {
     /// How many marks an entry has, from 1 to `MAX_PER_GRANULE`: 1 in a `.mrk2` file, one per column
     /// in a `.mrk3` file.

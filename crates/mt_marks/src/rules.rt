@@ -9,23 +9,24 @@ use mt_frame::Frames;
 use mt_shelf::Why;
 
 /// A mark that keeps the rules, and its position.
-#[derive(Clone, Copy, Debug, PartialEq, Eq)]
-pub(crate) struct Former {
+#[derive(Clone, Copy)]
+pub struct Former {
     /// The mark's offset in the data file, in bytes.
-    pub(crate) offset: u64,
+    pub offset: u64,
     /// The position in the uncompressed data, in bytes.
-    pub(crate) position: u64,
+    pub position: u64,
 }
 
-/// The mark with its position, or the first rule that it breaks; `last` in the last entry.
+/// The mark with its position, or the first rule that it breaks, after the mark before it; `last` in an
+/// entry for the end, which a skip index has not.
 #[tactic(auto, unfolding(crate::specs::MarkReading::mark_reading))]
-pub(crate) fn check_mark(
+pub fn check_mark(
     frames: &Frames,
     last: bool,
     former: Option<Former>,
     mark: &Mark,
 ) -> Result<Former, Why>
-    ensures { result ≡ mark_reading frames.now last former mark.now }
+    ensures { result ≡ mark_reading frames.now.end frames.now.list last former mark.now }
 {
     let before = former.unwrap_or(Former {
         offset: 0,
@@ -54,7 +55,7 @@ pub(crate) fn check_mark(
 
 /// The uncompressed length of a file: what is left of it without the headers.
 fn payload_len(frames: &Frames) -> u64
-    ensures { result ≡ payload_len frames.now }
+    ensures { result ≡ payload_len frames.now.list }
 {
     let end = frames.end;
     end - HEADER_BYTES as u64 * frames.list.len() as u64

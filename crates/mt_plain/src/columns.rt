@@ -2,7 +2,7 @@
 
 ghost use Rattle.std.specs.Prelude.{◌≡◌, [], ◌∷◌, ◌++◌, IfOk, OnOk, IsTrue};
 ghost use Rattle.mt_table.specs.Form.{uint64_column};
-ghost use Rattle.mt_tokens.specs.Words.{is_name};
+ghost use Rattle.mt_types.specs.Words.{is_name};
 ghost use Rattle.mt_defs.specs.Marks.{entry_bytes};
 ghost use Rattle.mt_defs.specs.WrittenColumns.{file, wide_column};
 ghost use Rattle.mt_defs.specs.WrittenFrames.{mark_at};

@@ -6,3 +6,4 @@ pub mod StandLemmas
 pub mod NormalLemmas
 pub mod WalkLemmas
 pub mod LawLemmas
+pub mod TestLemmas

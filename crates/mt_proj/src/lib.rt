@@ -13,5 +13,5 @@ mod run;
 mod sorting;
 mod state;
 
-pub use law::written_rows_stand;
+pub use law::{projections_are_tested, written_rows_stand};
 pub use projection::{project, stands_for};

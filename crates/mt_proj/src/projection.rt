@@ -1,7 +1,7 @@
 //! What a projection stores of some rows, and which stored rows stand for them.
 
 ghost use Rattle.std.specs.Prelude.{◌≡◌, ◌↔◌, ◌<◌, length, IfOk, IsTrue};
-ghost use Rattle.mt_defs.specs.Projections.{IsProjectionOf};
+ghost use Rattle.mt_defs.specs.Projections.{IsProjectionOf, is_projection_of};
 ghost use Rattle.mt_defs.specs.Writer.{projection_rows};
 ghost use Rattle.mt_proj.specs.Keys.{projection_at};
 
@@ -48,7 +48,9 @@ pub fn stands_for(
     stored: &[Row],
 ) -> Result<bool, NoMemory>
     requires there { projection < length table.now.projections }
-    ensures { IfOk result (λ stands. IsTrue stands
+    ensures test { IfOk result (λ stands. stands
+        ≡ is_projection_of table.now (projection_at table.now projection) rows.now stored.now) }
+    ensures exact { IfOk result (λ stands. IsTrue stands
         ↔ IsProjectionOf table.now (projection_at table.now projection) rows.now stored.now) }
 {
     match &table.projections.as_slice()[projection] {

@@ -6,3 +6,4 @@ pub mod PermutationLemmas
 pub mod ListingLemmas
 pub mod LawLemmas
 pub mod EntriesLemmas
+pub mod TestLemmas

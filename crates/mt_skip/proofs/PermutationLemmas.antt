@@ -1,15 +1,17 @@
 -- Values that are listed once each, and all of the others, are these in another order.
-use Rattle.std.proofs.Common.{◌≡◌, ℕ, zero, suc, ◌<◌, ◌≤◌, ◌↔◌, Bool, true, false, cond, not, ◌&&◌, ◌||◌, List, [], ◌∷◌, ◌++◌, length, refl, ap, sym, ◌∙◌, subst, inl, inr, arith, get_or}
+use Rattle.std.proofs.Common.{◌≡◌, ℕ, zero, suc, ◌<◌, ◌≤◌, ◌↔◌, Bool, true, false, cond, not, ◌&&◌, ◌||◌, List, [], ◌∷◌, ◌++◌, length, map, refl, ap, sym, ◌∙◌, subst, inl, inr, arith, get_or}
 use Rattle.std.specs.Prelude.{filter, nat_le, IsTrue, IsPermutation, Contains}
-use Rattle.std.specs.List.{list_any, list_all, IsDistinct, AllByRecursion}
+use Rattle.std.specs.List.{list_any, list_all, flat_map, IsDistinct, AllByRecursion}
 use Rattle.std.proofs.lemmas.Bool.{cases_Bool, leb-true, le-leb}
+use Rattle.std.proofs.lemmas.List.Concat.{flat_map-cons}
 use Rattle.std.proofs.lemmas.List.Folds.{list_any-append}
 use Rattle.std.proofs.lemmas.List.Sorted.{IsPermutation-refl, IsPermutation-cons, IsPermutation-trans, IsPermutation-middle, IsPermutation-sym, length_permutation, Contains-permutation}
 use Rattle.std.proofs.lemmas.Map.Keys.{IsDistinct-cons, IsDistinct-head, IsDistinct-tail, IsDistinct-IsPermutation}
 use Rattle.mt_types.specs.declared.value.Value.{Value}
+use Rattle.mt_defs.specs.Lists.{insertions, orders_of}
 use Rattle.mt_defs.specs.SkipIndexes.{distinct_values}
 use Rattle.mt_skip.specs.Gathering.{is_same, has_each}
-use Rattle.mt_skip.proofs.DistinctLemmas.{same_values, one_value, keeps, drops, not_both}
+use Rattle.mt_skip.proofs.DistinctLemmas.{same_values, one_value, keeps, drops, not_both, any_map}
 
 abbrev is_other : Value → Value → Bool
 is_other y z = not (is_same y z)
@@ -190,23 +192,112 @@ past : (v x : Value) (front back : List Value) → is_same v x ≡ false → lis
 past v x front back apart =
     list_any-append (is_same v) front (x ∷ back) ∙ ap (λ b. list_any (is_same v) front || (b || list_any (is_same v) back)) apart ∙ sym (list_any-append (is_same v) front back)
 
+-- a list with each of some distinct values has the first of them, and the others around it
+record Taken (x : Value) (xs ys : List Value) : Type 0 where
+  front : List Value
+  back : List Value
+  is : front ++ x ∷ back ≡ ys
+  once : IsDistinct is_same (front ++ back)
+  long : length (front ++ back) ≡ length xs
+  each : (v : Value) → list_any (is_same v) xs ≡ true → list_any (is_same v) (front ++ back) ≡ true
+
+turned : {X : Type 0} (x : X) (front back : List X) → IsPermutation (x ∷ (front ++ back)) (front ++ x ∷ back)
+turned x front back = IsPermutation-sym (front ++ x ∷ back) (x ∷ (front ++ back)) (IsPermutation-middle front x back)
+
+taken : (x : Value) (xs ys : List Value) → IsDistinct is_same (x ∷ xs) → IsDistinct is_same ys → length ys ≡ length (x ∷ xs) → ((v : Value) → list_any (is_same v) (x ∷ xs) ≡ true → list_any (is_same v) ys ≡ true)
+    → Taken x xs ys
+taken x xs ys c d long each =
+    let s = split x ys (each x (ap (λ b. b || list_any (is_same x) xs) (same_values.refl x))) in
+    let rest : List Value = s.front ++ s.back in
+    let moved : IsPermutation ys (x ∷ rest) = subst (λ l. IsPermutation l (x ∷ rest)) (sym s.is) (IsPermutation-middle s.front x s.back) in
+    let size = length_permutation ys (x ∷ rest) moved in
+    record {
+      front = s.front;
+      back = s.back;
+      is = sym s.is;
+      once = IsDistinct-tail is_same x rest (IsDistinct-IsPermutation is_same same_values.symm ys (x ∷ rest) moved d);
+      long = omega (arith, long, size);
+      each = λ v there. elim (cases_Bool (is_same v x)) [
+        | inl same ↦
+            not_both (list_any (is_same x) xs) (ap (λ w. list_any (is_same w) xs) (sym (one_value v x same)) ∙ there) (none_among x xs (IsDistinct-head is_same x xs c))
+        | inr other ↦ sym (past v x s.front s.back other) ∙ sym (ap (list_any (is_same v)) s.is) ∙ each v (either (is_same v x) (list_any (is_same v) xs) there)
+      ];
+    }
+
 -- distinct lists of one length, of which one has each of the other
 pub matched : (xs ys : List Value) → IsDistinct is_same xs → IsDistinct is_same ys → length ys ≡ length xs → ((v : Value) → list_any (is_same v) xs ≡ true → list_any (is_same v) ys ≡ true) → IsPermutation xs ys
 matched [] [] c d long each = IsPermutation-refl []
 matched [] (y ∷ ys) c d long each = absurd (omega (arith, long))
 matched (x ∷ xs) ys c d long each =
-    let s = split x ys (each x (ap (λ b. b || list_any (is_same x) xs) (same_values.refl x))) in
-    let rest : List Value = s.front ++ s.back in
-    let turned : IsPermutation ys (x ∷ rest) = subst (λ l. IsPermutation l (x ∷ rest)) (sym s.is) (IsPermutation-middle s.front x s.back) in
-    let apart : IsDistinct is_same (x ∷ rest) = IsDistinct-IsPermutation is_same same_values.symm ys (x ∷ rest) turned d in
-    let size = length_permutation ys (x ∷ rest) turned in
-    let others : (v : Value) → list_any (is_same v) xs ≡ true → list_any (is_same v) rest ≡ true = λ v there. elim (cases_Bool (is_same v x)) [
-      | inl same ↦
-          not_both (list_any (is_same x) xs) (ap (λ w. list_any (is_same w) xs) (sym (one_value v x same)) ∙ there) (none_among x xs (IsDistinct-head is_same x xs c))
-      | inr other ↦ sym (past v x s.front s.back other) ∙ sym (ap (list_any (is_same v)) s.is) ∙ each v (either (is_same v x) (list_any (is_same v) xs) there)
-    ] in
-    let more = matched xs rest (IsDistinct-tail is_same x xs c) (IsDistinct-tail is_same x rest apart) (omega (arith, long, size)) others in
-    IsPermutation-trans (x ∷ xs) (x ∷ rest) ys (IsPermutation-cons x xs rest more) (IsPermutation-sym ys (x ∷ rest) turned)
+    let t = taken x xs ys c d long each in
+    let rest : List Value = t.front ++ t.back in
+    let more : IsPermutation xs rest = matched xs rest (IsDistinct-tail is_same x xs c) t.once t.long t.each in
+    subst (IsPermutation (x ∷ xs)) t.is (IsPermutation-trans (x ∷ xs) (x ∷ rest) (t.front ++ x ∷ t.back) (IsPermutation-cons x xs rest more) (turned x t.front t.back))
+
+-- ---- all orders of a list
+
+or_nothing : (b : Bool) → (b || false) ≡ b
+or_nothing true = refl
+or_nothing false = refl
+
+-- where a list passes that has one element put in
+record PutIn {X : Type 0} (p : List X → Bool) (x : X) (xs : List X) : Type 0 where
+  front : List X
+  back : List X
+  is : front ++ back ≡ xs
+  passes : p (front ++ x ∷ back) ≡ true
+
+any_insertion : {X : Type 0} (p : List X → Bool) (x : X) (xs : List X) → list_any p (insertions x xs) ≡ true → PutIn p x xs
+any_insertion p x [] there = record { front = []; back = []; is = refl; passes = sym (or_nothing (p (x ∷ []))) ∙ there }
+any_insertion p x (y ∷ ys) there =
+    elim (cases_Bool (p (x ∷ y ∷ ys))) [
+      | inl first ↦ record { front = []; back = y ∷ ys; is = refl; passes = first }
+      | inr miss ↦
+          let later : list_any p (map (λ zs. y ∷ zs) (insertions x ys)) ≡ true = ap (λ b. b || list_any p (map (λ zs. y ∷ zs) (insertions x ys))) (sym miss) ∙ there in
+          let rest = any_insertion (λ zs. p (y ∷ zs)) x ys (sym (any_map p (λ zs. y ∷ zs) (insertions x ys)) ∙ later) in
+          record { front = y ∷ rest.front; back = rest.back; is = ap (λ l. y ∷ l) rest.is; passes = rest.passes }
+    ]
+
+insertion_passes : {X : Type 0} (p : List X → Bool) (x : X) (front back : List X) → p (front ++ x ∷ back) ≡ true → list_any p (insertions x (front ++ back)) ≡ true
+insertion_passes p x [] [] passes = or_nothing (p (x ∷ [])) ∙ passes
+insertion_passes p x [] (b ∷ back) passes = ap (λ c. c || list_any p (map (λ zs. b ∷ zs) (insertions x back))) passes
+insertion_passes p x (y ∷ front) back passes =
+    let rest = insertion_passes (λ zs. p (y ∷ zs)) x front back passes in
+    either (p (x ∷ y ∷ (front ++ back))) (list_any p (map (λ zs. y ∷ zs) (insertions x (front ++ back)))) (any_map p (λ zs. y ∷ zs) (insertions x (front ++ back)) ∙ rest)
+
+any_flat_map : {X Y : Type 0} (p : Y → Bool) (f : X → List Y) (xs : List X) → list_any p (flat_map f xs) ≡ list_any (λ x. list_any p (f x)) xs
+any_flat_map p f [] = refl
+any_flat_map p f (x ∷ xs) =
+    ap (list_any p) (flat_map-cons f x xs) ∙ list_any-append p (f x) (flat_map f xs) ∙ ap (λ b. list_any p (f x) || b) (any_flat_map p f xs)
+
+-- one of the orders passes
+pub any_order : {X : Type 0} (p : List X → Bool) (xs : List X) → list_any p (orders_of xs) ≡ true → (ys : List X) × IsPermutation xs ys × (p ys ≡ true)
+any_order p [] there = ([], IsPermutation-refl [], sym (or_nothing (p [])) ∙ there)
+any_order p (x ∷ xs) there =
+    let later = any_order (λ zs. list_any p (insertions x zs)) xs (sym (any_flat_map p (insertions x) (orders_of xs)) ∙ there) in
+    let put = any_insertion p x later.0 later.2 in
+    let moved : IsPermutation xs (put.front ++ put.back) = subst (IsPermutation xs) (sym put.is) later.1 in (
+      put.front ++ x ∷ put.back,
+      IsPermutation-trans (x ∷ xs) (x ∷ (put.front ++ put.back)) (put.front ++ x ∷ put.back) (IsPermutation-cons x xs (put.front ++ put.back) moved) (turned x put.front put.back),
+      put.passes,
+    )
+
+order_passes : (p : List Value → Bool) (xs ys : List Value) → IsDistinct is_same xs → IsDistinct is_same ys → length ys ≡ length xs → ((v : Value) → list_any (is_same v) xs ≡ true → list_any (is_same v) ys ≡ true) → p ys ≡ true
+    → list_any p (orders_of xs) ≡ true
+order_passes p [] [] c d long each passes = or_nothing (p []) ∙ passes
+order_passes p [] (y ∷ ys) c d long each passes = absurd (omega (arith, long))
+order_passes p (x ∷ xs) ys c d long each passes =
+    let t = taken x xs ys c d long each in
+    let around : p (t.front ++ x ∷ t.back) ≡ true = ap p t.is ∙ passes in
+    any_flat_map p (insertions x) (orders_of xs)
+    ∙ order_passes (λ zs. list_any p (insertions x zs)) xs (t.front ++ t.back) (IsDistinct-tail is_same x xs c) t.once t.long t.each (insertion_passes p x t.front t.back around)
+
+-- a reordering of the distinct values is one of their orders
+pub any_of_orders : (p : List Value → Bool) (values ys : List Value) → IsPermutation (distinct_values values) ys → p ys ≡ true → list_any p (orders_of (distinct_values values)) ≡ true
+any_of_orders p values ys moved passes =
+    let xs = distinct_values values in
+    let once = are_distinct values in
+    order_passes p xs ys once (IsDistinct-IsPermutation is_same same_values.symm xs ys moved once) (length_permutation xs ys moved) (λ v there. any_permuted v xs ys moved there) passes
 
 -- ---- the test
 

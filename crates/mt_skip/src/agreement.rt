@@ -2,7 +2,7 @@
 
 ghost use Rattle.std.specs.Prelude.{◌≡◌, ◌≢◌, ◌↔◌, ◌++◌, ℕ, List, length, IfOk, IsTrue, MatchOption};
 ghost use Rattle.std.specs.List.{list_all, list_any};
-ghost use Rattle.mt_defs.specs.SkipIndexes.{ListsDistinct, Summarizes, distinct_values};
+ghost use Rattle.mt_defs.specs.SkipIndexes.{ListsDistinct, Summarizes, distinct_values, summarizes};
 ghost use Rattle.mt_defs.specs.Partition.{IsMinmaxOf};
 ghost use Rattle.mt_table.specs.declared.skip.SkipKind.TheVariants.{Set};
 ghost use Rattle.mt_item.specs.ItemTypes.{has_items};
@@ -30,7 +30,9 @@ pub fn agrees(
 ) -> Result<bool, NoMemory>
     requires items { IsTrue (has_items ty.now) }
     requires fit { AllFit ty.now values.now }
-    ensures { IfOk result (λ agrees. IsTrue agrees
+    ensures test { IfOk result (λ agrees.
+        agrees ≡ summarizes skip.now.kind ty.now values.now entry.now) }
+    ensures exact { IfOk result (λ agrees. IsTrue agrees
         ↔ Summarizes skip.now.kind ty.now values.now entry.now) }
 {
     match skip.kind {

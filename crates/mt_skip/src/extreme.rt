@@ -7,7 +7,7 @@ ghost use Rattle.mt_skip.specs.Extremes.{is_better, values_at};
 use mt_types::{Value, compare};
 
 /// Which end of an order.
-#[derive(Clone, Copy, Debug, PartialEq, Eq)]
+#[derive(Clone, Copy)]
 pub enum Extreme {
     Least,
     Greatest,

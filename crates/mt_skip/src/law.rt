@@ -1,6 +1,6 @@
 //! Laws of skip indexes, each the contract of a function that does nothing.
 
-ghost use Rattle.std.specs.Prelude.{◌≡◌, ◌≢◌, ◌<◌, ◌≤◌, ◌^◌, ℕ, List, [], length, true, false, Contains};
+ghost use Rattle.std.specs.Prelude.{◌≡◌, ◌≢◌, ◌↔◌, ◌<◌, ◌≤◌, ◌^◌, ℕ, List, [], length, true, false, Contains};
 ghost use Rattle.mt_types.specs.declared.ty.Ty.{Ty};
 ghost use Rattle.mt_types.specs.declared.value.Value.{Value};
 ghost use Rattle.mt_table.specs.declared.definition.Table.{Table};
@@ -11,10 +11,16 @@ ghost use Rattle.mt_defs.specs.Granules.{AreGranules};
 ghost use Rattle.mt_defs.specs.Lists.{Pointwise};
 ghost use Rattle.mt_defs.specs.Metadata.{column_at};
 ghost use Rattle.mt_defs.specs.Rows.{Row, column_values};
-ghost use Rattle.mt_defs.specs.SkipIndexes.{Summarizes, entry_rows, is_too_many, set_bytes};
+ghost use Rattle.mt_defs.specs.SkipIndexes.{Summarizes, entry_rows, is_too_many, set_bytes, summarizes};
 ghost use Rattle.mt_defs.specs.WrittenSkips.{written_entries, written_entry};
 ghost use Rattle.mt_item.specs.ItemTypes.{has_items};
 ghost use Rattle.mt_skip.specs.Items.{AllFit};
+
+/// The test of entries is right: it says yes exactly where an entry is the one of some values.
+pub fn summaries_are_tested()
+    ensures { (kind : SkipKind) (ty : Ty) (values : List Value) (entry : List ℕ)
+        → (summarizes kind ty values entry ≡ true) ↔ Summarizes kind ty values entry }
+{}
 
 /// The writer's entry of some values is the one of these values.
 pub fn written_entry_agrees()

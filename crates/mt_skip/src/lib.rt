@@ -15,4 +15,7 @@ mod seen;
 
 pub use agreement::agrees;
 pub use groups::entries;
-pub use law::{entries_without_a_value_disagree, written_entries_agree, written_entry_agrees};
+pub use law::{
+    entries_without_a_value_disagree, summaries_are_tested, written_entries_agree,
+    written_entry_agrees,
+};

@@ -3,11 +3,10 @@
 ghost use Rattle.std.specs.Prelude.{◌≡◌, fold, refl};
 ghost use Rattle.std.specs.Cmp.{partial_equiv_from_equiv};
 ghost use Rattle.std.proofs.lemmas.Cmp.{eq_by_cmp_equiv, on_total};
-ghost use Rattle.mt_types.specs.declared.value.Value.{out-Value};
-ghost use Rattle.mt_types.specs.Hashed.{level_writes};
+ghost use Rattle.mt_types.specs.Hashed.{value_writes};
 ghost use Rattle.mt_skip.specs.Seen.{is_same_seen, seen_equiv, seen_writes, seen_writes_respects_eq};
 
-use mt_types::{Value, compare};
+use mt_types::{Value, compare, hash_value};
 use std::hash::{Hash, Hasher};
 
 /// A value that a set refers to.
@@ -36,10 +35,6 @@ impl Hash for Seen<'_> {
     ghost respects_eq = { seen_writes_respects_eq };
 
     fn hash<H: Hasher>(&self, state: &mut H) {
-        match self.value {
-            Value::Num(number) => number.hash(state),
-            Value::Text(bytes) => bytes.as_slice().hash(state),
-            _ => {}
-        }
+        hash_value(self.value, state);
     }
 }

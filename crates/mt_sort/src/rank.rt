@@ -7,7 +7,7 @@ ghost use Rattle.mt_sort.specs.Ranks.{is_decided, number_rank, text_rank, value_
 use mt_types::{Row, Ty, Value};
 
 /// How the values of a column are ranked, so that few values of the column have one rank.
-#[derive(Clone, Copy, Debug)]
+#[derive(Clone, Copy)]
 pub enum Scale {
     /// Numbers; here is the rank of 0.
     Numbers(u64),

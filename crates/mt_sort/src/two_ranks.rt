@@ -12,7 +12,7 @@ use std::alloc::Global;
 use std::cmp::Ordering;
 
 /// The scales of the first two key columns.
-#[derive(Clone, Copy, Debug)]
+#[derive(Clone, Copy)]
 pub struct Scales {
     /// That of the first.
     pub first: Scale,
