@@ -1,7 +1,8 @@
--- What is read of a field is a value of the column's type.
-use Rattle.std.proofs.Common.{◌≡◌, ℕ, ◌-◌, ℤ, pos, ◌^◌, List, [], ◌∷◌, ◌++◌, length, Result, Ok, Err, Option, Some, None, Bool, true, false, refl, sym, ap, ◌∙◌, subst, arith, ltb, leb}
+-- What is read of a field of bytes is a value of the column's type.
+use Rattle.std.proofs.Common.{◌≡◌, ℕ, ◌-◌, ℤ, pos, ◌^◌, List, [], ◌∷◌, ◌++◌, length, Result, Ok, Err, Option, Some, None, All, Bool, true, false, refl, sym, ap, ◌∙◌, subst, arith, eqb, ltb, leb}
 use Rattle.std.specs.Prelude.{replicate, ◌||◌, option_and_then, negsuc, if◌then◌else◌}
 use Rattle.std.specs.List.{list_all}
+use Rattle.std.proofs.lemmas.List.Elements.{All-head, All-tail}
 use Rattle.std.proofs.lemmas.Bool.{and_from, leb-true, eq-eqb}
 use Rattle.std.proofs.lemmas.List.{length-append, length-replicate}
 use Rattle.jiff_core.specs.Calendar.{days_from_civil}
@@ -10,6 +11,7 @@ use Rattle.mt_types.specs.declared.ty.Ty.TheOpen.{Ty-F}
 use Rattle.mt_types.specs.declared.ty.Ty.TheFolds.{fold_out-Ty, fold-roll-Ty, ind-Ty}
 use Rattle.mt_types.specs.declared.value.Value.{Value}
 use Rattle.mt_types.specs.declared.value.Value.TheVariants.{Num, Text, List as Items, Null as NullValue, outs-Num, outs-Text, outs-Null, outs-List}
+use Rattle.mt_types.specs.Bytes.{is_byte}
 use Rattle.mt_types.specs.Fits.{fits_of, fits_step, bits, is_unsigned, is_signed}
 use Rattle.mt_tsv.specs.declared.fault.RowWhy.{RowWhy}
 use Rattle.mt_tsv.specs.declared.fault.RowWhy.TheVariants.{Range, Null, TooLong, List as BadList}
@@ -20,6 +22,7 @@ use Rattle.mt_tsv.specs.Scalars.{integer_of, number_of, number_value, day_of, sc
 use Rattle.mt_tsv.specs.Dates.{date_of, day_number, day_in_type, is_date, two_digits_at}
 use Rattle.mt_tsv.specs.Arrays.{Element, element_of, element_step, array_of, items_of, level_of, is_null_word, middle}
 use Rattle.mt_tsv.specs.Fields.{field_of, field_at, is_null, unless_null}
+use Rattle.mt_tsv.proofs.ReadBytes.{AreBytes, to_test, middle_bytes, level_bytes, bounded_bytes, padded_bytes}
 use Rattle.mt_tsv.proofs.RowLimits.{then_ok, passed, onto_ok}
 
 -- a type's test at one level of the type
@@ -107,21 +110,23 @@ date_fits None v inside e = cc
 
 -- ---- values of types that are no Nullable and no array; inside those that are, any types are given by tests
 
-scalar_fits : {X : Type 0} (inner : X → Test) (level : Ty-F X) (text : List ℕ) (v : Value) → scalar_at level text ≡ Ok v → fits_step (map-Ty X Test inner level) v ≡ true
-scalar_fits inner (Ty-F.UInt width) text v e =
+scalar_fits : {X : Type 0} (inner : X → Test) (level : Ty-F X) (text : List ℕ) (v : Value) → AreBytes text → scalar_at level text ≡ Ok v → fits_step (map-Ty X Test inner level) v ≡ true
+scalar_fits inner (Ty-F.UInt width) text v are e =
     let n = number_passes (is_unsigned (bits width)) text v e in
     rw (n.1, outs-Num n.0) n.2
-scalar_fits inner (Ty-F.Int width) text v e =
+scalar_fits inner (Ty-F.Int width) text v are e =
     let n = number_passes (is_signed (bits width)) text v e in
     rw (n.1, outs-Num n.0) n.2
-scalar_fits inner (Ty-F.FixedString size) text v e =
+scalar_fits inner (Ty-F.FixedString size) text v are e =
     let t = text_value (padded_text size text) v e in
-    rw (t.2, outs-Text t.0) (eq-eqb (length t.0) size (padded size text t.0 t.1))
-scalar_fits inner Ty-F.Str text v e =
+    let whole = eq-eqb (length t.0) size (padded size text t.0 t.1) in
+    rw (t.2, outs-Text t.0) (and_from (eqb (length t.0) size) (list_all is_byte t.0) whole (to_test t.0 (padded_bytes size text t.0 are t.1)))
+scalar_fits inner Ty-F.Str text v are e =
     let t = text_value (bounded_text MAX_TEXT text) v e in
-    rw (t.2, outs-Text t.0) (bounded MAX_TEXT text t.0 t.1)
-scalar_fits inner Ty-F.Date text v e = date_fits (date_of text) v (date_in_type text) e
-scalar_fits inner _ text v e = cc
+    let short = bounded MAX_TEXT text t.0 t.1 in
+    rw (t.2, outs-Text t.0) (and_from (leb (length t.0) MAX_TEXT) (list_all is_byte t.0) short (to_test t.0 (bounded_bytes MAX_TEXT text t.0 are t.1)))
+scalar_fits inner Ty-F.Date text v are e = date_fits (date_of text) v (date_in_type text) e
+scalar_fits inner _ text v are e = cc
 
 -- ---- NULL
 
@@ -142,29 +147,35 @@ null_or_fits fits false read v inside e = right_true _ (fits v) (inside e)
 
 -- ---- arrays
 
-items_fit : (fits : Test) (read : List ℕ → Result Value RowWhy) → ((text : List ℕ) (v : Value) → read text ≡ Ok v → fits v ≡ true)
-    → (texts : List (List ℕ)) (values : List Value) → items_of read texts ≡ Ok values → list_all fits values ≡ true
+-- what is read of bytes fits
+abbrev ReadsOf : Test → (List ℕ → Result Value RowWhy) → Type 0
+ReadsOf fits read = (text : List ℕ) (v : Value) → AreBytes text → read text ≡ Ok v → fits v ≡ true
+
+items_fit : (fits : Test) (read : List ℕ → Result Value RowWhy) → ReadsOf fits read
+    → (texts : List (List ℕ)) (values : List Value) → All AreBytes texts → items_of read texts ≡ Ok values → list_all fits values ≡ true
 unfolding items_of
-items_fit fits read each [] values e = let is : [] ≡ values = cc in subst (λ vs. list_all fits vs ≡ true) is refl
-items_fit fits read each (text ∷ texts) values e =
+items_fit fits read each [] values are e = let is : [] ≡ values = cc in subst (λ vs. list_all fits vs ≡ true) is refl
+items_fit fits read each (text ∷ texts) values are e =
     let first = then_ok (read text) _ values e in
     let others = onto_ok first.0 (items_of read texts) values first.2 in
-    subst (λ vs. list_all fits vs ≡ true) (sym others.2) (and_from (fits first.0) (list_all fits others.0) (each text first.0 first.1) (items_fit fits read each texts others.0 others.1))
+    let first_fits = each text first.0 (All-head AreBytes text texts are) first.1 in
+    let others_fit = items_fit fits read each texts others.0 (All-tail AreBytes text texts are) others.1 in
+    subst (λ vs. list_all fits vs ≡ true) (sym others.2) (and_from (fits first.0) (list_all fits others.0) first_fits others_fit)
 
-array_fits : (fits : Test) (element : Element) → ((text : List ℕ) (v : Value) → element.read text ≡ Ok v → fits v ≡ true)
-    → (text : List ℕ) (v : Value) → array_of element text ≡ Ok v → fits_step (Ty-F.Array fits) v ≡ true
+array_fits : (fits : Test) (element : Element) → ReadsOf fits element.read → ReadsOf (fits_step (Ty-F.Array fits)) (array_of element)
 unfolding array_of
-array_fits fits element each text v e =
+array_fits fits element each text v are e =
     let texts = then_ok (level_of element.in_quotes text) _ v e in
     let values = then_ok (items_of element.read texts.0) _ v texts.2 in
     let few = passed (leb (length values.0) MAX_ELEMENTS) TooLong _ v values.2 in
     let same : Ok (Items values.0) ≡ Ok v = few.1 in
     let is : Items values.0 ≡ v = cc in
-    subst (λ v. fits_step (Ty-F.Array fits) v ≡ true) is (rw (outs-List values.0) (and_from (leb (length values.0) MAX_ELEMENTS) (list_all fits values.0) few.0 (items_fit fits element.read each texts.0 values.0 values.1)))
+    let all = items_fit fits element.read each texts.0 values.0 (level_bytes element.in_quotes text texts.0 are texts.1) values.1 in
+    subst (λ v. fits_step (Ty-F.Array fits) v ≡ true) is (rw (outs-List values.0) (and_from (leb (length values.0) MAX_ELEMENTS) (list_all fits values.0) few.0 all))
 
 -- what is read of an element fits
 abbrev Reads : Ty → Type 0
-Reads t = (text : List ℕ) (v : Value) → (element_of t).read text ≡ Ok v → fits_of t v ≡ true
+Reads t = ReadsOf (fits_of t) (element_of t).read
 
 -- a type of which this is known
 abbrev Known : Type 0
@@ -177,44 +188,44 @@ plain level = map-Ty Known Ty (λ k. k.0) level
 no_test : Element → Test
 no_test element v = true
 
-level_reads : (level : Ty-F Known) (text : List ℕ) (v : Value) → (element_step (map-Ty Ty Element element_of (plain level))).read text ≡ Ok v → fits_step (map-Ty Ty Test fits_of (plain level)) v ≡ true
-level_reads (Ty-F.Nullable k) text v e = null_or_fits (fits_of k.0) (is_null_word text) ((element_of k.0).read text) v (k.1 text v) e
-level_reads (Ty-F.Array k) text v e = array_fits (fits_of k.0) (element_of k.0) k.1 text v (unless_null_word (is_null_word text) Null (array_of (element_of k.0) text) v e)
-level_reads (Ty-F.UInt width) text v e = scalar_fits no_test (Ty-F.UInt width) text v (unless_null_word (is_null_word text) Null _ v e)
-level_reads (Ty-F.Int width) text v e = scalar_fits no_test (Ty-F.Int width) text v (unless_null_word (is_null_word text) Null _ v e)
-level_reads (Ty-F.FixedString size) text v e = scalar_fits no_test (Ty-F.FixedString size) (middle text) v (unless_null_word (is_null_word text) Null _ v e)
-level_reads Ty-F.Str text v e = scalar_fits no_test Ty-F.Str (middle text) v (unless_null_word (is_null_word text) Null _ v e)
-level_reads Ty-F.Date text v e = scalar_fits no_test Ty-F.Date (middle text) v (unless_null_word (is_null_word text) Null _ v e)
-level_reads (Ty-F.State agg k) text v e = let none : Err BadList ≡ Ok v = unless_null_word (is_null_word text) Null _ v e in cc
-level_reads Ty-F.CountState text v e = let none : Err BadList ≡ Ok v = unless_null_word (is_null_word text) Null _ v e in cc
+level_reads : (level : Ty-F Known) → ReadsOf (fits_step (map-Ty Ty Test fits_of (plain level))) (element_step (map-Ty Ty Element element_of (plain level))).read
+level_reads (Ty-F.Nullable k) text v are e = null_or_fits (fits_of k.0) (is_null_word text) ((element_of k.0).read text) v (k.1 text v are) e
+level_reads (Ty-F.Array k) text v are e = array_fits (fits_of k.0) (element_of k.0) k.1 text v are (unless_null_word (is_null_word text) Null (array_of (element_of k.0) text) v e)
+level_reads (Ty-F.UInt width) text v are e = scalar_fits no_test (Ty-F.UInt width) text v are (unless_null_word (is_null_word text) Null _ v e)
+level_reads (Ty-F.Int width) text v are e = scalar_fits no_test (Ty-F.Int width) text v are (unless_null_word (is_null_word text) Null _ v e)
+level_reads (Ty-F.FixedString size) text v are e = scalar_fits no_test (Ty-F.FixedString size) (middle text) v (middle_bytes text are) (unless_null_word (is_null_word text) Null _ v e)
+level_reads Ty-F.Str text v are e = scalar_fits no_test Ty-F.Str (middle text) v (middle_bytes text are) (unless_null_word (is_null_word text) Null _ v e)
+level_reads Ty-F.Date text v are e = scalar_fits no_test Ty-F.Date (middle text) v (middle_bytes text are) (unless_null_word (is_null_word text) Null _ v e)
+level_reads (Ty-F.State agg k) text v are e = let none : Err BadList ≡ Ok v = unless_null_word (is_null_word text) Null _ v e in cc
+level_reads Ty-F.CountState text v are e = let none : Err BadList ≡ Ok v = unless_null_word (is_null_word text) Null _ v e in cc
 
 -- elements of arrays, from the types inside up
 elements_fit : (t : Ty) → Reads t
-elements_fit = ind-Ty Reads (λ x y is text v e.
+elements_fit = ind-Ty Reads (λ x y is text v are e.
     let read : (element_of (roll-Ty x)).read text ≡ (element_step (map-Ty Ty Element element_of (plain y))).read text =
     ap (λ (element : Element). element.read text) (fold-roll-Ty Element element_step x) ∙ ap (λ l. (element_step (map-Ty Ty Element element_of l)).read text) (sym is) in
-    ap (λ (f : Test). f v) (fold-roll-Ty Test fits_step x) ∙ ap (λ l. fits_step (map-Ty Ty Test fits_of l) v) (sym is) ∙ level_reads y text v (sym read ∙ e))
+    ap (λ (f : Test). f v) (fold-roll-Ty Test fits_step x) ∙ ap (λ l. fits_step (map-Ty Ty Test fits_of l) v) (sym is) ∙ level_reads y text v are (sym read ∙ e))
 
 -- ---- fields
 
 unless_null_is : (field : List ℕ) (read : Result Value RowWhy) (v : Value) → unless_null field read ≡ Ok v → read ≡ Ok v
 unless_null_is field read v e = unless_null_word (is_null field) Null read v e
 
-scalar_of_fits : (t : Ty) (text : List ℕ) (v : Value) → scalar_of t text ≡ Ok v → fits_of t v ≡ true
+scalar_of_fits : (t : Ty) → ReadsOf (fits_of t) (scalar_of t)
 unfolding scalar_of
-scalar_of_fits t text v e = fits_at t v ∙ scalar_fits fits_of (out-Ty t) text v e
+scalar_of_fits t text v are e = fits_at t v ∙ scalar_fits fits_of (out-Ty t) text v are e
 
-level_fits : (level : Ty-F Ty) (field : List ℕ) (v : Value) → field_at level field ≡ Ok v → fits_step (map-Ty Ty Test fits_of level) v ≡ true
-level_fits (Ty-F.Nullable inner) field v e = null_or_fits (fits_of inner) (is_null field) (scalar_of inner field) v (scalar_of_fits inner field v) e
-level_fits (Ty-F.Array inner) field v e = array_fits (fits_of inner) (element_of inner) (elements_fit inner) field v e
-level_fits (Ty-F.UInt width) field v e = scalar_fits fits_of (Ty-F.UInt width) field v (unless_null_is field _ v e)
-level_fits (Ty-F.Int width) field v e = scalar_fits fits_of (Ty-F.Int width) field v (unless_null_is field _ v e)
-level_fits (Ty-F.FixedString size) field v e = scalar_fits fits_of (Ty-F.FixedString size) field v (unless_null_is field _ v e)
-level_fits Ty-F.Str field v e = scalar_fits fits_of Ty-F.Str field v (unless_null_is field _ v e)
-level_fits Ty-F.Date field v e = scalar_fits fits_of Ty-F.Date field v (unless_null_is field _ v e)
-level_fits (Ty-F.State agg inner) field v e = let none : Err BadList ≡ Ok v = unless_null_is field _ v e in cc
-level_fits Ty-F.CountState field v e = let none : Err BadList ≡ Ok v = unless_null_is field _ v e in cc
+level_fits : (level : Ty-F Ty) → ReadsOf (fits_step (map-Ty Ty Test fits_of level)) (field_at level)
+level_fits (Ty-F.Nullable inner) field v are e = null_or_fits (fits_of inner) (is_null field) (scalar_of inner field) v (scalar_of_fits inner field v are) e
+level_fits (Ty-F.Array inner) field v are e = array_fits (fits_of inner) (element_of inner) (elements_fit inner) field v are e
+level_fits (Ty-F.UInt width) field v are e = scalar_fits fits_of (Ty-F.UInt width) field v are (unless_null_is field _ v e)
+level_fits (Ty-F.Int width) field v are e = scalar_fits fits_of (Ty-F.Int width) field v are (unless_null_is field _ v e)
+level_fits (Ty-F.FixedString size) field v are e = scalar_fits fits_of (Ty-F.FixedString size) field v are (unless_null_is field _ v e)
+level_fits Ty-F.Str field v are e = scalar_fits fits_of Ty-F.Str field v are (unless_null_is field _ v e)
+level_fits Ty-F.Date field v are e = scalar_fits fits_of Ty-F.Date field v are (unless_null_is field _ v e)
+level_fits (Ty-F.State agg inner) field v are e = let none : Err BadList ≡ Ok v = unless_null_is field _ v e in cc
+level_fits Ty-F.CountState field v are e = let none : Err BadList ≡ Ok v = unless_null_is field _ v e in cc
 
-pub field_fits : (t : Ty) (field : List ℕ) (v : Value) → field_of t field ≡ Ok v → fits_of t v ≡ true
+pub field_fits : (t : Ty) → ReadsOf (fits_of t) (field_of t)
 unfolding field_of
-field_fits t field v e = fits_at t v ∙ level_fits (out-Ty t) field v e
+field_fits t field v are e = fits_at t v ∙ level_fits (out-Ty t) field v are e

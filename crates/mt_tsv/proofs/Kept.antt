@@ -1,5 +1,5 @@
 -- What a list begins with stays while more is appended.
-use Rattle.std.proofs.Common.{◌≡◌, ℕ, zero, suc, ◌+◌, List, [], ◌∷◌, ◌++◌, length, take, refl, arith}
+use Rattle.std.proofs.Common.{◌≡◌, ℕ, List, [], ◌∷◌, ◌++◌, length, take, refl, arith}
 
 stays-append : (old new part : List ℕ) → take (length old) new ≡ old → take (length old) (new ++ part) ≡ old
 stays-append [] new part kept = refl

@@ -13,6 +13,7 @@ pub mod Kept
 pub mod Casts
 pub mod Walk
 pub mod RowLimits
+pub mod ReadBytes
 pub mod FieldFits
 pub mod RowsFit
 pub mod Walks

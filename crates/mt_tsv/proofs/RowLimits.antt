@@ -3,7 +3,7 @@ use Rattle.std.proofs.Common.{◌≡◌, ◌≢◌, ℕ, suc, ◌+◌, ◌-◌, 
 use Rattle.std.specs.List.{sum_by}
 use Rattle.std.proofs.lemmas.Bool.{cases_Bool, leb-true, ltb-true, eqb-true}
 use Rattle.std.specs.List.{join_with_byte}
-use Rattle.std.proofs.lemmas.List.Elements.{All-nil, All-cons}
+use Rattle.std.proofs.lemmas.List.Elements.{All-nil, All-cons, All-head, All-tail}
 use Rattle.std.proofs.lemmas.List.Splits.{join_with_byte-slice_split}
 use Rattle.std.proofs.lemmas.List.Sums.{sum_by-cons}
 use Rattle.mt_types.specs.declared.value.Value.{Value}
@@ -83,14 +83,15 @@ none_ok columns before room rows e = cc
 
 -- ---- each row
 
-pub all_rows : (P : List Value → Type 0) (columns : List Column) → ((line : List ℕ) (values : List Value) → row_of columns line ≡ Ok values → P values)
-    → (texts : List (List ℕ)) (before room : ℕ) (rows : List (List Value)) → rows_of columns before room texts ≡ Ok rows → All P rows
-all_rows P columns each [] before room rows e = subst (All P) (sym (none_ok columns before room rows e)) (All-nil P)
-all_rows P columns each (rest ∷ []) before room rows e = subst (All P) (sym (last_ok columns before room rest rows e).1) (All-nil P)
-all_rows P columns each (line ∷ next ∷ more) before room rows e =
+pub all_rows : (L : List ℕ → Type 0) (P : List Value → Type 0) (columns : List Column) → ((line : List ℕ) (values : List Value) → L line → row_of columns line ≡ Ok values → P values)
+    → (texts : List (List ℕ)) → All L texts → (before room : ℕ) (rows : List (List Value)) → rows_of columns before room texts ≡ Ok rows → All P rows
+all_rows L P columns each [] are before room rows e = subst (All P) (sym (none_ok columns before room rows e)) (All-nil P)
+all_rows L P columns each (rest ∷ []) are before room rows e = subst (All P) (sym (last_ok columns before room rest rows e).1) (All-nil P)
+all_rows L P columns each (line ∷ next ∷ more) are before room rows e =
     elim (step_of columns before room line next more rows e) [
       | step values left others read few cells more_read is ↦
-          subst (All P) (sym is) (All-cons P values others (each line values read) (all_rows P columns each (next ∷ more) (before + 1) left others more_read))
+          let first = each line values (All-head L line (next ∷ more) are) read in
+          subst (All P) (sym is) (All-cons P values others first (all_rows L P columns each (next ∷ more) (All-tail L line (next ∷ more) are) (before + 1) left others more_read))
     ]
 
 -- ---- how many rows

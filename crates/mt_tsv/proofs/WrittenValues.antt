@@ -13,6 +13,7 @@ use Rattle.mt_types.specs.declared.value.Value.{Value, out-Value, roll-Value}
 use Rattle.mt_types.specs.declared.value.Value.TheOpen.{Value-F}
 use Rattle.mt_types.specs.declared.value.Value.TheViews.{roll-out-Value}
 use Rattle.mt_types.specs.declared.value.Value.TheVariants.{Num, Text, Null as NullValue, List as Items, outs-Num, outs-Text, outs-Null, outs-List}
+use Rattle.mt_types.specs.Bytes.{is_byte}
 use Rattle.mt_types.specs.Fits.{Level, bits, is_unsigned, is_signed, num_at, text_at, list_at, null_at, fits_of, fits_step}
 use Rattle.mt_types.specs.Profile.{Kind, Whole, Day, Bytes, Stored, Unknown, optional_kind, array_kind, state_kind, kind_of, kind_step}
 use Rattle.mt_tsv.specs.declared.fault.RowWhy.{RowWhy}
@@ -95,16 +96,16 @@ int_again width value h =
     let n = signed_again width v.n v.passes in
     rw v.out (record { read = ap number_value n.value ∙ ok_value (Num v.n) value v.is; clean = number_clean _ n.bytes; not_null = number_not_null _ n.bytes; shape = (n.bytes, n.nonempty); some_value = ap null_at v.out })
 
-pub fixed_again : {X : Type 0} (size : ℕ) (value : Value) → text_at (λ bytes. length bytes == size) (out-Value value) ≡ true → IsScalar {X = X} (Ty-F.FixedString size) (scalar_text_at {X = X} {Y = Value} (Ty-F.FixedString size) (out-Value value)) value
+pub fixed_again : {X : Type 0} (size : ℕ) (value : Value) → text_at (λ bytes. length bytes == size && list_all is_byte bytes) (out-Value value) ≡ true → IsScalar {X = X} (Ty-F.FixedString size) (scalar_text_at {X = X} {Y = Value} (Ty-F.FixedString size) (out-Value value)) value
 fixed_again size value h =
-    let v = text_value (λ bytes. length bytes == size) value (out-Value value) refl h in
-    let p = padded_again size v.bytes (eqb-true (length v.bytes) size v.passes) in
+    let v = text_value (λ bytes. length bytes == size && list_all is_byte bytes) value (out-Value value) refl h in
+    let p = padded_again size v.bytes (eqb-true (length v.bytes) size (and_parts (length v.bytes == size) (list_all is_byte v.bytes) v.passes).0) in
     rw v.out (record { read = rw p (ok_value (Text v.bytes) value v.is); clean = text_clean v.bytes; not_null = text_not_null v.bytes; shape = (λ depth. text_walk depth v.bytes, text_stays v.bytes); some_value = ap null_at v.out })
 
-pub string_again : {X : Type 0} (value : Value) → text_at (λ bytes. nat_le (length bytes) 16777216) (out-Value value) ≡ true → IsScalar {X = X} Ty-F.Str (scalar_text_at {X = X} {Y = Value} Ty-F.Str (out-Value value)) value
+pub string_again : {X : Type 0} (value : Value) → text_at (λ bytes. nat_le (length bytes) 16777216 && list_all is_byte bytes) (out-Value value) ≡ true → IsScalar {X = X} Ty-F.Str (scalar_text_at {X = X} {Y = Value} Ty-F.Str (out-Value value)) value
 string_again value h =
-    let v = text_value (λ bytes. nat_le (length bytes) 16777216) value (out-Value value) refl h in
-    let p = bounded_again MAX_TEXT v.bytes (leb-true (length v.bytes) 16777216 v.passes) in
+    let v = text_value (λ bytes. nat_le (length bytes) 16777216 && list_all is_byte bytes) value (out-Value value) refl h in
+    let p = bounded_again MAX_TEXT v.bytes (leb-true (length v.bytes) 16777216 (and_parts (nat_le (length v.bytes) 16777216) (list_all is_byte v.bytes) v.passes).0) in
     rw v.out (record { read = rw p (ok_value (Text v.bytes) value v.is); clean = text_clean v.bytes; not_null = text_not_null v.bytes; shape = (λ depth. text_walk depth v.bytes, text_stays v.bytes); some_value = ap null_at v.out })
 
 day_value : (value : Value) (n : ℤ) → Num n ≡ value → is_unsigned 16 n ≡ true → (day : ℕ) × (n ≡ pos day) × (day < 65536)

@@ -9,7 +9,7 @@ use std::error::Error;
 use std::fmt;
 
 /// What is wrong with a line or with its first bad field (docs/LANGUAGE.md, "Lines").
-#[derive(Clone, Copy, Debug, PartialEq, Eq)]
+#[derive(Clone, Copy, Debug, PartialEq)]
 pub enum RowWhy {
     /// The text ends before the line does.
     NoLineEnd,
@@ -32,7 +32,7 @@ pub enum RowWhy {
 }
 
 /// Why a text is no rows.
-#[derive(Clone, Copy, Debug, PartialEq, Eq)]
+#[derive(Clone, Copy, Debug, PartialEq)]
 pub enum RowError {
     /// The first line that is out of form, counted from 1, and its first why.
     At { line: u64, why: RowWhy },
@@ -45,7 +45,7 @@ pub enum RowError {
 }
 
 /// Why a line or a field has no value.
-#[derive(Clone, Copy, Debug, PartialEq, Eq)]
+#[derive(Clone, Copy)]
 pub enum FieldError {
     /// What is wrong with it.
     Bad(RowWhy),

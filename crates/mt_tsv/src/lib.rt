@@ -29,7 +29,7 @@ mod writing;
 pub use cells::room_after;
 pub use date::read_date;
 pub use fault::{RowError, RowWhy};
-pub use law::written_rows_are_read;
+pub use law::{rows_of_bytes_fit, written_rows_are_read};
 pub use mt_table::{MAX_CELLS, MAX_ROWS};
 pub use rows::read_rows;
 pub use writing::write_row;

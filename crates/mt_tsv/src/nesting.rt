@@ -6,7 +6,7 @@ ghost use Rattle.mt_tsv.specs.Nesting.{depth_of, after, is_outside, is_level, is
 use crate::ascii::{BACKSLASH, CLOSE, COMMA, OPEN, QUOTE};
 
 /// Where a byte stands between the brackets of an array.
-#[derive(Clone, Copy, Debug, PartialEq, Eq)]
+#[derive(Clone, Copy)]
 pub enum Nesting {
     /// Outside quotes, so many inner brackets deep.
     Outside(u64),

@@ -2,6 +2,7 @@ use Rattle.std.proofs.Common.{◌∷◌, length, sym, ap, ◌∙◌, arith}
 use Rattle.std.specs.Option.{option_copied}
 use Rattle.std.proofs.lemmas.Bool.{eqb-true, eqb-false}
 use Rattle.std.proofs.lemmas.List.{length_push}
+use Rattle.mt_types.proofs.ByteLemmas.{all_bytes}
 use Rattle.mt_tsv.specs.declared.ascii.TheConstants.{LINE_END}
 use Rattle.mt_table.specs.declared.limits.TheConstants.{MAX_CELLS}
 use Rattle.mt_tsv.specs.Reading.{parts, lines, rows_of, rows_reading}
@@ -25,7 +26,7 @@ returns-then-is_empty c =
     let reads = rows_ended c.lines.rows c.args.table.now.columns (length c.lines.rows) c.lines.room (lines c.lines.rest.now) c.cut.result.0.now (rows_reading c.args.table.now.columns c.args.text.now) here (eqb-true _ _ (sym c.is_empty.ensures ∙ c.if-is_empty.true)) c.lines.invariant.so_far in
     record {
       reads = reads;
-      fit = rows_fit c.args.table.now.columns c.args.text.now c.lines.rows reads;
+      fit = rows_fit c.args.table.now.columns c.args.text.now c.lines.rows (all_bytes c.args.text.now c.type_inv.text) reads;
       few_rows = few_rows c.args.table.now.columns c.args.text.now c.lines.rows reads;
       few_cells = few_cells c.args.table.now.columns c.args.text.now c.lines.rows reads;
       some = some_rows c.args.table.now.columns c.args.text.now c.lines.rows reads;
