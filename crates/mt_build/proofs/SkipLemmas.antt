@@ -19,7 +19,7 @@ use Rattle.mt_table.specs.ColumnTypes.{is_date_at, is_date_type, is_key_type, pl
 use Rattle.mt_table.specs.declared.limits.TheConstants.{MAX_PARTITION, MAX_SKIPS}
 use Rattle.mt_table.specs.Names.{places_differ}
 use Rattle.mt_table.specs.Kept.{keeps_expression, keeps_skip, month_place, plain_place}
-use Rattle.mt_tokens.specs.Words.{is_name}
+use Rattle.mt_types.specs.Words.{is_name}
 use Rattle.mt_table.specs.Tables.{fields_of_table}
 use Rattle.mt_table.proofs.KeptLemmas.{each_of}
 use Rattle.mt_shelf.specs.declared.file.FileBytes.{FileBytes}

@@ -7,6 +7,7 @@ use Rattle.std.proofs.lemmas.List.Concat.{flat_map_single}
 use Rattle.std.proofs.lemmas.List.Folds.{flat_map-map, list_all-append}
 use Rattle.std.proofs.lemmas.Bool.{and_parts, and_from, or_right}
 use Rattle.mt_types.specs.declared.limits.TheConstants.{MAX_TEXT, MAX_ELEMENTS, MAX_ARRAY_DEPTH}
+use Rattle.mt_types.specs.Bytes.{is_byte}
 use Rattle.mt_types.specs.declared.ty.Ty.{Ty, map-Ty, out-Ty, roll-Ty}
 use Rattle.mt_types.specs.declared.ty.Ty.TheOpen.{Ty-F}
 use Rattle.mt_types.specs.declared.ty.Ty.TheVariants.{Nullable, Array, outs-UInt, outs-Int, outs-Date, outs-Str, outs-FixedString, outs-Nullable, outs-Array}
@@ -124,8 +125,8 @@ single_not_null (Ty-F.Nullable u) single v fits = absurd single
 single_not_null (Ty-F.Array u) single v fits = absurd single
 single_not_null (Ty-F.UInt w) single v fits = num_not_null (is_unsigned (bits w)) (out-Value v) fits
 single_not_null (Ty-F.Int w) single v fits = num_not_null (is_signed (bits w)) (out-Value v) fits
-single_not_null (Ty-F.FixedString n) single v fits = text_not_null (λ bytes. length bytes == n) (out-Value v) fits
-single_not_null Ty-F.Str single v fits = text_not_null (λ bytes. nat_le (length bytes) MAX_TEXT) (out-Value v) fits
+single_not_null (Ty-F.FixedString n) single v fits = text_not_null (λ bytes. length bytes == n && list_all is_byte bytes) (out-Value v) fits
+single_not_null Ty-F.Str single v fits = text_not_null (λ bytes. nat_le (length bytes) MAX_TEXT && list_all is_byte bytes) (out-Value v) fits
 single_not_null Ty-F.Date single v fits = num_not_null (is_unsigned 16) (out-Value v) fits
 single_not_null (Ty-F.State agg u) single v fits = state_not_null (is_state_of agg (fits_of u)) (out-Value v) fits
 single_not_null Ty-F.CountState single v fits = state_not_null is_count (out-Value v) fits

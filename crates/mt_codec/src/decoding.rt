@@ -57,7 +57,7 @@ fn know_lists(streams: &[&[u8]])
 }
 
 /// Does nothing: the numbers of a slice are bytes.
-fn know_bytes(bytes: &[u8])
+pub fn know_bytes(bytes: &[u8])
     ensures { AreBytes bytes.now }
 {}
 

@@ -9,7 +9,7 @@ use std::error::Error;
 use std::fmt;
 
 /// Why no values were read.
-#[derive(Clone, Copy, Debug, PartialEq, Eq)]
+#[derive(Clone, Copy, Debug, PartialEq)]
 pub enum CodecError {
     /// The first fault: which substream, counted from 0; which item of it, counted from 0, or the
     /// number of its items where bytes follow the last one; and what is wrong.

@@ -14,7 +14,7 @@ mod nulls;
 mod stream;
 mod streams;
 
-pub use decoding::{decode, decode_front};
+pub use decoding::{decode, decode_front, know_bytes};
 pub use encoding::{encode, encode_runs};
 pub use fault::CodecError;
 pub use law::{

@@ -10,7 +10,7 @@ use mt_types::{List, NoMemory, Ty};
 use std::alloc::Global;
 
 /// A substream of a column (docs/FORMAT.md, "Substreams"; ClickHouse: `ISerialization::Substream`).
-#[derive(Clone, Copy, Debug, PartialEq, Eq)]
+#[derive(Clone, Copy, Debug, PartialEq)]
 pub enum Stream {
     /// The lengths of the arrays of a level, 8 bytes each. The outermost level is 0.
     Sizes(u32),

@@ -25,7 +25,6 @@ use Rattle.mt_defs.specs.Rows.{Row, column_values}
 use Rattle.mt_codec.specs.ColumnReading.{front_reading, is_empty}
 use Rattle.mt_codec.proofs.TypeLemmas.{encoded_front, front_encodes}
 use Rattle.mt_item.proofs.ExactLemmas.{small_of}
-use Rattle.mt_granules.specs.ByteFiles.{HasByteFiles}
 use Rattle.mt_granules.specs.ColumnRows.{all_values, row_at, rows_of}
 use Rattle.mt_granules.specs.FileFaults.{Judged, blame, file_fault, granule_fault, in_order}
 use Rattle.mt_granules.specs.PayloadReading.{GranulePayloads, granules_reading, payloads_reading}
@@ -242,14 +241,14 @@ rows_held folder count columns rows read profile held all e =
     run_long per (run ∷ more) zero are h = are.0
     run_long per (run ∷ more) (suc g) are h = run_long per more g are.1 (omega (arith, h))
 
-pub compact_held : (folder : Folder) (count : ℕ) (columns : List Column) (rows : List Row) (granules : List ℕ) → HasByteFiles folder → AreProfile columns → 1 ≤ length columns → compact_reading folder count columns ≡ Ok (rows, granules)
+pub compact_held : (folder : Folder) (count : ℕ) (columns : List Column) (rows : List Row) (granules : List ℕ) → AreProfile columns → 1 ≤ length columns → compact_reading folder count columns ≡ Ok (rows, granules)
     → HoldsRows columns rows granules count folder
-compact_held folder count columns rows granules files profile some e =
+compact_held folder count columns rows granules profile some e =
     ok_then (granules_reading folder count compact_data_name compact_marks_name (length columns)) _ (rows, granules) e (λ read is e.
     ok_then (payloads_reading folder compact_data_name compact_marks_name (length columns)) _ read is (λ found found_is is.
     required (sum found.granules == count) (file_fault compact_marks_name why.Rows) (λ _. Ok found) read is (λ all is.
     let same : read ≡ found = ok_one _ _ is in
-    let held = subst (AreHeld folder compact_data_name compact_marks_name (length columns)) (sym same) (payloads_held folder compact_data_name compact_marks_name (length columns) found files some found_is) in
+    let held = subst (AreHeld folder compact_data_name compact_marks_name (length columns)) (sym same) (payloads_held folder compact_data_name compact_marks_name (length columns) found some found_is) in
     let sums : sum read.granules ≡ count = ap (λ (r : GranulePayloads). sum r.granules) same ∙ eqb-true (sum found.granules) count all in
     ok_then (rows_reading read count columns) _ (rows, granules) e (λ list list_is e.
     let pair = ok_pair _ _ _ _ e in
@@ -264,9 +263,9 @@ runs_encoded columns [] (run ∷ more) p = absurd p
 runs_encoded columns (rows ∷ cut) [] p = absurd p
 runs_encoded columns (rows ∷ cut) (run ∷ more) p = (sym (pointwise_long _ (enumerate_from 0 columns) run p.0) ∙ length-enumerate_from 0 columns, runs_encoded columns cut more p.1)
 
-pub compact_read : (folder : Folder) (count : ℕ) (columns : List Column) (rows : List Row) (granules : List ℕ) → HasByteFiles folder → AreProfile columns → 1 ≤ length columns → length columns ≤ MAX_COLUMNS → 1 ≤ count → count ≤ MAX_ROWS
+pub compact_read : (folder : Folder) (count : ℕ) (columns : List Column) (rows : List Row) (granules : List ℕ) → AreProfile columns → 1 ≤ length columns → length columns ≤ MAX_COLUMNS → 1 ≤ count → count ≤ MAX_ROWS
     → HoldsRows columns rows granules count folder → compact_reading folder count columns ≡ Ok (rows, granules)
-compact_read folder count columns rows granules files profile some narrow any few holds =
+compact_read folder count columns rows granules profile some narrow any few holds =
     let is = holds.layout in
     let width = length columns in
     let grouped = is.payloads in
@@ -285,7 +284,7 @@ compact_read folder count columns rows granules files profile some narrow any fe
     let read : GranulePayloads = record { payloads = flat grouped; granules = granules } in
     let first : granules_reading folder count compact_data_name compact_marks_name width ≡ Ok read =
     then_of (payloads_reading folder compact_data_name compact_marks_name width) read _
-    (payloads_read folder compact_data_name compact_marks_name width grouped granules files some (omega (arith, narrow)) runs many payloads (not_none granules (omega (arith, all, any))) is.cut.not_empty (omega (arith, all, few)))
+    (payloads_read folder compact_data_name compact_marks_name width grouped granules some (omega (arith, narrow)) runs many payloads (not_none granules (omega (arith, all, any))) is.cut.not_empty (omega (arith, all, few)))
     ∙ passed (sum granules == count) (file_fault compact_marks_name why.Rows) _ (eq-eqb (sum granules) count all) in
     let numbered = enumerate_from 0 columns in
     let values : List (List (List Value)) = map (λ (i, column). map (column_values i) (granule_rows granules rows)) numbered in
@@ -322,13 +321,13 @@ compact_read folder count columns rows granules files profile some narrow any fe
 
 -- ---- both
 
-pub compact_exactly : (folder : Folder) (count : ℕ) (columns : List Column) (rows : List Row) (granules : List ℕ) → HasByteFiles folder → AreProfile columns → 1 ≤ length columns → length columns ≤ MAX_COLUMNS → 1 ≤ count → count ≤ MAX_ROWS
+pub compact_exactly : (folder : Folder) (count : ℕ) (columns : List Column) (rows : List Row) (granules : List ℕ) → AreProfile columns → 1 ≤ length columns → length columns ≤ MAX_COLUMNS → 1 ≤ count → count ≤ MAX_ROWS
     → (compact_reading folder count columns ≡ Ok (rows, granules)) ↔ HoldsRows columns rows granules count folder
-compact_exactly folder count columns rows granules files profile some narrow any few =
-    (compact_held folder count columns rows granules files profile some, compact_read folder count columns rows granules files profile some narrow any few)
+compact_exactly folder count columns rows granules profile some narrow any few =
+    (compact_held folder count columns rows granules profile some, compact_read folder count columns rows granules profile some narrow any few)
 
-pub one_list : (folder : Folder) (count : ℕ) (columns : List Column) (rows others : List Row) (granules marked : List ℕ) → HasByteFiles folder → AreProfile columns → 1 ≤ length columns → length columns ≤ MAX_COLUMNS → 1 ≤ count → count ≤ MAX_ROWS
+pub one_list : (folder : Folder) (count : ℕ) (columns : List Column) (rows others : List Row) (granules marked : List ℕ) → AreProfile columns → 1 ≤ length columns → length columns ≤ MAX_COLUMNS → 1 ≤ count → count ≤ MAX_ROWS
     → HoldsRows columns rows granules count folder → HoldsRows columns others marked count folder → (rows ≡ others) × (granules ≡ marked)
-one_list folder count columns rows others granules marked files profile some narrow any few one other =
-    let pair = ok_pair rows others granules marked (sym (compact_read folder count columns rows granules files profile some narrow any few one) ∙ compact_read folder count columns others marked files profile some narrow any few other) in
+one_list folder count columns rows others granules marked profile some narrow any few one other =
+    let pair = ok_pair rows others granules marked (sym (compact_read folder count columns rows granules profile some narrow any few one) ∙ compact_read folder count columns others marked profile some narrow any few other) in
     (sym pair.0, sym pair.1)

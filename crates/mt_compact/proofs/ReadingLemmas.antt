@@ -1,5 +1,5 @@
 -- Reading the columns of a Compact part one after another.
-use Rattle.std.proofs.Common.{◌≡◌, ℕ, ◌+◌, ◌<◌, ◌≤◌, List, [], ◌∷◌, ◌++◌, length, map, take, get_or, refl, ap, sym, ◌∙◌, subst}
+use Rattle.std.proofs.Common.{◌≡◌, ℕ, suc, ◌+◌, ◌<◌, ◌≤◌, List, [], ◌∷◌, ◌++◌, length, map, take, get_or, refl, ap, sym, ◌∙◌, subst, arith}
 use Rattle.std.specs.Prelude.{Ok, sum}
 use Rattle.std.specs.List.{enumerate_from}
 use Rattle.std.proofs.lemmas.List.{map-append, take_more}
@@ -13,7 +13,7 @@ use Rattle.mt_defs.specs.Compact.{compact_data_name, compact_marks_name}
 use Rattle.mt_granules.specs.FileFaults.{Judged, in_order}
 use Rattle.mt_granules.specs.PayloadReading.{GranulePayloads, granules_reading}
 use Rattle.mt_granules.specs.ColumnRows.{all_values, rows_of, with_column}
-use Rattle.mt_granules.proofs.OrderLemmas.{numbered_continues, numbered_ends}
+use Rattle.mt_granules.proofs.OrderLemmas.{numbered_continues, numbered_ends, order_next}
 use Rattle.mt_granules.proofs.RowLemmas.{column_added, length-all_values, length-rows_of}
 use Rattle.mt_compact.specs.CompactReading.{column_reading, compact_reading, rows_reading}
 
@@ -23,8 +23,16 @@ pub record IsReadSoFar (width : ℕ) (read : GranulePayloads) (count : ℕ) (col
   pub so_far : in_order (column_reading width read) columns ≡ Ok values
   pub rows_are : rows ≡ rows_of count (map all_values values)
 
-pub none_read : (width : ℕ) (read : GranulePayloads) (count : ℕ) (rows : List Row) → rows ≡ rows_of count [] → IsReadSoFar width read count [] rows
-none_read width read count rows is = record { values = []; so_far = refl; rows_are = is }
+pub first_read : (width : ℕ) (read : GranulePayloads) (count : ℕ) (columns others : List Column) (column : Column) (rows : List Row) (values : List (List Value)) → columns ≡ column ∷ others → column_reading width read (0, column) ≡ Ok values
+    → rows ≡ rows_of count (all_values values ∷ []) → IsReadSoFar width read count (take 1 (enumerate_from 0 columns)) rows
+first_read width read count columns others column rows values split here is =
+    let step = column_reading width read in
+    record { values = values ∷ []; so_far = ap (λ (cs : List Column). in_order step (take 1 (enumerate_from 0 cs))) split ∙ order_next step (0, column) [] values [] here refl; rows_are = is }
+
+-- a column after the first
+pub after_first : (columns others : List Column) (first column : Column) (i : ℕ) → columns ≡ first ∷ others → i < length others → column ≡ get_or others i column → (i + 1 < length columns) × (column ≡ get_or columns (i + 1) column)
+after_first columns others first column i split h at =
+    (omega (arith, h, ap (λ (cs : List Column). length cs) split), at ∙ ap (λ (k : ℕ). get_or (first ∷ others) k column) (let z : suc i ≡ i + 1 = omega arith in z) ∙ ap (λ (cs : List Column). get_or cs (i + 1) column) (sym split))
 
 pub values_fit : (count : ℕ) (granules : List ℕ) (values : List (List Value)) → map (λ (h : List Value). length h) values ≡ granules → sum granules ≡ count → length (all_values values) ≡ count
 values_fit count granules values each all = length-all_values values ∙ ap sum each ∙ all

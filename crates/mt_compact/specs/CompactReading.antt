@@ -21,7 +21,7 @@ abbrev pub value_fault : (granule : ℕ) → ℕ × (ℕ × CodecWhy) → Fault
 value_fault granule (stream, (item, reason)) = granule_fault compact_data_name granule (codec_why reason)
 
 -- a column's values in a granule of so many rows, of its payload there: its substreams follow each other, and
--- nothing is left
+-- nothing is left (3.8)
 abbrev pub payload_reading : Column → (granule count : ℕ) → List ℕ → Judged (List Value)
 payload_reading column granule count payload = do
   read ← blame (value_fault granule) (front_reading column.ty count payload)
@@ -41,7 +41,7 @@ column_reading width read (column_index, column) = in_order (granule_reading col
 abbrev pub rows_reading : GranulePayloads → (count : ℕ) → List Column → Judged (List Row)
 rows_reading read count columns = in_order (column_reading (length columns) read) (enumerate_from 0 columns) >>= λ values. Ok (rows_of count (map all_values values))
 
--- the rows of these columns, so many, and their granules
+-- the rows of these columns, so many, and their granules (3.1 to 3.5, 3.8)
 abbrev pub compact_reading : Folder → (count : ℕ) → List Column → Judged (List Row × List ℕ)
 compact_reading folder count columns = do
   read ← granules_reading folder count compact_data_name compact_marks_name (length columns)

@@ -6,7 +6,6 @@ ghost use Rattle.mt_table.specs.declared.column.Column.{Column};
 ghost use Rattle.mt_table.specs.declared.limits.TheConstants.{MAX_COLUMNS, MAX_ROWS};
 ghost use Rattle.mt_defs.specs.Folder.{Folder};
 ghost use Rattle.mt_defs.specs.Rows.{Row};
-ghost use Rattle.mt_granules.specs.ByteFiles.{HasByteFiles};
 ghost use Rattle.mt_compact.specs.HeldRows.{HoldsRows};
 ghost use Rattle.mt_compact.specs.CompactReading.{compact_reading};
 
@@ -14,7 +13,7 @@ ghost use Rattle.mt_compact.specs.CompactReading.{compact_reading};
 /// refused.
 pub fn compact_parts_are_read_exactly()
     ensures { (folder : Folder) (count : ℕ) (columns : List Column) (rows : List Row) (granules : List ℕ)
-        → HasByteFiles folder → All (λ column. IsTrue (is_profile column.ty)) columns → 1 ≤ length columns → length columns ≤ MAX_COLUMNS
+        → All (λ column. IsTrue (is_profile column.ty)) columns → 1 ≤ length columns → length columns ≤ MAX_COLUMNS
         → 1 ≤ count → count ≤ MAX_ROWS
         → (compact_reading folder count columns ≡ Ok (rows, granules)) ↔ HoldsRows columns rows granules count folder }
 {}
@@ -22,7 +21,7 @@ pub fn compact_parts_are_read_exactly()
 /// Files have one list of rows at most, and one list of granules, however they are written.
 pub fn compact_parts_have_one_list_of_rows()
     ensures { (folder : Folder) (count : ℕ) (columns : List Column) (rows others : List Row) (granules marked : List ℕ)
-        → HasByteFiles folder → All (λ column. IsTrue (is_profile column.ty)) columns → 1 ≤ length columns → length columns ≤ MAX_COLUMNS
+        → All (λ column. IsTrue (is_profile column.ty)) columns → 1 ≤ length columns → length columns ≤ MAX_COLUMNS
         → 1 ≤ count → count ≤ MAX_ROWS
         → HoldsRows columns rows granules count folder → HoldsRows columns others marked count folder
         → (rows ≡ others) × (granules ≡ marked) }

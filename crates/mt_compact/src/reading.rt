@@ -15,7 +15,7 @@ ghost use Rattle.mt_compact.specs.CompactReading.{column_reading, compact_readin
 
 use mt_codec::{CodecError, decode_front};
 use mt_granules::{
-    FileError, FileIndex, Payloads, append_column, codec_why, empty_rows, granule_fault,
+    FileError, FileIndex, Payloads, append_column, codec_why, first_rows, granule_fault,
     read_granules,
 };
 use mt_shelf::{FileBytes, ReadError, Why};
@@ -71,13 +71,14 @@ fn read_rows(
     Ok((List::of(rows), payloads.into_granules()))
 }
 
-/// The rows of the columns, so many, whose payloads these are.
+/// The rows of the columns, so many, whose payloads these are. They are made once the first column was read.
 fn read_columns(
     alloc: Global,
     payloads: &Payloads<'_>,
     count: u64,
     columns: &[Column],
 ) -> Result<Vec<Row>, FileError>
+    requires some { 1 ≤ length columns.now }
     requires profile { All (λ column. IsTrue (is_profile column.ty)) columns.now }
     requires rows { count ≤ MAX_ROWS }
     requires each { payloads.now.marks.per_granule ≡ length columns.now }
@@ -86,9 +87,13 @@ fn read_columns(
     ensures fit { IfOk result (λ rows. All (RowFits columns.now) rows.items) }
 {
     let width = columns.len();
-    let mut rows = empty_rows(alloc, count, width)?;
-    for (column_index, column) in columns.iter().enumerate() {
-        let values = read_column(alloc, payloads, width, column_index, column)?;
+    let Some((first, others)) = columns.split_first() else {
+        unreachable!()
+    };
+    let first_values = read_column(alloc, payloads, width, 0, first)?;
+    let mut rows = first_rows(alloc, first_values, count, width)?;
+    for (other_index, column) in others.iter().enumerate() {
+        let values = read_column(alloc, payloads, width, other_index + 1, column)?;
         append_column(values, &mut rows)?;
     }
     Ok(rows)

@@ -9,6 +9,7 @@ use Rattle.mt_table.specs.Rows.{Pointwise}
 use Rattle.mt_defs.specs.declared.mark.Mark.{Mark}
 use Rattle.mt_frame.specs.declared.frames.Frames.{Frames}
 use Rattle.mt_marks.specs.Entries.{Entry}
+use Rattle.mt_marks.specs.declared.rules.Former.{Former}
 use Rattle.mt_marks.specs.MarkReading.{is_placed, payload_len, is_last}
 use Rattle.mt_marks.specs.Positions.{position_of}
 use Rattle.mt_marks.proofs.RawLemmas.{all_rows}
@@ -16,7 +17,7 @@ use Rattle.mt_granules.proofs.RowLemmas.{sum-cons}
 use Rattle.mt_granules.proofs.MarksBytesLemmas.{entry_lists}
 use Rattle.mt_granules.proofs.MarksFileLemmas.{HaveMarks}
 use Rattle.mt_granules.proofs.CutLemmas.{AreRuns, RisesTo, flat}
-use Rattle.mt_granules.proofs.RuleLemmas.{Former, as_former, AreRuled, AreEntries, Rises, joined}
+use Rattle.mt_granules.proofs.RuleLemmas.{as_former, AreRuled, AreEntries, Rises, joined}
 
 -- ---- rows
 
@@ -69,12 +70,12 @@ last_placed : (former : Option Former) (end n : ℕ) → is_placed former true e
 last_placed None end n e = eqb-true n end (and_parts (n == 0) (n == end) e).1
 last_placed (Some f) end n e = eqb-true n end e
 
-all_at_end : (frames : Frames) (former : Option Former) (ms : List Mark) (ns : List ℕ) (after : Option Former) → AreRuled frames true former ms ns after → ns ≡ replicate (length ms) (payload_len frames)
+all_at_end : (frames : Frames) (former : Option Former) (ms : List Mark) (ns : List ℕ) (after : Option Former) → AreRuled frames true former ms ns after → ns ≡ replicate (length ms) (payload_len frames.list)
 all_at_end frames former [] [] after are = refl
 all_at_end frames former [] (n ∷ ns) after are = absurd are
 all_at_end frames former (m ∷ ms) [] after are = absurd are
 all_at_end frames former (m ∷ ms) (n ∷ ns) after are =
-    ap (λ (k : ℕ). k ∷ ns) (last_placed former (payload_len frames) n are.0.placed) ∙ ap (λ (l : List ℕ). payload_len frames ∷ l) (all_at_end frames (Some (as_former m n)) ms ns after are.1)
+    ap (λ (k : ℕ). k ∷ ns) (last_placed former (payload_len frames.list) n are.0.placed) ∙ ap (λ (l : List ℕ). payload_len frames.list ∷ l) (all_at_end frames (Some (as_former m n)) ms ns after are.1)
 
 -- the positions of the granules' marks, before those of the end
 pub record EndsAt (per end n : ℕ) (ps : List (List ℕ)) : Type 0 where
@@ -83,12 +84,12 @@ pub record EndsAt (per end n : ℕ) (ps : List (List ℕ)) : Type 0 where
   pub many : length front ≡ n
   pub are : AreRuns per front
 
-pub ends_at : (frames : Frames) (per total : ℕ) (former : Option Former) (es : List Entry) (ps : List (List ℕ)) → AreEntries frames total former es ps → HaveMarks per es → 1 ≤ length es → EndsAt per (payload_len frames) (length es - 1) ps
+pub ends_at : (frames : Frames) (per total : ℕ) (former : Option Former) (es : List Entry) (ps : List (List ℕ)) → AreEntries frames total former es ps → HaveMarks per es → 1 ≤ length es → EndsAt per (payload_len frames.list) (length es - 1) ps
 ends_at frames per total former [] ps are have some = absurd (omega arith)
 ends_at frames per total former (x ∷ es) [] are have some = absurd are
 ends_at frames per total former (x ∷ []) (ns ∷ []) are have some = record {
   front = [];
-  split = ap (λ (l : List ℕ). l ∷ []) (all_at_end frames former x.marks ns are.1.0 are.1.1 ∙ ap (λ (k : ℕ). replicate k (payload_len frames)) have.0);
+  split = ap (λ (l : List ℕ). l ∷ []) (all_at_end frames former x.marks ns are.1.0 are.1.1 ∙ ap (λ (k : ℕ). replicate k (payload_len frames.list)) have.0);
   many = refl;
   are = tt;
 }
@@ -112,7 +113,7 @@ begins_at frames total (x ∷ es) (ns ∷ ps) per are have some many = first x.m
     first [] ns ruled h = absurd (omega arith)
     first (m ∷ ms) [] ruled h = absurd ruled
     first (m ∷ ms) (n ∷ ns) ruled h =
-        (ns ++ joined ps, ap (λ (k : ℕ). k ∷ (ns ++ joined ps)) (eqb-true n 0 (and_parts (n == 0) (not (is_last es) || (n == payload_len frames)) ruled.0.placed).0))
+        (ns ++ joined ps, ap (λ (k : ℕ). k ∷ (ns ++ joined ps)) (eqb-true n 0 (and_parts (n == 0) (not (is_last es) || (n == payload_len frames.list)) ruled.0.placed).0))
 
 pub rises_to : (a top total : ℕ) (xs rest : List ℕ) → Rises a (xs ++ total ∷ rest) top → RisesTo a (xs ++ total ∷ []) total
 rises_to a top total [] rest r = (r.0, refl)

@@ -1,5 +1,5 @@
 -- Rows whose values are of their columns' types, as they gain a column.
-use Rattle.std.proofs.Common.{◌≡◌, ℕ, zero, suc, ◌+◌, ◌≤◌, Bool, List, [], ◌∷◌, ◌++◌, length, take, get_or, refl, ap, sym, ◌∙◌, subst, arith}
+use Rattle.std.proofs.Common.{◌≡◌, ℕ, zero, suc, ◌+◌, ◌≤◌, Bool, List, [], ◌∷◌, ◌++◌, length, take, get_or, ap, sym, ◌∙◌, subst, arith}
 use Rattle.std.specs.Prelude.{All, IsTrue, replicate}
 use Rattle.std.specs.List.{list_all}
 use Rattle.std.proofs.lemmas.Bool.{and_parts, and_from}
@@ -11,7 +11,7 @@ use Rattle.mt_types.specs.Fits.{fits_of}
 use Rattle.mt_table.specs.declared.column.Column.{Column}
 use Rattle.mt_defs.specs.Rows.{Row, RowFits}
 use Rattle.mt_granules.specs.ColumnRows.{all_values, rows_of, with_column}
-use Rattle.mt_granules.proofs.RowLemmas.{empty_rows, values_more}
+use Rattle.mt_granules.proofs.RowLemmas.{column_added, empty_rows, length-rows_of, values_more}
 
 row_fits_more : (columns : List Column) (column : Column) (row : Row) (v : Value) → RowFits columns row → IsTrue (fits_of column.ty v) → RowFits (columns ++ column ∷ []) (row ++ v ∷ [])
 row_fits_more [] column [] v fits fit = (fit, tt)
@@ -44,9 +44,13 @@ no_values : (count : ℕ) → All (RowFits []) (replicate count [])
 no_values zero = All-nil (RowFits [])
 no_values (suc count) = All-cons (RowFits []) [] (replicate count []) tt (no_values count)
 
--- no column
-pub none_fit : (count : ℕ) (rows : List Row) → rows ≡ rows_of count [] → All (RowFits []) rows
-none_fit count rows is = subst (All (RowFits [])) (empty_rows count ∙ sym is) (no_values count)
+-- the first column
+pub first_fits : (columns others : List Column) (column : Column) (count : ℕ) (rows : List Row) (values : List Value) → columns ≡ column ∷ others → length values ≡ count → rows ≡ rows_of count (values ∷ [])
+    → IsTrue (list_all (fits_of column.ty) values) → All (RowFits (take 1 columns)) rows
+first_fits columns others column count rows values split many rows_are fit =
+    let none : All (RowFits []) (rows_of count []) = subst (All (RowFits [])) (empty_rows count) (no_values count) in
+    subst (λ (cs : List Column). All (RowFits (take 1 cs)) rows) (sym split)
+    (subst (All (RowFits (column ∷ []))) (sym (rows_are ∙ column_added count [] values many)) (added_fit [] column (rows_of count []) values (many ∙ sym (length-rows_of count [])) none fit))
 
 -- a granule more
 pub granule_fits : (fits : Value → Bool) (values new : List (List Value)) (here : List Value) → new ≡ values ++ here ∷ [] → IsTrue (list_all fits (all_values values)) → IsTrue (list_all fits here) → IsTrue (list_all fits (all_values new))

@@ -9,13 +9,14 @@ use Rattle.mt_table.specs.Rows.{Pointwise}
 use Rattle.mt_defs.specs.declared.mark.Mark.{Mark}
 use Rattle.mt_frame.specs.declared.frames.Frames.{Frames}
 use Rattle.mt_marks.specs.Entries.{Entry}
+use Rattle.mt_marks.specs.declared.rules.Former.{Former}
 use Rattle.mt_marks.specs.MarkReading.{offset_before, position_before, is_placed, payload_len}
 use Rattle.mt_marks.specs.Positions.{position_of}
 use Rattle.mt_marks.proofs.RawLemmas.{all_marks, all_rows}
 use Rattle.mt_granules.proofs.RowLemmas.{sum-cons}
 use Rattle.mt_granules.proofs.MarksBytesLemmas.{entry_lists}
 use Rattle.mt_granules.proofs.MarksFileLemmas.{HaveMarks}
-use Rattle.mt_granules.proofs.RuleLemmas.{Former, as_former, AreRuled, AreEntries, Rises, joined}
+use Rattle.mt_granules.proofs.RuleLemmas.{as_former, AreRuled, AreEntries, Rises, joined}
 
 abbrev Denote : Frames → List Mark → List ℕ → Type 0
 Denote frames = Pointwise (λ m n. position_of frames m ≡ Some n)
@@ -54,15 +55,15 @@ record AreBuilt (frames : Frames) (last : Bool) (former : Option Former) (ms : L
   begun : 1 ≤ length ms → (rest : List ℕ) → Begins after rest
 
 build : (frames : Frames) (last : Bool) (former : Option Former) (ms : List Mark) (ns more offsets : List ℕ) (top foot : ℕ) → Denote frames ms ns → Rises (position_before former) (ns ++ more) top
-    → Rises (offset_before former) (map (λ (m : Mark). m.offset) ms ++ offsets) foot → Begins former ns → (last ≡ true → All (λ n. n ≡ payload_len frames) ns) → AreBuilt frames last former ms ns more offsets top foot
+    → Rises (offset_before former) (map (λ (m : Mark). m.offset) ms ++ offsets) foot → Begins former ns → (last ≡ true → All (λ n. n ≡ payload_len frames.list) ns) → AreBuilt frames last former ms ns more offsets top foot
 build frames last former [] [] more offsets top foot denote up on begins ends = record { after = former; are = refl; positions = up; offsets_rise = on; begun = λ some rest. absurd (omega arith) }
 build frames last former [] (n ∷ ns) more offsets top foot denote up on begins ends = absurd denote
 build frames last former (m ∷ ms) [] more offsets top foot denote up on begins ends = absurd denote
 build frames last former (m ∷ ms) (n ∷ ns) more offsets top foot denote up on begins ends =
-    let rest = build frames last (Some (as_former m n)) ms ns more offsets top foot denote.1 up.1 on.1 tt (λ e. All-tail (λ n. n ≡ payload_len frames) n ns (ends e)) in
+    let rest = build frames last (Some (as_former m n)) ms ns more offsets top foot denote.1 up.1 on.1 tt (λ e. All-tail (λ n. n ≡ payload_len frames.list) n ns (ends e)) in
     record {
       after = rest.after;
-      are = (record { order = on.0; denotes = denote.0; placed = placed_ok former last (payload_len frames) n ns begins (λ e. All-head (λ n. n ≡ payload_len frames) n ns (ends e)); climbs = up.0 }, rest.are);
+      are = (record { order = on.0; denotes = denote.0; placed = placed_ok former last (payload_len frames.list) n ns begins (λ e. All-head (λ n. n ≡ payload_len frames.list) n ns (ends e)); climbs = up.0 }, rest.are);
       positions = rest.positions;
       offsets_rise = rest.offsets_rise;
       begun = λ some others. begun_on ms ns rest.after rest.are (rest.begun) others;
@@ -91,7 +92,7 @@ offsets_append [] others = refl
 offsets_append (m ∷ ms) others = ap (λ (l : List ℕ). m.offset ∷ l) (offsets_append ms others)
 
 pub build_entries : (frames : Frames) (per total : ℕ) (former : Option Former) (es : List Entry) (ps : List (List ℕ)) (top foot : ℕ) → 1 ≤ per → HaveMarks per es → Pointwise (Denote frames) (entry_lists es) ps
-    → Rises (position_before former) (joined ps) top → Rises (offset_before former) (map (λ (m : Mark). m.offset) (all_marks es)) foot → Begins former (joined ps) → AtEnd (payload_len frames) ps → RowsFit total (all_rows es)
+    → Rises (position_before former) (joined ps) top → Rises (offset_before former) (map (λ (m : Mark). m.offset) (all_marks es)) foot → Begins former (joined ps) → AtEnd (payload_len frames.list) ps → RowsFit total (all_rows es)
     → AreEntries frames total former es ps
 build_entries frames per total former [] [] top foot some have denote up on begins ends rows = tt
 build_entries frames per total former [] (ns ∷ ps) top foot some have denote up on begins ends rows = absurd denote

@@ -15,6 +15,7 @@ pub mod PayloadLemmas
 pub mod StepLemmas
 pub mod CutLemmas
 pub mod MarksBytesLemmas
+pub mod FileByteLemmas
 pub mod EntriesLemmas
 pub mod PayloadsHeldLemmas
 pub mod KeptRulesLemmas

@@ -5,12 +5,13 @@ use Rattle.std.proofs.lemmas.Bool.{leb-true, eqb-true}
 use Rattle.std.proofs.lemmas.List.{take_at, drop_at, length-append}
 use Rattle.mt_shelf.specs.declared.fault.Why.{Why}
 use Rattle.mt_shelf.specs.declared.fault.Why.TheVariants as why
+use Rattle.mt_types.specs.Steps.{ok_or}
 use Rattle.mt_types.proofs.StepLemmas.{ok_then, ok_one, required}
 use Rattle.mt_defs.specs.declared.mark.Mark.{Mark}
 use Rattle.mt_frame.specs.declared.frames.Frames.{Frames}
 use Rattle.mt_marks.specs.declared.marks.Marks.{Marks}
 use Rattle.mt_marks.specs.Entries.{Entry, entries_in, entries_of}
-use Rattle.mt_marks.specs.MarkReading.{entries_from, entries_reading, marks_of, entry_len, marks_reading, rules_reading, in_granule, ok_or}
+use Rattle.mt_marks.specs.MarkReading.{entries_from, entries_reading, marks_of, entry_len, marks_reading, rules_reading, in_granule}
 use Rattle.mt_marks.proofs.RawLemmas.{all_marks, all_rows, length-marks_from, entries_none, entries_next}
 
 -- each entry has so many marks

@@ -1,13 +1,11 @@
 -- What is read of a data file and its marks file is what they hold.
-use Rattle.std.proofs.Common.{◌≡◌, ℕ, zero, suc, ◌+◌, ◌-◌, ◌*◌, ◌^◌, ◌<◌, ◌≤◌, List, [], ◌∷◌, ◌++◌, length, map, take, drop, refl, ap, sym, ◌∙◌, subst, arith, append_assoc, length-append, Option, Some, None}
+use Rattle.std.proofs.Common.{◌≡◌, ℕ, zero, suc, ◌+◌, ◌-◌, ◌*◌, ◌/◌, ◌^◌, ◌<◌, ◌≤◌, List, [], ◌∷◌, ◌++◌, length, map, take, drop, refl, ap, sym, ◌∙◌, subst, arith, append_assoc, length-append, Some, None}
 use Rattle.std.specs.Prelude.{All, Ok, replicate}
 use Rattle.std.specs.List.{concat, flat_map, sum}
 use Rattle.std.proofs.Math.Nat.{mod-eq-sub-div-mul, div-mul-le_self}
 use Rattle.std.proofs.lemmas.List.{length-map, length-take-le, take_all, take_at}
 use Rattle.std.proofs.lemmas.List.Elements.{All-nil, All-cons, All-head, All-tail, All-take, All-drop, All-append}
-use Rattle.mt_types.specs.Steps.{ok_or}
 use Rattle.mt_types.proofs.StepLemmas.{ok_then, ok_one}
-use Rattle.mt_shelf.specs.declared.fault.Why.TheVariants as why
 use Rattle.mt_table.specs.Rows.{Pointwise}
 use Rattle.mt_defs.specs.declared.frame.Frame.{Frame}
 use Rattle.mt_defs.specs.declared.mark.Mark.{Mark}
@@ -25,8 +23,8 @@ use Rattle.mt_marks.specs.MarkReading.{entry_len, marks_reading, payload_len}
 use Rattle.mt_marks.specs.Positions.{position_of}
 use Rattle.mt_marks.proofs.DenotedLemmas.{position_denotes}
 use Rattle.mt_marks.proofs.RawLemmas.{all_marks, all_rows}
-use Rattle.mt_granules.specs.ByteFiles.{HasByteFiles, IsByteFile}
-use Rattle.mt_granules.specs.FileFaults.{blame, file_fault, file_reading, frame_fault, marks_fault}
+use Rattle.mt_marks.proofs.WordLemmas.{HasWords, places_fit}
+use Rattle.mt_granules.specs.FileFaults.{blame, file_reading, frame_fault, marks_fault}
 use Rattle.mt_granules.specs.PayloadReading.{GranulePayloads, frames_in, granules_of, mark_count, payloads_of, payloads_reading, pieces, positions_of}
 use Rattle.std.specs.List.Sorted.{IsNonDecreasingBy}
 use Rattle.mt_granules.proofs.StepLemmas.{blame_ok}
@@ -36,6 +34,7 @@ use Rattle.mt_granules.proofs.RuleLemmas.{Rises, all_entries, climb_all, entries
 use Rattle.mt_granules.proofs.MarkLemmas.{file_is, frames_are, payload_is, positions_are}
 use Rattle.mt_granules.proofs.MarksFileLemmas.{marks_read}
 use Rattle.mt_granules.proofs.MarksBytesLemmas.{entry_lists, file_encodes}
+use Rattle.mt_granules.proofs.FileByteLemmas.{file_was_read}
 use Rattle.mt_granules.proofs.CutLemmas.{AreRuns, RisesTo, concat_flat, flat, length-flat, length-runs, pieces_joined, pieces_start, runs, runs_are, runs_back, runs_joined, sizes_of, sizes_runs, starts_runs, sum_grouped}
 use Rattle.mt_granules.proofs.EntriesLemmas.{begins_at, each_below, ends_at, entries_denote, joined_last, never_fall, rises_to, rows_end, rows_small}
 
@@ -65,7 +64,7 @@ lengths_paid offset (c ∷ cs) =
     ∙ sum-cons (length c.payload) (map (λ (f : Frame). f.payload) (layout_from (offset + (25 + length c.payload)) cs))
     ∙ omega (arith, lengths_paid (offset + (25 + length c.payload)) cs, length-append c.payload (payload_of cs))
 
-pub len_is : (frames : Frames) (blocks : List Block) → frames.list ≡ layout blocks → payload_len frames ≡ length (payload_of blocks)
+pub len_is : (frames : Frames) (blocks : List Block) → frames.list ≡ layout blocks → payload_len frames.list ≡ length (payload_of blocks)
 len_is frames blocks is = ap (λ (fs : List Frame). sum (map (λ (f : Frame). f.payload) fs)) is ∙ lengths_paid 0 blocks
 
 paid_bytes : (blocks : List Block) → All IsBlock blocks → AreBytes (payload_of blocks)
@@ -155,12 +154,12 @@ pub record AreHeld (folder : Folder) (data_name marks_name : List ℕ) (per : �
   pub not_empty : 1 ≤ length read.granules
   pub bytes : All AreBytes read.payloads
 
-held : (folder : Folder) (data_name marks_name : List ℕ) (per : ℕ) (file bytes : List ℕ) (frames : Frames) (marks : Marks) → IsByteFile file → IsByteFile bytes → 1 ≤ per → folder data_name ≡ Some file → folder marks_name ≡ Some bytes
+held : (folder : Folder) (data_name marks_name : List ℕ) (per : ℕ) (file bytes : List ℕ) (frames : Frames) (marks : Marks) → AreBytes file → AreBytes bytes → 1 ≤ per → folder data_name ≡ Some file → folder marks_name ≡ Some bytes
     → frames_in file ≡ Ok frames → marks_reading per frames bytes ≡ Ok marks → AreHeld folder data_name marks_name per (payloads_of file frames marks)
 held folder data_name marks_name per file bytes frames marks file_bytes marks_bytes some has_data has_marks framed marked =
     let cut = frames_are file frames framed in
     let blocks = cut.blocks in
-    let is = file_is file blocks file_bytes.0 cut.reads in
+    let is = file_is file blocks file_bytes cut.reads in
     let payload : List ℕ = payload_of blocks in
     let are_frames : AreFramesOf frames file = (blocks, is, cut.list, cut.end) in
     let read = marks_read per frames bytes marks marked in
@@ -170,7 +169,7 @@ held folder data_name marks_name per file bytes frames marks file_bytes marks_by
     let n : ℕ = length es - 1 in
     let climb = climb_all frames 0 None es ps entries.1 in
     let ends = ends_at frames per 0 None es ps entries.1 read.have (omega (arith, read.many)) in
-    let end : ℕ = payload_len frames in
+    let end : ℕ = payload_len frames.list in
     let split : joined ps ≡ flat ends.front ++ replicate per end = ap joined ends.split ∙ joined_last ends.front (replicate per end) in
     let piece = pieces_of per n end climb.top payload (joined ps) ends.front some (len_is frames blocks cut.list) ends.many ends.are split climb.positions (begins_at frames 0 es ps per entries.1 read.have some (omega (arith, read.many))) in
     let grouped = runs per n piece.cut in
@@ -188,8 +187,9 @@ held folder data_name marks_name per file bytes frames marks file_bytes marks_by
     let total : sum (map sum (map sizes_of grouped)) ≡ end = sum_grouped grouped ∙ ap (λ (l : List ℕ). length l) whole ∙ sym (len_is frames blocks cut.list) in
     let positions : ps ≡ granule_starts 0 (map sizes_of grouped) ++ replicate per (sum (map sum (map sizes_of grouped))) ∷ [] =
     ends.split ∙ ap (λ (l : List (List ℕ)). l ++ replicate per end ∷ []) (sym piece.starts) ∙ ap (λ (k : ℕ). granule_starts 0 (map sizes_of grouped) ++ replicate per k ∷ []) (sym total) in
+    let words : All HasWords (all_marks es) = subst (λ (l : List Entry). All HasWords (all_marks l)) (sym read.are) (places_fit per (length bytes / entry_len per) bytes (small_of bytes marks_bytes)) in
     let encoded : bytes ≡ bytes_of_marks (entry_lists es) (granules_of marks ++ 0 ∷ []) =
-    file_encodes per bytes es (small_of bytes marks_bytes.0) read.are (omega (arith, read.whole, mod-eq-sub-div-mul (length bytes) (entry_len per), div-mul-le_self (length bytes) (entry_len per)))
+    file_encodes per bytes es (small_of bytes marks_bytes) read.are (omega (arith, read.whole, mod-eq-sub-div-mul (length bytes) (entry_len per), div-mul-le_self (length bytes) (entry_len per)))
     ∙ ap (bytes_of_marks (entry_lists es)) rows_are in
     record {
       grouped = grouped;
@@ -206,6 +206,7 @@ held folder data_name marks_name per file bytes frames marks file_bytes marks_by
           marks = entry_lists es;
           encoded = encoded;
           few_rows = each_below (2 ^ 64) (granules_of marks) small;
+          few_offsets = subst (All (λ (m : Mark). m.offset < 2 ^ 64)) (sym (lists_flat es)) (λ k d inside. (words k d inside).offset);
           positions = subst (Pointwise (Pointwise (MarksPosition file)) (entry_lists es)) positions (all_positions frames file are_frames (entry_lists es) ps (entries_denote frames 0 None es ps entries.1));
           order = subst (IsNonDecreasingBy (λ (mark : Mark). mark.offset)) (sym (lists_flat es)) (never_fall 0 climb.foot (all_marks es) climb.offsets);
         };
@@ -216,18 +217,14 @@ held folder data_name marks_name per file bytes frames marks file_bytes marks_by
       bytes = subst (All AreBytes) (sym payloads_are) (subst (All AreBytes) (sym piece.are) (pieces_bytes payload (take (n * per + 1) (joined ps)) (paid_bytes blocks is.each)));
     }
 
-found : {A E : Type 0} (o : Option A) (w : E) (x : A) → ok_or w o ≡ Ok x → o ≡ Some x
-found {A} (Some y) w x e = ap (λ (b : A). Some b) (sym (ok_one _ _ e))
-found None w x e = cc
-
-pub payloads_held : (folder : Folder) (data_name marks_name : List ℕ) (per : ℕ) (read : GranulePayloads) → HasByteFiles folder → 1 ≤ per → payloads_reading folder data_name marks_name per ≡ Ok read → AreHeld folder data_name marks_name per read
-payloads_held folder data_name marks_name per read files some e =
+pub payloads_held : (folder : Folder) (data_name marks_name : List ℕ) (per : ℕ) (read : GranulePayloads) → 1 ≤ per → payloads_reading folder data_name marks_name per ≡ Ok read → AreHeld folder data_name marks_name per read
+payloads_held folder data_name marks_name per read some e =
     ok_then (file_reading folder data_name) _ read e (λ file has_data e.
     ok_then (blame (frame_fault data_name) (frames_in file)) _ read e (λ frames framed e.
     ok_then (file_reading folder marks_name) _ read e (λ bytes has_marks e.
     ok_then (blame (marks_fault marks_name) (marks_reading per frames bytes)) _ read e (λ marks marked e.
-    let data_is = found (folder data_name) (file_fault data_name why.Missing) file has_data in
-    let marks_is = found (folder marks_name) (file_fault marks_name why.Missing) bytes has_marks in
+    let frames_at = file_was_read folder data_name file has_data in
+    let marks_at = file_was_read folder marks_name bytes has_marks in
     subst (AreHeld folder data_name marks_name per) (sym (ok_one _ _ e))
-    (held folder data_name marks_name per file bytes frames marks (files data_name file data_is) (files marks_name bytes marks_is) some data_is marks_is (blame_ok (frame_fault data_name) (frames_in file) frames framed)
+    (held folder data_name marks_name per file bytes frames marks frames_at.bytes marks_at.bytes some frames_at.has marks_at.has (blame_ok (frame_fault data_name) (frames_in file) frames framed)
     (blame_ok (marks_fault marks_name) (marks_reading per frames bytes) marks marked))))))

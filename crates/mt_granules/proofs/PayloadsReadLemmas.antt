@@ -5,7 +5,6 @@ use Rattle.std.specs.List.{concat, sum}
 use Rattle.std.proofs.lemmas.Bool.{le-leb, eq-eqb, and_from}
 use Rattle.std.proofs.lemmas.List.{length-map, take_at}
 use Rattle.std.proofs.lemmas.Nat.{mul-le}
-use Rattle.std.proofs.lemmas.List.Concat.{flat_map-append}
 use Rattle.std.proofs.lemmas.List.Elements.{All-nil, All-cons, All-head, All-tail, All-append}
 use Rattle.mt_types.specs.Steps.{◌>>=◌, require, ok_or}
 use Rattle.mt_types.proofs.StepLemmas.{passed, then_of}
@@ -17,7 +16,7 @@ use Rattle.mt_defs.specs.declared.frame.TheConstants.{MAX_PAYLOAD}
 use Rattle.mt_defs.specs.declared.mark.Mark.{Mark}
 use Rattle.mt_defs.specs.Folder.{Folder}
 use Rattle.mt_defs.specs.Frames.{Block, IsBlock, IsFileOf, block_bytes, file_of, payload_of}
-use Rattle.mt_defs.specs.Lists.{offsets_from}
+use Rattle.mt_defs.specs.Lists.{AreBytes, offsets_from}
 use Rattle.mt_defs.specs.Marks.{IsMarksFile, MarksPosition, granule_starts, marks_bytes}
 use Rattle.mt_frame.specs.declared.frames.Frames.{Frames}
 use Rattle.mt_frame.specs.EndToEnd.{lie_end_to_end}
@@ -28,13 +27,11 @@ use Rattle.mt_frame.proofs.LawLemmas.{read_exactly}
 use Rattle.mt_marks.specs.declared.marks.Marks.{Marks}
 use Rattle.mt_marks.specs.Entries.{AreMarks, Entry, HaveWords, entry_marks, mark_runs}
 use Rattle.mt_marks.specs.MarkReading.{entries_reading, in_granule, marks_of, marks_reading, payload_len, rules_reading}
-use Rattle.mt_marks.specs.MarkReading.{ok_or as marks_ok_or}
 use Rattle.mt_marks.specs.Positions.{position_of}
 use Rattle.mt_marks.proofs.DenotedLemmas.{position_denotes}
 use Rattle.mt_marks.proofs.RawLemmas.{all_marks, all_rows}
 use Rattle.mt_marks.proofs.WrittenLemmas.{written_read}
-use Rattle.mt_granules.specs.ByteFiles.{HasByteFiles, IsByteFile}
-use Rattle.mt_granules.specs.FileFaults.{blame, file_fault, file_reading, frame_fault, marks_fault}
+use Rattle.mt_granules.specs.FileFaults.{blame, file_reading, frame_fault, marks_fault}
 use Rattle.mt_granules.specs.PayloadReading.{GranulePayloads, frames_in, granules_of, mark_count, payload_in, payloads_of, payloads_reading, pieces, positions_of}
 use Rattle.mt_granules.proofs.DataFileLemmas.{length-offsets}
 use Rattle.mt_granules.proofs.RowLemmas.{sum-cons}
@@ -42,6 +39,7 @@ use Rattle.mt_granules.proofs.RuleLemmas.{Rises, entries_read, joined}
 use Rattle.mt_granules.proofs.MarkLemmas.{frames_found, payload_is, positions_are}
 use Rattle.mt_granules.proofs.MarksFileLemmas.{HaveMarks, entries_are, read_have}
 use Rattle.mt_granules.proofs.MarksBytesLemmas.{entry_lists}
+use Rattle.mt_granules.proofs.FileByteLemmas.{file_is_read, frames_are_bytes, marks_are_bytes}
 use Rattle.mt_granules.proofs.CutLemmas.{AreRuns, concat_flat, flat, length-flat, length-runs, pieces_back, runs, runs_are, runs_back, runs_joined, sizes_of, sizes_runs, starts_runs, sum_grouped, sum_sizes}
 use Rattle.mt_granules.proofs.EntriesLemmas.{joined_last}
 use Rattle.mt_granules.proofs.KeptRulesLemmas.{Begins, RowsFit, all_copies, at_end, build_entries, offsets_rise, rows_fit}
@@ -66,13 +64,6 @@ frames_for file blocks is =
 
 -- ---- marks are numbers of 64 bits
 
-file_front : (before : List Block) (rest : List Block) (file : List ℕ) → file ≡ file_of (before ++ rest) → length (file_of before) ≤ length file
-file_front before rest file e = omega (arith, ap (λ (b : List ℕ). length b) (e ∙ flat_map-append block_bytes before rest), length-append (file_of before) (file_of rest))
-
-offset_within : (file : List ℕ) (mark : Mark) (position : ℕ) → MarksPosition file mark position → mark.offset ≤ length file
-offset_within file mark position (blocks, is, inl at) = omega (arith, at.at_offset, file_front at.before (at.here ∷ at.after) file (is.bytes ∙ ap file_of at.split))
-offset_within file mark position (blocks, is, inr at) = omega (arith, at.at_offset, ap (λ (b : List ℕ). length b) is.bytes)
-
 here_block : (before after blocks : List Block) (here : Block) → blocks ≡ before ++ here ∷ after → All IsBlock blocks → IsBlock here
 here_block before after blocks here e are = second before (subst (All IsBlock) e are)
   where
@@ -84,22 +75,15 @@ inner_small : (file : List ℕ) (mark : Mark) (position : ℕ) → MarksPosition
 inner_small file mark position (blocks, is, inl at) = let here = here_block at.before at.after blocks at.here at.split is.each in omega (arith, at.within, here.small)
 inner_small file mark position (blocks, is, inr at) = omega (arith, at.at_start)
 
-words_one : (file : List ℕ) (ms : List Mark) (ns : List ℕ) → length file < 2 ^ 64 → Pointwise (MarksPosition file) ms ns → All (λ (m : Mark). m.offset < 2 ^ 64) ms × All (λ (m : Mark). m.inner < 2 ^ 64) ms
-words_one file [] ns small p = (All-nil (λ (m : Mark). m.offset < 2 ^ 64), All-nil (λ (m : Mark). m.inner < 2 ^ 64))
-words_one file (m ∷ ms) [] small p = absurd p
-words_one file (m ∷ ms) (n ∷ ns) small p =
-    let more = words_one file ms ns small p.1 in
-    let offset = offset_within file m n p.0 in
-    let inner = inner_small file m n p.0 in
-    (All-cons (λ (m : Mark). m.offset < 2 ^ 64) m ms (omega (arith, offset, small)) more.0, All-cons (λ (m : Mark). m.inner < 2 ^ 64) m ms (omega (arith, inner)) more.1)
+inners_one : (file : List ℕ) (ms : List Mark) (ns : List ℕ) → Pointwise (MarksPosition file) ms ns → All (λ (m : Mark). m.inner < 2 ^ 64) ms
+inners_one file [] ns p = All-nil (λ (m : Mark). m.inner < 2 ^ 64)
+inners_one file (m ∷ ms) [] p = absurd p
+inners_one file (m ∷ ms) (n ∷ ns) p = let inner = inner_small file m n p.0 in All-cons (λ (m : Mark). m.inner < 2 ^ 64) m ms (omega (arith, inner)) (inners_one file ms ns p.1)
 
-words_all : (file : List ℕ) (ms : List (List Mark)) (ps : List (List ℕ)) → length file < 2 ^ 64 → Pointwise (Pointwise (MarksPosition file)) ms ps → All (λ (m : Mark). m.offset < 2 ^ 64) (flat ms) × All (λ (m : Mark). m.inner < 2 ^ 64) (flat ms)
-words_all file [] ps small p = (All-nil (λ (m : Mark). m.offset < 2 ^ 64), All-nil (λ (m : Mark). m.inner < 2 ^ 64))
-words_all file (m ∷ ms) [] small p = absurd p
-words_all file (m ∷ ms) (n ∷ ns) small p =
-    let here = words_one file m n small p.0 in
-    let more = words_all file ms ns small p.1 in
-    (All-append (λ (m : Mark). m.offset < 2 ^ 64) m (flat ms) here.0 more.0, All-append (λ (m : Mark). m.inner < 2 ^ 64) m (flat ms) here.1 more.1)
+inners_all : (file : List ℕ) (ms : List (List Mark)) (ps : List (List ℕ)) → Pointwise (Pointwise (MarksPosition file)) ms ps → All (λ (m : Mark). m.inner < 2 ^ 64) (flat ms)
+inners_all file [] ps p = All-nil (λ (m : Mark). m.inner < 2 ^ 64)
+inners_all file (m ∷ ms) [] p = absurd p
+inners_all file (m ∷ ms) (n ∷ ns) p = All-append (λ (m : Mark). m.inner < 2 ^ 64) m (flat ms) (inners_one file m n p.0) (inners_all file ms ns p.1)
 
 -- ---- lists of equal lengths
 
@@ -179,12 +163,12 @@ some_back per marks None e = cc
 
 entries_ok : (per : ℕ) (frames : Frames) (bytes : List ℕ) (es : List Entry) (marks : Marks) → entries_reading per bytes ≡ Some es → 2 ≤ length es → rules_reading frames 0 0 None es ≡ Ok tt → marks_of per es ≡ marks → marks_reading per frames bytes ≡ Ok marks
 entries_ok per frames bytes es marks is many rules same =
-    ap (λ (o : Option (List Entry)). marks_ok_or (None, why.Length) o >>= λ entries. require (nat_le 2 (length entries)) (None, why.Length) >>= λ _. in_granule (rules_reading frames 0 0 None entries) >>= λ _. Ok (marks_of per entries)) is
+    ap (λ (o : Option (List Entry)). ok_or (None, why.Length) o >>= λ entries. require (nat_le 2 (length entries)) (None, why.Length) >>= λ _. in_granule (rules_reading frames 0 0 None entries) >>= λ _. Ok (marks_of per entries)) is
     ∙ passed (nat_le 2 (length es)) (None, why.Length) (λ _. in_granule (rules_reading frames 0 0 None es) >>= λ _. Ok (marks_of per es)) (le-leb 2 (length es) many)
     ∙ ap (λ (r : Result (Unit {0}) (ℕ × Why)). in_granule r >>= λ _. Ok (marks_of per es)) rules
     ∙ ap (λ (m : Marks). let r : Result Marks (Option ℕ × Why) = Ok m in r) same
 
-module _ (file bytes : List ℕ) (per : ℕ) (grouped : List (List (List ℕ))) (granules : List ℕ) (blocks : List Block) (file_bytes : IsByteFile file) (some : 1 ≤ per) (few : per ≤ 256) (are : AreRuns per grouped) (many : length grouped ≡ length granules)
+module _ (file bytes : List ℕ) (per : ℕ) (grouped : List (List (List ℕ))) (granules : List ℕ) (blocks : List Block) (some : 1 ≤ per) (few : per ≤ 256) (are : AreRuns per grouped) (many : length grouped ≡ length granules)
     (is : IsFileOf blocks file) (whole : concat (map concat grouped) ≡ payload_of blocks) (mk : IsMarksFile per file (map sizes_of grouped) granules bytes) (not_empty : 1 ≤ length granules) (all_some : All (λ n. 1 ≤ n) granules) (small : sum granules < 2 ^ 64)
     (frames : Frames) (list_is : frames.list ≡ layout blocks) (end_is : frames.end ≡ length file) where
   abbrev cut : List (List ℕ)
@@ -226,7 +210,7 @@ module _ (file bytes : List ℕ) (per : ℕ) (grouped : List (List (List ℕ))) 
   total_is : total ≡ length (concat cut)
   total_is = sum_grouped grouped ∙ ap (λ (l : List ℕ). length l) (concat_flat grouped)
 
-  end : payload_len frames ≡ total
+  end : payload_len frames.list ≡ total
   end = len_is frames blocks list_is ∙ ap (λ (l : List ℕ). length l) (paid) ∙ sym (total_is)
 
   rows_long : length rows ≡ length granules + 1
@@ -243,8 +227,7 @@ module _ (file bytes : List ℕ) (per : ℕ) (grouped : List (List (List ℕ))) 
 
   words : HaveWords marks
   words =
-      let both = words_all file mk.marks ps file_bytes.1 (positions) in
-      record { offsets = both.0; inners = both.1; rows = All-append (λ count. count < 2 ^ 64) granules (0 ∷ []) mk.few_rows (All-cons (λ count. count < 2 ^ 64) 0 [] (omega arith) (All-nil (λ count. count < 2 ^ 64))) }
+      record { offsets = mk.few_offsets; inners = inners_all file mk.marks ps (positions); rows = All-append (λ count. count < 2 ^ 64) granules (0 ∷ []) mk.few_rows (All-cons (λ count. count < 2 ^ 64) 0 [] (omega arith) (All-nil (λ count. count < 2 ^ 64))) }
 
   lists_are : entry_marks marks ≡ mk.marks
   lists_are = mark_runs_are per (length rows) (flat mk.marks) ∙ ap (λ (k : ℕ). runs per k (flat mk.marks)) (sym (ms_many)) ∙ runs_back per mk.marks (ms_are)
@@ -273,7 +256,7 @@ module _ (file bytes : List ℕ) (per : ℕ) (grouped : List (List (List ℕ))) 
       entries_read frames 0 0 None es ps (build_entries frames per 0 None es ps total on.0 some have
       (subst (λ (l : List (List Mark)). Pointwise (Pointwise (λ m n. position_of frames m ≡ Some n)) l ps) (sym lists) (all_found frames file are_frames mk.marks ps (positions)))
       up (subst (λ (l : List Mark). Rises 0 (map (λ (m : Mark). m.offset) l) on.0) (sym all_are) on.1) (first (joined ps) refl)
-      (at_end (payload_len frames) front (replicate per total) (subst (λ (k : ℕ). All (λ n. n ≡ k) (replicate per total)) (sym (end)) (all_copies total per)))
+      (at_end (payload_len frames.list) front (replicate per total) (subst (λ (k : ℕ). All (λ n. n ≡ k) (replicate per total)) (sym (end)) (all_copies total per)))
       (subst (RowsFit 0) (sym rows_are) (rows_fit 0 granules all_some (omega (arith, small)))))
 
   pub marks_are_read : marks_reading per frames bytes ≡ Ok marks
@@ -304,24 +287,25 @@ module _ (file bytes : List ℕ) (per : ℕ) (grouped : List (List (List ℕ))) 
       ap (λ (p : List (List ℕ)). let r : GranulePayloads = record { payloads = p; granules = granules_of marks } in r) payloads
       ∙ ap (λ (g : List ℕ). let r : GranulePayloads = record { payloads = flat grouped; granules = g } in r) granules_are
 
-pub payloads_read : (folder : Folder) (data_name marks_name : List ℕ) (per : ℕ) (grouped : List (List (List ℕ))) (granules : List ℕ) → HasByteFiles folder → 1 ≤ per → per ≤ 256 → AreRuns per grouped → length grouped ≡ length granules
+pub payloads_read : (folder : Folder) (data_name marks_name : List ℕ) (per : ℕ) (grouped : List (List (List ℕ))) (granules : List ℕ) → 1 ≤ per → per ≤ 256 → AreRuns per grouped → length grouped ≡ length granules
     → HoldsPayloads folder data_name marks_name per grouped granules → 1 ≤ length granules → All (λ n. 1 ≤ n) granules → sum granules < 2 ^ 64
     → payloads_reading folder data_name marks_name per ≡ Ok (record { payloads = flat grouped; granules = granules })
-payloads_read folder data_name marks_name per grouped granules files some few are many holds not_empty all_some small =
+payloads_read folder data_name marks_name per grouped granules some few are many holds not_empty all_some small =
     let file = holds.data_file in
     let bytes = holds.marks_file in
-    let file_bytes = files data_name file holds.has_data in
     let blocks = holds.framed.0 in
     let is = holds.framed.1 in
+    let data_bytes = frames_are_bytes blocks file is in
+    let own_bytes : AreBytes bytes = subst AreBytes (sym holds.marks.encoded) (marks_are_bytes holds.marks.marks (granules ++ 0 ∷ [])) in
     let whole = holds.framed.2 in
     let fr = frames_for file blocks is in
     let frames = fr.0 in
-    let reads : frames_reading file ≡ Ok blocks = (read_exactly file blocks file_bytes.0).1 is in
+    let reads : frames_reading file ≡ Ok blocks = (read_exactly file blocks data_bytes).1 is in
     let framed : frames_in file ≡ Ok frames = frames_found file frames (then_of (frames_reading file) blocks (λ blocks. Ok (layout blocks)) reads ∙ ap (λ (fs : List Frame). Ok fs) (sym fr.1)) fr.2 in
     let marks : Marks = record { per_granule = per; places = flat holds.marks.marks; rows = granules ++ 0 ∷ [] } in
-    let marked = marks_are_read file bytes per grouped granules blocks file_bytes some few are many is whole holds.marks not_empty all_some small frames fr.1 fr.2 in
-    then_of (file_reading folder data_name) file _ (ap (ok_or (file_fault data_name why.Missing)) holds.has_data)
+    let marked = marks_are_read file bytes per grouped granules blocks some few are many is whole holds.marks not_empty all_some small frames fr.1 fr.2 in
+    then_of (file_reading folder data_name) file _ (file_is_read folder data_name file holds.has_data data_bytes)
     ∙ then_of (blame (frame_fault data_name) (frames_in file)) frames _ (ap (blame (frame_fault data_name)) framed)
-    ∙ then_of (file_reading folder marks_name) bytes _ (ap (ok_or (file_fault marks_name why.Missing)) holds.has_marks)
+    ∙ then_of (file_reading folder marks_name) bytes _ (file_is_read folder marks_name bytes holds.has_marks own_bytes)
     ∙ then_of (blame (marks_fault marks_name) (marks_reading per frames bytes)) marks _ (ap (blame (marks_fault marks_name)) marked)
-    ∙ ap (λ (p : GranulePayloads). Ok p) (payloads_are_cut file bytes per grouped granules blocks file_bytes some few are many is whole holds.marks not_empty all_some small frames fr.1 fr.2 reads)
+    ∙ ap (λ (p : GranulePayloads). Ok p) (payloads_are_cut file bytes per grouped granules blocks some few are many is whole holds.marks not_empty all_some small frames fr.1 fr.2 reads)

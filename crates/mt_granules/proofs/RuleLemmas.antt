@@ -8,26 +8,19 @@ use Rattle.mt_shelf.specs.declared.fault.Why.TheVariants as why
 use Rattle.mt_table.specs.Rows.{Pointwise}
 use Rattle.mt_defs.specs.declared.mark.Mark.{Mark}
 use Rattle.mt_frame.specs.declared.frames.Frames.{Frames}
-use Rattle.mt_types.specs.Steps.{◌>>=◌, require, at}
+use Rattle.mt_types.specs.Steps.{◌>>=◌, require, at, ok_or}
 use Rattle.mt_types.proofs.StepLemmas.{ok_then, at_ok_then, ok_one, required, passed, then_of}
+use Rattle.mt_marks.specs.declared.rules.Former.{Former}
 use Rattle.mt_marks.specs.Entries.{Entry}
-use Rattle.mt_marks.specs.MarkReading.{offset_before, position_before, is_placed, payload_len, mark_reading, last_reading, rules_reading, are_rows, is_last, ok_or}
+use Rattle.mt_marks.specs.MarkReading.{offset_before, position_before, is_placed, payload_len, mark_reading, last_reading, rules_reading, are_rows, is_last}
 use Rattle.mt_marks.specs.Positions.{position_of}
 use Rattle.mt_marks.proofs.RawLemmas.{all_marks, all_rows}
-
--- what a reading of four arguments gives
-abbrev pub ReadBy : {A B C D R E : Type 0} → (A → B → C → D → Result R E) → Type 0
-ReadBy {A} {B} {C} {D} {R} {E} reading = R
-
--- a mark that was read, as `mark_reading` has it
-abbrev pub Former : Type 0
-Former = ReadBy mark_reading
 
 -- a mark that keeps the rules, and its position
 pub record IsRuled (frames : Frames) (last : Bool) (former : Option Former) (mark : Mark) (position : ℕ) : Type 0 where
   pub order : offset_before former ≤ mark.offset
   pub denotes : position_of frames mark ≡ Some position
-  pub placed : is_placed former last (payload_len frames) position ≡ true
+  pub placed : is_placed former last (payload_len frames.list) position ≡ true
   pub climbs : position_before former ≤ position
 
 -- a mark as the one before the next
@@ -42,24 +35,24 @@ found_ok : {A E : Type 0} (o : Option A) (w : E) (x : A) → o ≡ Some x → ok
 found_ok {A} {E} o w x e = ap (λ (p : Option A). ok_or w p) e
 
 -- a mark that is read
-pub ruled : (frames : Frames) (last : Bool) (former : Option Former) (mark : Mark) (here : Former) → mark_reading frames last former mark ≡ Ok here
+pub ruled : (frames : Frames) (last : Bool) (former : Option Former) (mark : Mark) (here : Former) → mark_reading frames.end frames.list last former mark ≡ Ok here
     → (here ≡ as_former mark here.position) × IsRuled frames last former mark here.position
 unfolding mark_reading
 ruled frames last former mark here e =
     required (nat_le (offset_before former) mark.offset) _ _ _ e (λ order e.
     ok_then (ok_or why.Place (position_of frames mark)) _ _ e (λ n is e.
-    required (is_placed former last (payload_len frames) n) _ _ _ e (λ placed e.
+    required (is_placed former last (payload_len frames.list) n) _ _ _ e (λ placed e.
     required (nat_le (position_before former) n) _ _ _ e (λ climbs e.
     let same : here ≡ as_former mark n = ok_one _ _ e in
     subst (λ (f : Former). (f ≡ as_former mark f.position) × IsRuled frames last former mark f.position) (sym same)
     (refl, record { order = leb-true _ _ order; denotes = found (position_of frames mark) why.Place n is; placed = placed; climbs = leb-true _ _ climbs })))))
 
-pub ruled_read : (frames : Frames) (last : Bool) (former : Option Former) (mark : Mark) (position : ℕ) → IsRuled frames last former mark position → mark_reading frames last former mark ≡ Ok (as_former mark position)
+pub ruled_read : (frames : Frames) (last : Bool) (former : Option Former) (mark : Mark) (position : ℕ) → IsRuled frames last former mark position → mark_reading frames.end frames.list last former mark ≡ Ok (as_former mark position)
 unfolding mark_reading
 ruled_read frames last former mark position is =
     passed (nat_le (offset_before former) mark.offset) _ _ (le-leb _ _ is.order)
     ∙ then_of (ok_or why.Place (position_of frames mark)) position _ (found_ok (position_of frames mark) why.Place position is.denotes)
-    ∙ passed (is_placed former last (payload_len frames) position) _ _ is.placed
+    ∙ passed (is_placed former last (payload_len frames.list) position) _ _ is.placed
     ∙ passed (nat_le (position_before former) position) _ _ (le-leb _ _ is.climbs)
 
 -- ---- an entry's marks
@@ -76,14 +69,14 @@ unfolding last_reading
 last_none frames last former = refl
 
 last_next : (frames : Frames) (last : Bool) (former : Option Former) (m : Mark) (ms : List Mark) →
-    last_reading frames last former (m ∷ ms) ≡ (mark_reading frames last former m >>= λ here. last_reading frames last (Some here) ms)
+    last_reading frames last former (m ∷ ms) ≡ (mark_reading frames.end frames.list last former m >>= λ here. last_reading frames last (Some here) ms)
 unfolding last_reading
 last_next frames last former m ms = refl
 
 pub all_ruled : (frames : Frames) (last : Bool) (former : Option Former) (ms : List Mark) (after : Option Former) → last_reading frames last former ms ≡ Ok after → (ns : List ℕ) × AreRuled frames last former ms ns after
 all_ruled frames last former [] after e = ([], ok_one _ _ (sym (last_none frames last former) ∙ e))
 all_ruled frames last former (m ∷ ms) after e =
-    ok_then (mark_reading frames last former m) (λ here. last_reading frames last (Some here) ms) after (sym (last_next frames last former m ms) ∙ e) (λ here is e.
+    ok_then (mark_reading frames.end frames.list last former m) (λ here. last_reading frames last (Some here) ms) after (sym (last_next frames last former m ms) ∙ e) (λ here is e.
     let r = ruled frames last former m here is in
     let rs = all_ruled frames last (Some (as_former m here.position)) ms after (ap (λ (f : Former). last_reading frames last (Some f) ms) (sym r.0) ∙ e) in
     (here.position ∷ rs.0, (r.1, rs.1)))
@@ -93,7 +86,7 @@ all_read frames last former [] [] after are = last_none frames last former ∙ a
 all_read frames last former [] (n ∷ ns) after are = absurd are
 all_read frames last former (m ∷ ms) [] after are = absurd are
 all_read frames last former (m ∷ ms) (n ∷ ns) after are =
-    last_next frames last former m ms ∙ then_of (mark_reading frames last former m) (as_former m n) (λ here. last_reading frames last (Some here) ms) (ruled_read frames last former m n are.0)
+    last_next frames last former m ms ∙ then_of (mark_reading frames.end frames.list last former m) (as_former m n) (λ here. last_reading frames last (Some here) ms) (ruled_read frames last former m n are.0)
     ∙ all_read frames last (Some (as_former m n)) ms ns after are.1
 
 -- ---- all entries

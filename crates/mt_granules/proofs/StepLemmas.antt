@@ -1,8 +1,8 @@
 -- What is blamed on a file, and what the readers of files give.
-use Rattle.std.proofs.Common.{◌≡◌, ℕ, ◌<◌, List, length, take, get_or, ap, sym, ◌∙◌}
+use Rattle.std.proofs.Common.{◌≡◌, ℕ, ◌<◌, List, ◌∷◌, length, take, get_or, ap, sym, ◌∙◌}
 use Rattle.std.specs.Prelude.{Result, Ok, Err}
 use Rattle.std.specs.List.{enumerate_from}
-use Rattle.mt_types.specs.Steps.{◌>>=◌}
+use Rattle.mt_types.specs.Steps.{◌>>=◌, onto}
 use Rattle.mt_types.proofs.StepLemmas.{ok_one, then_bad, then_of}
 use Rattle.mt_shelf.specs.declared.fault.Fault.{Fault}
 use Rattle.mt_granules.specs.FileFaults.{Judged, blame, in_order}
@@ -31,6 +31,10 @@ fails_after NoMemory r x f is fails = tt
 pub names_fault : {A : Type 0} (e : FileError) (fault : Fault) (r : Judged A) → Names e fault → r ≡ Err fault → FailsAs e r
 names_fault {A} (AtFault named) fault r same is = is ∙ ap (λ (f : Fault). let q : Judged A = Err f in q) (sym same)
 names_fault NoMemory fault r same is = tt
+
+-- an error of the first of some steps in order
+pub fails_first : {A B : Type 0} (e : FileError) (step : A → Judged B) (x : A) (others : List A) → FailsAs e (step x) → FailsAs e (in_order step (x ∷ others))
+fails_first e step x others fails = fails_on e (step x) (λ y. onto y (in_order step others)) fails
 
 -- a loop that ends early
 pub fails_in_order : {A B : Type 0} (e : FileError) (step : A → Judged B) (xs : List A) (i : ℕ) (x : A) (ys : List B) → i < length xs → x ≡ get_or xs i x → in_order step (take i xs) ≡ Ok ys → FailsAs e (step x) → FailsAs e (in_order step xs)

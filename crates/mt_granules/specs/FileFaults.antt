@@ -1,5 +1,8 @@
 -- Faults of the data and marks files: which file, where in it, and why: docs/FORMAT.md, "The first fault".
-use Rattle.std.specs.Prelude.{ℕ, ◌∷◌, [], List, Option, Some, None, Result, Ok, Err}
+use Rattle.std.specs.Prelude.{ℕ, ◌∷◌, [], List, Option, Some, None, Result, Ok, Err, option_and_then}
+use Rattle.std.specs.Bool.{then_some}
+use Rattle.std.specs.List.{list_all}
+use Rattle.mt_types.specs.Bytes.{is_byte}
 use Rattle.mt_types.specs.Steps.{◌>>=◌, ok_or, onto}
 use Rattle.mt_item.specs.declared.fault.CodecWhy.{CodecWhy}
 use Rattle.mt_item.specs.declared.fault.CodecWhy.TheVariants as codec
@@ -55,9 +58,13 @@ abbrev pub blame : {A E : Type 0} → (E → Fault) → Result A E → Judged A
 blame fault (Ok x) = Ok x
 blame fault (Err e) = Err (fault e)
 
--- the bytes of a file, or that it is missing
+-- the file of a name in a folder: a list with a number above 255 is no file
+abbrev pub file_at : Folder → List ℕ → Option (List ℕ)
+file_at folder name = option_and_then (λ numbers. then_some (list_all is_byte numbers) numbers) (folder name)
+
+-- the bytes of a file, or that it is missing (Missing: 1.1, 2.1, 3.1, 3.3, 6.1, 7.1, 8.1, 8.3)
 abbrev pub file_reading : Folder → List ℕ → Judged (List ℕ)
-file_reading folder name = ok_or (file_fault name why.Missing) (folder name)
+file_reading folder name = ok_or (file_fault name why.Missing) (file_at folder name)
 
 -- what each step gives, or what is wrong with the first that fails
 abbrev pub in_order : {A B E : Type 0} → (A → Result B E) → List A → Result (List B) E

@@ -8,4 +8,3 @@ pub mod PayloadReading
 pub mod PayloadView
 pub mod Walking
 pub mod ColumnRows
-pub mod ByteFiles

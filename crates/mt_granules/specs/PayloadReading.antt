@@ -70,7 +70,7 @@ abbrev pub payloads_of : List ℕ → Frames → Marks → GranulePayloads
 payloads_of file frames marks =
     record { payloads = pieces (payload_in file) (take (mark_count marks + 1) (positions_of frames marks)); granules = granules_of marks }
 
--- the payloads of a data file and its marks file: first the frames are judged, and then the marks
+-- the payloads of a data file and its marks file: first the frames are judged, and then the marks (3.1 to 3.4)
 abbrev pub payloads_reading : Folder → (data_name marks_name : List ℕ) → (per_granule : ℕ) → Judged GranulePayloads
 payloads_reading folder data_name marks_name per_granule = do
   file ← file_reading folder data_name
@@ -79,7 +79,7 @@ payloads_reading folder data_name marks_name per_granule = do
   marks ← blame (marks_fault marks_name) (marks_reading per_granule frames bytes)
   Ok (payloads_of file frames marks)
 
--- the same of the first marks file of a part, whose rows are so many
+-- the same of the first marks file of a part, whose rows are so many (3.5)
 abbrev pub granules_reading : Folder → (count : ℕ) → (data_name marks_name : List ℕ) → (per_granule : ℕ) → Judged GranulePayloads
 granules_reading folder count data_name marks_name per_granule = do
   read ← payloads_reading folder data_name marks_name per_granule

@@ -12,7 +12,7 @@ use mt_types::{List, NoMemory};
 use std::alloc::Global;
 
 /// A data file in the making: payloads that are framed one by one, and a mark at the start of each.
-#[derive(Debug, Drop)]
+#[derive(Drop)]
 pub struct DataFile {
     /// The frames.
     pub bytes: List<u8>,
@@ -21,7 +21,7 @@ pub struct DataFile {
 }
 
 /// A data file and its marks file.
-#[derive(Debug, Drop)]
+#[derive(Drop)]
 pub struct MarkedData {
     /// The data file's frames.
     pub bytes: List<u8>,
@@ -40,7 +40,8 @@ impl DataFile {
         })
     }
 
-    /// Appends the frames of a payload, with a mark at their start.
+    /// Appends the frames of a payload, with a mark at their start. Where memory is refused the mark may stand
+    /// there without the frames, and the file is to be dropped.
     pub fn put(&mut self, alloc: Global, payload: &[u8]) -> Result<(), NoMemory>
         ensures { OnOk result ((runs : Seq (Seq ℕ)) → self.old ≡ data_file_of runs
             → self.new ≡ data_file_of (runs ++ written_frames payload.now ∷ [])) }

@@ -6,7 +6,7 @@ ghost use Rattle.mt_granules.specs.FileOrder.{files_in, name_cmp};
 use mt_shelf::FileBytes;
 
 /// Files that are found by halves: of two of one name, the first.
-#[derive(Debug, Drop)]
+#[derive(Drop)]
 pub struct FileIndex<'a> {
     /// In the byte order of their names, files of one name in the order that they had.
     pub(crate) sorted: Vec<&'a FileBytes>,

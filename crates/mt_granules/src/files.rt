@@ -12,6 +12,7 @@ ghost use Rattle.mt_granules.specs.Results.{Shows};
 
 use crate::fault::{FileError, file_fault};
 use crate::file_index::FileIndex;
+use mt_codec::know_bytes;
 use mt_shelf::{FileBytes, Why};
 use mt_types::NoMemory;
 use std::alloc::Global;
@@ -35,7 +36,10 @@ impl<'a> FileIndex<'a> {
         ensures { Shows (λ bytes. bytes.now) result (file_reading (folder_in self.now) name.now) }
     {
         match self.get(name) {
-            Some(bytes) => Ok(bytes),
+            Some(bytes) => {
+                know_bytes(bytes);
+                Ok(bytes)
+            }
             None => Err(file_fault(alloc, name, Why::Missing)),
         }
     }

@@ -21,4 +21,4 @@ pub use fault::{FileError, codec_why, file_fault, granule_fault};
 pub use file_index::FileIndex;
 pub use payloads::{Payload, Payloads};
 pub use reading::{read_granules, read_payloads};
-pub use rows::{append_column, empty_rows};
+pub use rows::{append_column, first_rows};

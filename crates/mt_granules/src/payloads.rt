@@ -12,7 +12,7 @@ use mt_types::List;
 
 /// The payloads of granules in a data file, which its marks cut. Only the frames' headers and the marks are
 /// read; a payload is read when it is asked for.
-#[derive(Debug, Drop)]
+#[derive(Drop)]
 pub struct Payloads<'a> {
     /// The data file.
     pub(crate) file: &'a [u8],
@@ -27,7 +27,7 @@ pub struct Payloads<'a> {
 }
 
 /// The bytes of a payload.
-#[derive(Debug, Drop)]
+#[derive(Drop)]
 pub enum Payload<'a> {
     /// A slice of the data file, where the payload lies in one frame.
     InFile(&'a [u8]),

@@ -1,27 +1,28 @@
 -- Reading is exact: what is read is what the bytes begin with, and what they begin with is read.
-use Rattle.std.proofs.Common.{◌≡◌, ℕ, zero, suc, ◌+◌, ◌<◌, ◌≤◌, Bool, true, false, List, [], ◌∷◌, ◌++◌, length, get_or, take, drop, Option, Some, None, Result, Ok, Err, refl, ap, sym, ◌∙◌, subst, arith, lit<, append_assoc}
-use Rattle.std.specs.Prelude.{◌==◌, ◌^◌, ℤ, nat_le, nat_lt, if◌then◌else◌}
+use Rattle.std.proofs.Common.{◌≡◌, ℕ, zero, suc, ◌<◌, ◌≤◌, Bool, true, List, [], ◌∷◌, ◌++◌, length, take, drop, Option, Some, None, Result, Ok, Err, refl, ap, sym, ◌∙◌, subst, arith, lit<, append_assoc}
+use Rattle.std.specs.Prelude.{◌==◌, ◌&&◌, ◌^◌, ℤ, nat_le, nat_lt, if◌then◌else◌}
+use Rattle.std.specs.List.{list_all}
 use Rattle.std.specs.Borrow.{Bor}
-use Rattle.std.proofs.lemmas.Bool.{leb-true, le-leb, lt-leb, eqb-true, eq-eqb, lt-ltb, ltb-true}
+use Rattle.std.proofs.lemmas.Bool.{and_from, and_parts, leb-true, le-leb, lt-leb, eqb-true, eq-eqb, lt-ltb, ltb-true}
 use Rattle.std.proofs.lemmas.List.{length-append, length-take, take-append-drop}
 use Rattle.std.proofs.Math.Seq.{take-append_seam, drop-append_seam}
 use Rattle.std.proofs.lemmas.List.Elements.{All-head, All-tail}
 use Rattle.mt_defs.specs.Lists.{AreBytes}
 use Rattle.mt_types.specs.declared.limits.TheConstants.{MAX_TEXT}
+use Rattle.mt_types.specs.Bytes.{is_byte}
 use Rattle.mt_types.specs.declared.ty.Ty.{Ty}
 use Rattle.mt_types.specs.declared.value.Value.{Value}
 use Rattle.mt_types.specs.Fits.{fits_of}
 use Rattle.mt_types.specs.Items.{item_bytes}
 use Rattle.mt_types.specs.Leb128.{leb128}
 use Rattle.mt_types.specs.Steps.{◌>>=◌, require}
-use Rattle.mt_types.proofs.Leb128Lemmas.{leb128_prefix_free}
 use Rattle.mt_types.proofs.StepLemmas.{ok_then, ok_pair, required, passed}
 use Rattle.mt_item.specs.declared.fault.CodecWhy.{CodecWhy}
 use Rattle.mt_item.specs.declared.fault.CodecWhy.TheVariants.{Short, Length, HasByte, TooLong}
 use Rattle.mt_item.specs.declared.fault.ItemError.{ItemError}
 use Rattle.mt_item.specs.declared.fault.ItemError.TheVariants.{Bad, NoMemory}
 use Rattle.mt_item.specs.ItemReading.{First, read_as, bytes_front, leb128_front, text_front, held_front}
-use Rattle.mt_item.specs.Results.{GivesItem, GivesFirstItem, IsFirst}
+use Rattle.mt_item.specs.Results.{GivesItem, GivesFirstItem}
 use Rattle.mt_item.proofs.LengthLemmas.{Small, IsLength, whole, cut, wrong, length_is, length_complete}
 
 -- one value is read exactly where its item stands at the start
@@ -80,6 +81,28 @@ small_taken zero bytes small i = lit< tt
 small_taken (suc n) [] small i = lit< tt
 small_taken (suc n) (byte ∷ bytes) small zero = small 0
 small_taken (suc n) (byte ∷ bytes) small (suc i) = small_taken n bytes (λ k. small (suc k)) i
+
+pub small_front : (front rest : List ℕ) → Small (front ++ rest) → Small front
+small_front [] rest small i = lit< tt
+small_front (b ∷ front) rest small zero = small 0
+small_front (b ∷ front) rest small (suc i) = small_front front rest (λ k. small (suc k)) i
+
+pub small_back : (front rest : List ℕ) → Small (front ++ rest) → Small rest
+small_back [] rest small = small
+small_back (b ∷ front) rest small = small_back front rest (λ k. small (suc k))
+
+small_test : (bytes : List ℕ) → Small bytes → list_all is_byte bytes ≡ true
+small_test [] small = refl
+small_test (b ∷ bytes) small = and_from (is_byte b) (list_all is_byte bytes) (lt-ltb b 256 (small 0)) (small_test bytes (λ k. small (suc k)))
+
+-- a text that is read of bytes is of bytes
+pub of_bytes : (read : List ℕ → First (List ℕ)) (test : List ℕ → Bool) (item : List ℕ → List ℕ) → ((text : List ℕ) → Small (item text) → Small text) → IsExact read test item → IsExact read (λ text. test text && list_all is_byte text) item
+of_bytes read test item inside exact = record {
+  sound = λ bytes text rest small e.
+      let s = exact.sound bytes text rest small e in
+      (and_from (test text) (list_all is_byte text) s.0 (small_test text (inside text (small_front (item text) rest (subst Small s.1 small)))), s.1);
+  complete = λ text rest fits. exact.complete text rest (and_parts (test text) (list_all is_byte text) fits).0;
+}
 
 -- there are so many bytes
 pub bytes_read : (count : ℕ) (bytes text rest : List ℕ) → count ≤ length bytes → text ≡ take count bytes → rest ≡ drop count bytes → bytes_front count bytes ≡ Ok (text, rest)

@@ -1,14 +1,16 @@
 -- The items of each type are read exactly.
-use Rattle.std.proofs.Common.{◌≡◌, ℕ, ◌^◌, ℤ, pos, Bool, true, false, List, [], ◌∷◌, ◌++◌, length, Option, Some, None, Result, Ok, Err, refl, ap, sym, ◌∙◌, subst}
-use Rattle.std.specs.Prelude.{nat_le, nat_lt, ◌==◌}
+use Rattle.std.proofs.Common.{◌≡◌, ℕ, ◌^◌, ℤ, pos, Bool, true, List, [], ◌++◌, length, Option, Some, None, Ok, Err, refl, ap, sym, ◌∙◌, subst}
+use Rattle.std.specs.Prelude.{nat_le, nat_lt, ◌==◌, ◌&&◌}
+use Rattle.std.specs.List.{list_all}
 use Rattle.std.specs.Int.{w64, to_le_bytes, cast_signed}
 use Rattle.mt_types.specs.declared.limits.TheConstants.{MAX_TEXT}
+use Rattle.mt_types.specs.Bytes.{is_byte}
 use Rattle.mt_types.specs.declared.ty.Agg.{Agg}
 use Rattle.mt_types.specs.declared.ty.Agg.TheVariants.{Sum, Min, Max}
 use Rattle.mt_types.specs.declared.ty.Width.TheVariants.{W16, W64}
 use Rattle.mt_types.specs.declared.ty.Ty.{Ty, map-Ty, out-Ty}
 use Rattle.mt_types.specs.declared.ty.Ty.TheOpen.{Ty-F}
-use Rattle.mt_types.specs.declared.ty.Ty.TheVariants.{UInt, Int, FixedString, Str, Date, CountState, State as StateOf, outs-UInt, outs-Int, outs-FixedString, outs-Str, outs-Date, outs-CountState, outs-State as outs-StateOf}
+use Rattle.mt_types.specs.declared.ty.Ty.TheVariants.{UInt, Int, Date, CountState, State as StateOf, outs-UInt, outs-Int, outs-Date, outs-CountState, outs-State as outs-StateOf}
 use Rattle.mt_types.specs.declared.value.AggState.{AggState}
 use Rattle.mt_types.specs.declared.value.AggState.TheVariants as state
 use Rattle.mt_types.specs.declared.value.Value.{Value, out-Value, roll-Value}
@@ -20,11 +22,11 @@ use Rattle.mt_types.specs.Items.{item_bytes, fixed_at, text_at as text_bytes, st
 use Rattle.mt_types.specs.Leb128.{leb128}
 use Rattle.mt_types.proofs.Levels.{same_level}
 use Rattle.mt_agg.specs.States.{is_number_type, is_number_at}
-use Rattle.mt_agg.proofs.StateLemmas.{fits_at, item_at, fits_state, fits_count, item_state, item_count}
+use Rattle.mt_agg.proofs.StateLemmas.{fits_at, item_at, item_state, item_count}
 use Rattle.mt_item.specs.ItemReading.{First, read_as, bytes_front, whole_front, leb128_front, text_front, number_front, held_front, state_front, item_front, item_front_at}
 use Rattle.mt_item.specs.ItemTypes.{has_items, has_items_at}
-use Rattle.mt_item.proofs.ExactLemmas.{IsExact, IsImage, as_exact, bytes_exact, length_exact, text_exact, held_exact, held_fits, held_item}
-use Rattle.mt_item.proofs.NumberLemmas.{IsNumbers, number_exact, numbers_UInt, numbers_Int, numbers_Date, whole_exact}
+use Rattle.mt_item.proofs.ExactLemmas.{IsExact, as_exact, bytes_exact, length_exact, of_bytes, small_back, text_exact, held_exact, held_fits, held_item}
+use Rattle.mt_item.proofs.NumberLemmas.{number_exact, numbers_UInt, numbers_Int, numbers_Date, whole_exact}
 use Rattle.mt_item.proofs.TypeLemmas.{state_argument}
 
 -- the reading of a type whose reader, test and items are these
@@ -213,12 +215,13 @@ exact_at t Ty-F.Date is items =
     (num_exact t (is_unsigned 16) (ap is_number_at is) (λ v. test_at t Ty-F.Date v is)))
 exact_at t (Ty-F.FixedString size) is items =
     with_level t (Ty-F.FixedString size) is
-    (texts_exact t (bytes_front size) (λ text. length text == size) (λ text. text) (λ v. test_at t (Ty-F.FixedString size) v is)
-    (λ text. ap (λ f. f (Text text)) (item_at t (Ty-F.FixedString size) is) ∙ ap fixed_at (outs-Text text)) (bytes_exact size))
+    (texts_exact t (bytes_front size) (λ text. length text == size && list_all is_byte text) (λ text. text) (λ v. test_at t (Ty-F.FixedString size) v is)
+    (λ text. ap (λ f. f (Text text)) (item_at t (Ty-F.FixedString size) is) ∙ ap fixed_at (outs-Text text)) (of_bytes (bytes_front size) (λ text. length text == size) (λ text. text) (λ text small. small) (bytes_exact size)))
 exact_at t Ty-F.Str is items =
     with_level t Ty-F.Str is
-    (texts_exact t text_front (λ text. nat_le (length text) MAX_TEXT) (λ text. leb128 (length text) ++ text) (λ v. test_at t Ty-F.Str v is)
-    (λ text. ap (λ f. f (Text text)) (item_at t Ty-F.Str is) ∙ ap text_bytes (outs-Text text)) text_exact)
+    (texts_exact t text_front (λ text. nat_le (length text) MAX_TEXT && list_all is_byte text) (λ text. leb128 (length text) ++ text) (λ v. test_at t Ty-F.Str v is)
+    (λ text. ap (λ f. f (Text text)) (item_at t Ty-F.Str is) ∙ ap text_bytes (outs-Text text))
+    (of_bytes text_front (λ text. nat_le (length text) MAX_TEXT) (λ text. leb128 (length text) ++ text) (λ text. small_back (leb128 (length text)) text) text_exact))
 exact_at t (Ty-F.State agg u) is items =
     let same : t ≡ StateOf agg u = same_level t (StateOf agg u) (is ∙ sym (outs-StateOf agg u)) in
     let number = state_argument t agg u same (ap (has_items_at t) is ∙ items) in

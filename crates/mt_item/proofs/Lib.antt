@@ -4,3 +4,4 @@ pub mod ExactLemmas
 pub mod NumberLemmas
 pub mod ItemLemmas
 pub mod ReadingLemmas
+pub mod ItemBytes

@@ -1,6 +1,6 @@
 -- Whole numbers, and the types whose values are numbers.
-use Rattle.std.proofs.Common.{◌≡◌, ℕ, zero, suc, ◌+◌, ◌%◌, ◌^◌, ◌<◌, ◌≤◌, ℤ, pos, negsuc, Bool, true, false, List, [], ◌∷◌, ◌++◌, length, get_or, take, drop, Result, Ok, Err, refl, ap, sym, ◌∙◌, arith, subst, lit<}
-use Rattle.std.specs.Prelude.{nat_lt, ◌==◌}
+use Rattle.std.proofs.Common.{◌≡◌, ℕ, ◌%◌, ◌^◌, ◌<◌, ℤ, pos, negsuc, Bool, true, List, [], ◌∷◌, ◌++◌, length, Ok, refl, ap, sym, ◌∙◌, arith, subst}
+use Rattle.std.specs.Prelude.{nat_lt}
 use Rattle.std.specs.Int.{w8, w16, w32, w64, byte_len, to_le_bytes, from_le_bytes, cast_unsigned, cast_signed}
 use Rattle.std.specs.Int.RustNames.{FitsSigned}
 use Rattle.std.proofs.lemmas.Bool.{ltb-true, lt-ltb, eqb-true, eq-eqb}
@@ -9,7 +9,7 @@ use Rattle.std.proofs.Math.Facts.{sfits_to_z}
 use Rattle.std.proofs.lemmas.Nat.{le_bytes_2, le_bytes_4, le_bytes_8, from_le_bytes-to_le_bytes_2, from_le_bytes-to_le_bytes_4, from_le_bytes-to_le_bytes_8}
 use Rattle.mt_types.specs.declared.ty.Width.{Width}
 use Rattle.mt_types.specs.declared.ty.Width.TheVariants.{W8, W16, W32, W64}
-use Rattle.mt_types.specs.declared.ty.Ty.{Ty, out-Ty}
+use Rattle.mt_types.specs.declared.ty.Ty.{Ty}
 use Rattle.mt_types.specs.declared.ty.Ty.TheOpen.{Ty-F}
 use Rattle.mt_types.specs.declared.ty.Ty.TheVariants.{UInt, Int, Date, outs-UInt, outs-Int, outs-Date}
 use Rattle.mt_types.specs.declared.value.Value.{Value, out-Value, roll-Value}
@@ -19,12 +19,11 @@ use Rattle.mt_types.specs.declared.value.Value.TheViews.{roll-out-Value}
 use Rattle.mt_types.specs.Fits.{fits_of, num_at, is_unsigned, is_signed, bits}
 use Rattle.mt_types.specs.Items.{item_bytes, whole_at, width}
 use Rattle.mt_types.specs.Parts.{number_in}
-use Rattle.mt_types.specs.Steps.{◌>>=◌}
 use Rattle.mt_types.proofs.StepLemmas.{ok_then, ok_pair}
 use Rattle.mt_agg.proofs.StateLemmas.{fits_at, item_at}
 use Rattle.mt_item.specs.ItemReading.{First, read_as, bytes_front, whole_front}
 use Rattle.mt_item.proofs.LengthLemmas.{Small}
-use Rattle.mt_item.proofs.ExactLemmas.{IsExact, IsImage, as_exact, bytes_exact, small_taken}
+use Rattle.mt_item.proofs.ExactLemmas.{IsExact, as_exact, bytes_exact, small_front}
 
 -- ---- little-endian numbers
 
@@ -53,11 +52,6 @@ number_back W8 n small = omega (arith, small)
 number_back W16 n small = from_le_bytes-to_le_bytes_2 n small
 number_back W32 n small = from_le_bytes-to_le_bytes_4 n small
 number_back W64 n small = from_le_bytes-to_le_bytes_8 n small
-
-small_front : (front rest : List ℕ) → Small (front ++ rest) → Small front
-small_front [] rest small i = lit< tt
-small_front (b ∷ front) rest small zero = small 0
-small_front (b ∷ front) rest small (suc i) = small_front front rest (λ k. small (suc k)) i
 
 pub whole_exact : (w : Width) → IsExact (whole_front (width w)) (λ n. nat_lt n (2 ^ bits w)) (to_le_bytes (width w))
 whole_exact w = record { sound = sound; complete = complete }

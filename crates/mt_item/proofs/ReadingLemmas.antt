@@ -1,15 +1,14 @@
 -- What the items of texts and counts are read as.
-use Rattle.std.proofs.Common.{◌≡◌, ℕ, ◌<◌, ◌≤◌, List, length, take, drop, Result, Ok, Err, ap, sym, ◌∙◌}
+use Rattle.std.proofs.Common.{◌≡◌, ℕ, ◌<◌, ◌≤◌, List, length, take, drop, Ok, Err, ap, sym, ◌∙◌}
 use Rattle.mt_types.specs.declared.ty.Ty.{Ty, out-Ty}
 use Rattle.mt_types.specs.declared.ty.Ty.TheOpen.{Ty-F}
 use Rattle.mt_types.specs.declared.ty.Ty.TheVariants.{FixedString, Str, CountState, outs-FixedString, outs-Str, outs-CountState}
 use Rattle.mt_types.specs.declared.value.AggState.TheVariants as state
 use Rattle.mt_types.specs.declared.value.Value.{Value}
 use Rattle.mt_types.specs.declared.value.Value.TheVariants.{Text, State}
-use Rattle.mt_types.specs.Steps.{◌>>=◌, require}
 use Rattle.mt_item.specs.declared.fault.CodecWhy.{CodecWhy}
 use Rattle.mt_item.specs.declared.fault.CodecWhy.TheVariants.{Short}
-use Rattle.mt_item.specs.ItemReading.{First, read_as, bytes_front, leb128_front, text_front, item_front, item_front_at}
+use Rattle.mt_item.specs.ItemReading.{First, read_as, leb128_front, text_front, item_front, item_front_at}
 use Rattle.mt_item.proofs.ExactLemmas.{bytes_read, bytes_short}
 
 -- what a type of this level is read as

@@ -8,7 +8,7 @@ use std::error::Error;
 use std::fmt;
 
 /// What is wrong with the bytes of a substream (docs/FORMAT.md, "Substreams").
-#[derive(Clone, Copy, Debug, PartialEq, Eq)]
+#[derive(Clone, Copy, Debug, PartialEq)]
 pub enum CodecWhy {
     /// Bytes are missing.
     Short,
@@ -25,7 +25,7 @@ pub enum CodecWhy {
 }
 
 /// Why no item was read.
-#[derive(Clone, Copy, Debug, PartialEq, Eq)]
+#[derive(Clone, Copy, Debug)]
 pub enum ItemError {
     /// The bytes begin with no item of the type.
     Bad(CodecWhy),

@@ -9,8 +9,6 @@ mod law;
 mod number;
 mod reading;
 mod state;
-#[cfg(test)]
-mod tests;
 mod text;
 mod writing;
 

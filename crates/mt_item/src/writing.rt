@@ -13,7 +13,8 @@ use mt_agg::{Folding, number_size};
 use mt_types::{AggState, List, NoMemory, Ty, Value, varint_put};
 
 /// Appends the item of a value (docs/FORMAT.md, "Substreams"; ClickHouse:
-/// `ISerialization::serializeBinary`).
+/// `ISerialization::serializeBinary`). Where memory is refused a text's length may stand there without the text,
+/// and the output is to be dropped.
 pub fn put_item(ty: &Ty, value: &Value, out: &mut List<u8>) -> Result<(), NoMemory>
     requires items { IsTrue (has_items ty.now) }
     requires fits { IsTrue (fits_of ty.now value.now) }

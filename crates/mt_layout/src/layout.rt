@@ -10,7 +10,7 @@ use mt_types::{List, NoMemory, Row};
 use std::alloc::Global;
 
 /// How the rows of a part or of a projection are laid out.
-#[derive(Debug, Drop)]
+#[derive(Drop)]
 pub struct Layout {
     /// How many rows each granule has (ClickHouse: `MergeTreeIndexGranularity`).
     pub granules: List<u64>,

@@ -51,7 +51,7 @@ abbrev pub listing_of : List (List ℕ) → Option (List (List ℕ))
 listing_of (version ∷ count ∷ lines) = option_and_then (if_headed version count) (column_lines lines)
 listing_of _ = None
 
--- the column lines of a text of the form
+-- the column lines of a text of the form (1.2)
 abbrev pub listing : List ℕ → Option (List (List ℕ))
 listing text = listing_of (slice_split (λ byte. byte == LINE_END) text)
 
@@ -74,7 +74,7 @@ is_each_once count order = (length order == count) && list_all (λ i. list_any (
 abbrev pub if_each_once : ℕ → List ℕ → Option (List ℕ)
 if_each_once count order = if is_each_once count order then Some order else None
 
--- the columns that a text lists, in its order, by their indexes in the definition
+-- the columns that a text lists, in its order, by their indexes in the definition (1.2, 1.3)
 unfoldable pub columns_reading : List Column → List ℕ → Result (List ℕ) Why
 columns_reading columns text = do
   lines ← ok_or Syntax (listing text)

@@ -13,7 +13,7 @@ abbrev pub is_number : List ℕ → Bool
 is_number [] = false
 is_number (first ∷ rest) = not (first == 48) && all_ascii_digits (first ∷ rest)
 
--- the rows that a text counts, or why it counts none
+-- the rows that a text counts, or why it counts none (2.2 to 2.4)
 unfoldable pub count_reading : (columns : ℕ) → List ℕ → Result ℕ CountWhy
 count_reading columns text = do
   _ ← require (is_number text) Syntax

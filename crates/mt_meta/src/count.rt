@@ -13,7 +13,7 @@ use std::error::Error;
 use std::fmt;
 
 /// Why a text counts no rows of a part.
-#[derive(Clone, Copy, Debug, PartialEq, Eq)]
+#[derive(Clone, Copy, Debug, PartialEq)]
 pub enum CountWhy {
     /// It is no decimal number from 1 on without leading zeros.
     Syntax,

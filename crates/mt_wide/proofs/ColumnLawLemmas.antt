@@ -23,7 +23,6 @@ use Rattle.mt_codec.specs.StreamOrder.{streams_of}
 use Rattle.mt_codec.proofs.ExactLemmas.{AreSmall}
 use Rattle.mt_codec.proofs.TypeLemmas.{decoded_encodes, encoded_decodes}
 use Rattle.mt_item.proofs.ExactLemmas.{small_of}
-use Rattle.mt_granules.specs.ByteFiles.{HasByteFiles}
 use Rattle.mt_granules.specs.ColumnRows.{all_values}
 use Rattle.mt_granules.specs.FileFaults.{Judged, blame, in_order}
 use Rattle.mt_granules.proofs.GranuleLemmas.{length-granule_rows}
@@ -42,11 +41,11 @@ abbrev AreGood : ℕ → List (List (List ℕ)) → Type 0
 AreGood n [] = Unit {0}
 AreGood n (payloads ∷ streams) = All AreBytes payloads × (length payloads ≡ n) × AreGood n streams
 
-streams_good : (folder : Folder) (granules : List ℕ) (names : List (List ℕ)) (streams : List (List (List ℕ))) → HasByteFiles folder → Pointwise (λ name payloads. stream_reading folder granules name ≡ Ok payloads) names streams → AreGood (length granules) streams
-streams_good folder granules [] [] files p = tt
-streams_good folder granules [] (s ∷ streams) files p = absurd p
-streams_good folder granules (name ∷ names) [] files p = absurd p
-streams_good folder granules (name ∷ names) (s ∷ streams) files p = let held = stream_held folder granules name s files p.0 in (held.bytes, held.many, streams_good folder granules names streams files p.1)
+streams_good : (folder : Folder) (granules : List ℕ) (names : List (List ℕ)) (streams : List (List (List ℕ))) → Pointwise (λ name payloads. stream_reading folder granules name ≡ Ok payloads) names streams → AreGood (length granules) streams
+streams_good folder granules [] [] p = tt
+streams_good folder granules [] (s ∷ streams) p = absurd p
+streams_good folder granules (name ∷ names) [] p = absurd p
+streams_good folder granules (name ∷ names) (s ∷ streams) p = let held = stream_held folder granules name s p.0 in (held.bytes, held.many, streams_good folder granules names streams p.1)
 
 small_at : (n g : ℕ) (streams : List (List (List ℕ))) → g < n → AreGood n streams → AreSmall (payloads_at g streams)
 small_at n g [] h good = tt
@@ -129,14 +128,14 @@ pub record ColumnIsHeld (folder : Folder) (granules : List ℕ) (column : Column
   pub fit : list_all (fits_of column.ty) (all_values values) ≡ true
   pub has : (i : ℕ) (rows : List Row) → column_values i rows ≡ all_values values → HasColumn column i rows granules folder
 
-pub column_held : (folder : Folder) (granules : List ℕ) (column : Column) (values : List (List Value)) → HasByteFiles folder → is_profile column.ty ≡ true → column_reading folder granules column ≡ Ok values → ColumnIsHeld folder granules column values
-column_held folder granules column values files profile e =
+pub column_held : (folder : Folder) (granules : List ℕ) (column : Column) (values : List (List Value)) → is_profile column.ty ≡ true → column_reading folder granules column ≡ Ok values → ColumnIsHeld folder granules column values
+column_held folder granules column values profile e =
     ok_then (in_order (stream_reading folder granules) (stream_names column)) (λ streams. in_order (granule_reading column streams) (enumerate_from 0 granules)) values e (λ streams are e.
     let names = stream_names column in
     let n = length granules in
     let streams_are = order_each (stream_reading folder granules) names streams are in
     let granules_are = order_each (granule_reading column streams) (enumerate_from 0 granules) values e in
-    let good = streams_good folder granules names streams files streams_are in
+    let good = streams_good folder granules names streams streams_are in
     let wide : length names ≡ length streams = pointwise_long _ names streams streams_are in
     let many : length streams ≡ length (streams_of column.ty) = sym wide ∙ names_count column in
     let lengths = lengths_from column profile streams n 0 granules values (omega arith) good many granules_are in
@@ -147,14 +146,14 @@ column_held folder granules column values files profile e =
         granule_streams = turned n streams;
         encoded = encoded_from column profile streams n 0 i granules values rows (omega arith) good many granules_are is;
         streams = numbered_all (λ (p : ℕ × List ℕ). HasStream p.1 (stream_payloads p.0 (turned n streams)) granules folder) names [] (λ k h.
-            let held = stream_held folder granules (get_or names k []) (get_or streams k []) files (pointwise_at _ names streams k [] [] streams_are h) in
+            let held = stream_held folder granules (get_or names k []) (get_or streams k []) (pointwise_at _ names streams k [] [] streams_are h) in
             subst (λ (ps : List (List ℕ)). HasStream (get_or names k []) ps granules folder) (sym (stream_back n k streams (omega (arith, h, wide)) held.many)) held.has);
       };
     })
 
-pub column_is_read : (folder : Folder) (granules : List ℕ) (column : Column) (i : ℕ) (rows : List Row) → HasByteFiles folder → AreHeldGranules granules → is_profile column.ty ≡ true → sum granules ≡ length rows → HasColumn column i rows granules folder
+pub column_is_read : (folder : Folder) (granules : List ℕ) (column : Column) (i : ℕ) (rows : List Row) → AreHeldGranules granules → is_profile column.ty ≡ true → sum granules ≡ length rows → HasColumn column i rows granules folder
     → column_reading folder granules column ≡ Ok (map (column_values i) (granule_rows granules rows))
-column_is_read folder granules column i rows files are profile all has =
+column_is_read folder granules column i rows are profile all has =
     let names = stream_names column in
     let width = length names in
     let encoded = has.granule_streams in
@@ -164,7 +163,7 @@ column_is_read folder granules column i rows files are profile all has =
     let streams_are : in_order (stream_reading folder granules) names ≡ Ok streams =
     order_all (stream_reading folder granules) names streams (pointwise_of _ names streams (sym wide) (λ k a b h.
     let here = numbered_each (λ (p : ℕ × List ℕ). HasStream p.1 (stream_payloads p.0 encoded) granules folder) names a k has.streams h in
-    stream_read folder granules (get_or names k a) (stream_payloads k encoded) files are (length-map encoded _ ∙ count) here
+    stream_read folder granules (get_or names k a) (stream_payloads k encoded) are (length-map encoded _ ∙ count) here
     ∙ ap (λ (ps : List (List ℕ)). let r : Judged (List (List ℕ)) = Ok ps in r) (sym (get_or-map-range_with_len (λ k. stream_payloads k encoded) 0 width k k b h (omega arith))))) in
     let rows_many : length (granule_rows granules rows) ≡ length granules = length-granule_rows granules rows in
     let granules_are = read_from column profile streams 0 i granules rows encoded has.encoded (λ k h.

@@ -1,5 +1,5 @@
 -- Reading the columns of a Wide part one after another.
-use Rattle.std.proofs.Common.{◌≡◌, ℕ, ◌+◌, ◌<◌, ◌≤◌, suc, List, [], ◌∷◌, ◌++◌, length, map, take, get_or, refl, ap, sym, ◌∙◌, subst, Bor}
+use Rattle.std.proofs.Common.{◌≡◌, ℕ, ◌+◌, ◌<◌, ◌≤◌, suc, List, [], ◌∷◌, ◌++◌, length, map, take, get_or, refl, ap, sym, ◌∙◌, subst, arith, Bor}
 use Rattle.std.specs.Prelude.{Result, Ok, All, sum, slice_index_or}
 use Rattle.std.proofs.lemmas.List.{length-map, map-append, take_more}
 use Rattle.std.proofs.lemmas.List.Elements.{All-append, All-cons, All-nil}
@@ -18,7 +18,7 @@ use Rattle.mt_granules.specs.declared.payloads.Payload.{Payload}
 use Rattle.mt_granules.specs.FileFaults.{Judged, in_order}
 use Rattle.mt_granules.specs.PayloadView.{bytes_of, payloads_in}
 use Rattle.mt_granules.specs.ColumnRows.{all_values, rows_of, with_column}
-use Rattle.mt_granules.proofs.OrderLemmas.{order_continues, order_each, order_ends}
+use Rattle.mt_granules.proofs.OrderLemmas.{order_continues, order_each, order_ends, order_next}
 use Rattle.mt_granules.proofs.RowLemmas.{column_added, length-all_values, length-rows_of}
 use Rattle.mt_wide.specs.WideReading.{column_reading, payloads_at, rows_reading, wide_granules, wide_reading}
 use Rattle.mt_wide.specs.StreamView.{HasGranules, streams_in}
@@ -70,8 +70,16 @@ pub record IsReadSoFar (folder : Folder) (granules : List ℕ) (count : ℕ) (co
   pub so_far : in_order (column_reading folder granules) columns ≡ Ok values
   pub rows_are : rows ≡ rows_of count (map all_values values)
 
-pub none_read : (folder : Folder) (granules : List ℕ) (count : ℕ) (rows : List Row) → rows ≡ rows_of count [] → IsReadSoFar folder granules count [] rows
-none_read folder granules count rows is = record { values = []; so_far = refl; rows_are = is }
+pub first_read : (folder : Folder) (granules : List ℕ) (count : ℕ) (columns others : List Column) (column : Column) (rows : List Row) (values : List (List Value)) → columns ≡ column ∷ others → column_reading folder granules column ≡ Ok values
+    → rows ≡ rows_of count (all_values values ∷ []) → IsReadSoFar folder granules count (take 1 columns) rows
+first_read folder granules count columns others column rows values split read is =
+    let step = column_reading folder granules in
+    record { values = values ∷ []; so_far = ap (λ (cs : List Column). in_order step (take 1 cs)) split ∙ order_next step column [] values [] read refl; rows_are = is }
+
+-- a column after the first
+pub after_first : (columns others : List Column) (first column : Column) (i : ℕ) → columns ≡ first ∷ others → i < length others → column ≡ get_or others i column → (i + 1 < length columns) × (column ≡ get_or columns (i + 1) column)
+after_first columns others first column i split h at =
+    (omega (arith, h, ap (λ (cs : List Column). length cs) split), at ∙ ap (λ (k : ℕ). get_or (first ∷ others) k column) (let z : suc i ≡ i + 1 = omega arith in z) ∙ ap (λ (cs : List Column). get_or cs (i + 1) column) (sym split))
 
 pub values_fit : (count : ℕ) (granules : List ℕ) (values : List (List Value)) → map (λ (h : List Value). length h) values ≡ granules → sum granules ≡ count → length (all_values values) ≡ count
 values_fit count granules values each all = length-all_values values ∙ ap sum each ∙ all

@@ -12,7 +12,6 @@ use Rattle.mt_defs.specs.Lists.{AreBytes}
 use Rattle.mt_defs.specs.Marks.{IsMarksFile}
 use Rattle.mt_defs.specs.Frames.{IsFramed}
 use Rattle.mt_defs.specs.Wide.{HasStream}
-use Rattle.mt_granules.specs.ByteFiles.{HasByteFiles}
 use Rattle.mt_granules.specs.FileFaults.{file_fault, granule_fault}
 use Rattle.mt_granules.specs.PayloadReading.{GranulePayloads, payloads_reading}
 use Rattle.mt_granules.proofs.CutLemmas.{AreRuns, concat_flat, flat, sizes_of}
@@ -96,11 +95,11 @@ stream_of folder name grouped payloads granules are payloads_are holds =
       marks = subst (λ (s : List (List ℕ)). IsMarksFile 1 holds.data_file s granules holds.marks_file) (ap (map sizes_of) same ∙ singles_sizes payloads) holds.marks;
     }
 
-pub stream_held : (folder : Folder) (granules name : List ℕ) (payloads : List (List ℕ)) → HasByteFiles folder → stream_reading folder granules name ≡ Ok payloads → IsHeld folder granules name payloads
-stream_held folder granules name payloads files e =
+pub stream_held : (folder : Folder) (granules name : List ℕ) (payloads : List (List ℕ)) → stream_reading folder granules name ≡ Ok payloads → IsHeld folder granules name payloads
+stream_held folder granules name payloads e =
     ok_then (payloads_reading folder (data_name name) (marks_name name) 1) _ payloads e (λ read is e.
     ok_then (granules_check (marks_name name) granules read.granules) _ payloads e (λ u checked e.
-    let held = payloads_held folder (data_name name) (marks_name name) 1 read files (omega arith) is in
+    let held = payloads_held folder (data_name name) (marks_name name) 1 read (omega arith) is in
     let same = check_same (marks_name name) granules read.granules u checked in
     let all : payloads ≡ read.payloads = ok_one _ _ e in
     let many : length read.payloads ≡ length read.granules = ap (λ (l : List (List ℕ)). length l) (held.payloads_are ∙ ap flat (singles_back held.grouped held.are) ∙ singles_flat (flat held.grouped)) ∙ one_each held.grouped held.are ∙ held.many in
@@ -124,15 +123,15 @@ holds_of folder name payloads granules has = record {
   marks = subst (λ (s : List (List ℕ)). IsMarksFile 1 has.data_file s granules has.marks_file) (sym (singles_sizes payloads)) has.marks;
 }
 
-pub first_read : (folder : Folder) (granules name : List ℕ) (payloads : List (List ℕ)) → HasByteFiles folder → AreHeldGranules granules → length payloads ≡ length granules → HasStream name payloads granules folder
+pub first_read : (folder : Folder) (granules name : List ℕ) (payloads : List (List ℕ)) → AreHeldGranules granules → length payloads ≡ length granules → HasStream name payloads granules folder
     → payloads_reading folder (data_name name) (marks_name name) 1 ≡ Ok (record { payloads = payloads; granules = granules })
-first_read folder granules name payloads files are many has =
-    payloads_read folder (data_name name) (marks_name name) 1 (singles payloads) granules files (omega arith) (omega arith) (singles_runs payloads) (length-map payloads (λ (p : List ℕ). p ∷ []) ∙ many) (holds_of folder name payloads granules has)
+first_read folder granules name payloads are many has =
+    payloads_read folder (data_name name) (marks_name name) 1 (singles payloads) granules (omega arith) (omega arith) (singles_runs payloads) (length-map payloads (λ (p : List ℕ). p ∷ []) ∙ many) (holds_of folder name payloads granules has)
     are.not_empty are.some are.small
     ∙ ap (λ (p : List (List ℕ)). let r : Result GranulePayloads _ = Ok (record { payloads = p; granules = granules }) in r) (singles_flat payloads)
 
-pub stream_read : (folder : Folder) (granules name : List ℕ) (payloads : List (List ℕ)) → HasByteFiles folder → AreHeldGranules granules → length payloads ≡ length granules → HasStream name payloads granules folder
+pub stream_read : (folder : Folder) (granules name : List ℕ) (payloads : List (List ℕ)) → AreHeldGranules granules → length payloads ≡ length granules → HasStream name payloads granules folder
     → stream_reading folder granules name ≡ Ok payloads
-stream_read folder granules name payloads files are many has =
-    then_of (payloads_reading folder (data_name name) (marks_name name) 1) (record { payloads = payloads; granules = granules }) _ (first_read folder granules name payloads files are many has)
+stream_read folder granules name payloads are many has =
+    then_of (payloads_reading folder (data_name name) (marks_name name) 1) (record { payloads = payloads; granules = granules }) _ (first_read folder granules name payloads are many has)
     ∙ then_of (granules_check (marks_name name) granules granules) tt _ (check_itself (marks_name name) granules)

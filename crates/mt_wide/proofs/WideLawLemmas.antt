@@ -20,7 +20,6 @@ use Rattle.mt_defs.specs.Granules.{granule_rows}
 use Rattle.mt_defs.specs.Metadata.{no_column}
 use Rattle.mt_defs.specs.Rows.{Row, column_values}
 use Rattle.mt_defs.specs.Wide.{HasColumn, HasStream, IsWide, stream_payloads}
-use Rattle.mt_granules.specs.ByteFiles.{HasByteFiles}
 use Rattle.mt_granules.specs.ColumnRows.{all_values, row_at, rows_of}
 use Rattle.mt_granules.specs.FileFaults.{Judged, file_fault, in_order}
 use Rattle.mt_granules.specs.PayloadReading.{GranulePayloads, granules_reading, payloads_reading}
@@ -41,13 +40,13 @@ AreProfile = All (λ column. IsTrue (is_profile column.ty))
 
 -- ---- the granules
 
-granules_held : (folder : Folder) (count : ℕ) (columns : List Column) (granules : List ℕ) → HasByteFiles folder → wide_granules folder count columns ≡ Ok granules → AreHeldGranules granules × (sum granules ≡ count)
-granules_held folder count columns granules files e =
+granules_held : (folder : Folder) (count : ℕ) (columns : List Column) (granules : List ℕ) → wide_granules folder count columns ≡ Ok granules → AreHeldGranules granules × (sum granules ≡ count)
+granules_held folder count columns granules e =
     let name = first_stream columns in
     ok_then (granules_reading folder count (data_name name) (marks_name name) 1) (λ read. Ok read.granules) granules e (λ read is e.
     ok_then (payloads_reading folder (data_name name) (marks_name name) 1) _ read is (λ found found_is is.
     required (sum found.granules == count) (file_fault (marks_name name) why.Rows) (λ _. Ok found) read is (λ all is.
-    let held = payloads_held folder (data_name name) (marks_name name) 1 found files (omega arith) found_is in
+    let held = payloads_held folder (data_name name) (marks_name name) 1 found (omega arith) found_is in
     let same : granules ≡ found.granules = ok_one _ _ e ∙ ap (λ (r : GranulePayloads). r.granules) (ok_one _ _ is) in (
       subst AreHeldGranules (sym same) (record { some = held.some; small = held.small; not_empty = held.not_empty }),
       ap sum same ∙ eqb-true (sum found.granules) count all,
@@ -61,20 +60,20 @@ row_fits [] (v ∷ values) r p = absurd p
 row_fits (c ∷ columns) [] r p = absurd p
 row_fits (c ∷ columns) (v ∷ values) r p = (list_all_at (fits_of c.ty) v r Null p.0.0 p.0.1, row_fits columns values r p.1)
 
-pub wide_held : (folder : Folder) (count : ℕ) (columns : List Column) (rows : List Row) (granules : List ℕ) → HasByteFiles folder → AreProfile columns → wide_reading folder count columns ≡ Ok (rows, granules) → HoldsRows columns rows granules count folder
-wide_held folder count columns rows granules files profile e =
+pub wide_held : (folder : Folder) (count : ℕ) (columns : List Column) (rows : List Row) (granules : List ℕ) → AreProfile columns → wide_reading folder count columns ≡ Ok (rows, granules) → HoldsRows columns rows granules count folder
+wide_held folder count columns rows granules profile e =
     ok_then (wide_granules folder count columns) _ (rows, granules) e (λ known known_is e.
     ok_then (rows_reading folder known count columns) _ (rows, granules) e (λ read read_is e.
     ok_then (in_order (column_reading folder known) columns) (λ values. Ok (rows_of count (map all_values values))) read read_is (λ values are read_is.
     let pair = ok_pair _ _ _ _ e in
-    let held_granules = granules_held folder count columns known files known_is in
+    let held_granules = granules_held folder count columns known known_is in
     let cols = map all_values values in
     let rows_are : rows ≡ rows_of count cols = pair.0 ∙ ok_one _ _ read_is in
     let step = column_reading folder known in
     let columns_are = order_each step columns values are in
     let wide : length columns ≡ length values = pointwise_long _ columns values columns_are in
     let held : (k : ℕ) → k < length columns → ColumnIsHeld folder known (get_or columns k no_column) (get_or values k []) = λ k h.
-    column_held folder known (get_or columns k no_column) (get_or values k []) files (profile k no_column h) (pointwise_at _ columns values k no_column [] columns_are h) in
+    column_held folder known (get_or columns k no_column) (get_or values k []) (profile k no_column h) (pointwise_at _ columns values k no_column [] columns_are h) in
     let long : (k : ℕ) → k < length columns → length (all_values (get_or values k [])) ≡ count = λ k h. length-all_values (get_or values k []) ∙ ap sum (held k h).each ∙ held_granules.1 in
     let many : length rows ≡ count = ap (λ (l : List Row). length l) rows_are ∙ length-rows_of count cols in
     let column_at : (k : ℕ) → k < length columns → get_or cols k [] ≡ all_values (get_or values k []) = λ k h. get_or-map all_values values k [] [] (omega (arith, h, wide)) in
@@ -114,9 +113,9 @@ first_has (c ∷ columns) rows granules folder some is =
       length-map has.granule_streams _ ∙ sym (pointwise_long _ (granule_rows granules rows) has.granule_streams has.encoded) ∙ length-granule_rows granules rows,
     )
 
-pub wide_read : (folder : Folder) (count : ℕ) (columns : List Column) (rows : List Row) (granules : List ℕ) → HasByteFiles folder → AreProfile columns → 1 ≤ length columns → 1 ≤ count → count ≤ MAX_ROWS → HoldsRows columns rows granules count folder
+pub wide_read : (folder : Folder) (count : ℕ) (columns : List Column) (rows : List Row) (granules : List ℕ) → AreProfile columns → 1 ≤ length columns → 1 ≤ count → count ≤ MAX_ROWS → HoldsRows columns rows granules count folder
     → wide_reading folder count columns ≡ Ok (rows, granules)
-wide_read folder count columns rows granules files profile some any few holds =
+wide_read folder count columns rows granules profile some any few holds =
     let is = holds.layout in
     let all : sum granules ≡ count = is.cut.all ∙ holds.many in
     let are : AreHeldGranules granules = record { some = is.cut.not_empty; small = omega (arith, all, few); not_empty = not_none granules (omega (arith, all, any)) } in
@@ -124,7 +123,7 @@ wide_read folder count columns rows granules files profile some any few holds =
     let (payloads, has, many) = first_has columns rows granules folder some is in
     let first : wide_granules folder count columns ≡ Ok granules =
     then_of (granules_reading folder count (data_name name) (marks_name name) 1) (record { payloads = payloads; granules = granules }) (λ read. Ok read.granules)
-    (then_of (payloads_reading folder (data_name name) (marks_name name) 1) (record { payloads = payloads; granules = granules }) _ (first_read folder granules name payloads files are many has)
+    (then_of (payloads_reading folder (data_name name) (marks_name name) 1) (record { payloads = payloads; granules = granules }) _ (first_read folder granules name payloads are many has)
     ∙ passed (sum granules == count) (file_fault (marks_name name) why.Rows) _ (eq-eqb (sum granules) count all)) in
     let numbered = enumerate_from 0 columns in
     let values : List (List (List Value)) = map (λ (i, column). map (column_values i) (granule_rows granules rows)) numbered in
@@ -133,7 +132,7 @@ wide_read folder count columns rows granules files profile some any few holds =
     order_all (column_reading folder granules) columns values (pointwise_of _ columns values (sym (length-map numbered _ ∙ long)) (λ k a b h.
     let here = numbered_each (λ (p : ℕ × Column). HasColumn p.1 p.0 rows granules folder) columns a k is.columns_there h in
     let at : get_or numbered k (0, a) ≡ (k, get_or columns k a) = get_or-enumerate_from 0 columns k (0, a) h ∙ ap (λ n. (n, get_or columns k a)) (let z : 0 + k ≡ k = omega arith in z) in
-    column_is_read folder granules (get_or columns k a) k rows files are (profile k a h) is.cut.all here
+    column_is_read folder granules (get_or columns k a) k rows are (profile k a h) is.cut.all here
     ∙ ap (λ (vs : List (List Value)). let r : Judged (List (List Value)) = Ok vs in r)
     (sym (get_or-map (λ (p : ℕ × Column). map (column_values p.0) (granule_rows granules rows)) numbered k (0, a) b (omega (arith, h, long)) ∙ ap (λ (p : ℕ × Column). map (column_values p.0) (granule_rows granules rows)) at)))) in
     let cols_are : map all_values values ≡ map (λ (i, column). column_values i rows) numbered = each_joined numbered is.cut.all in
@@ -155,12 +154,12 @@ wide_read folder count columns rows granules files profile some any few holds =
 
 -- ---- both
 
-pub wide_exactly : (folder : Folder) (count : ℕ) (columns : List Column) (rows : List Row) (granules : List ℕ) → HasByteFiles folder → AreProfile columns → 1 ≤ length columns → 1 ≤ count → count ≤ MAX_ROWS
+pub wide_exactly : (folder : Folder) (count : ℕ) (columns : List Column) (rows : List Row) (granules : List ℕ) → AreProfile columns → 1 ≤ length columns → 1 ≤ count → count ≤ MAX_ROWS
     → (wide_reading folder count columns ≡ Ok (rows, granules)) ↔ HoldsRows columns rows granules count folder
-wide_exactly folder count columns rows granules files profile some any few = (wide_held folder count columns rows granules files profile, wide_read folder count columns rows granules files profile some any few)
+wide_exactly folder count columns rows granules profile some any few = (wide_held folder count columns rows granules profile, wide_read folder count columns rows granules profile some any few)
 
-pub one_list : (folder : Folder) (count : ℕ) (columns : List Column) (rows others : List Row) (granules marked : List ℕ) → HasByteFiles folder → AreProfile columns → 1 ≤ length columns → 1 ≤ count → count ≤ MAX_ROWS
+pub one_list : (folder : Folder) (count : ℕ) (columns : List Column) (rows others : List Row) (granules marked : List ℕ) → AreProfile columns → 1 ≤ length columns → 1 ≤ count → count ≤ MAX_ROWS
     → HoldsRows columns rows granules count folder → HoldsRows columns others marked count folder → (rows ≡ others) × (granules ≡ marked)
-one_list folder count columns rows others granules marked files profile some any few one other =
-    let pair = ok_pair rows others granules marked (sym (wide_read folder count columns rows granules files profile some any few one) ∙ wide_read folder count columns others marked files profile some any few other) in
+one_list folder count columns rows others granules marked profile some any few one other =
+    let pair = ok_pair rows others granules marked (sym (wide_read folder count columns rows granules profile some any few one) ∙ wide_read folder count columns others marked profile some any few other) in
     (sym pair.0, sym pair.1)

@@ -23,18 +23,18 @@ abbrev pub first_stream : List Column → List ℕ
 first_stream [] = []
 first_stream (column ∷ columns) = slice_index_or (stream_names column) 0 []
 
--- the rows of each granule, by the part's first marks file, where they are so many
+-- the rows of each granule, by the part's first marks file, where they are so many (3.1 to 3.5)
 abbrev pub wide_granules : Folder → (count : ℕ) → List Column → Judged (List ℕ)
 wide_granules folder count columns =
     granules_reading folder count (data_name (first_stream columns)) (marks_name (first_stream columns)) 1 >>= λ read. Ok read.granules
 
--- the rows of each granule from this one on are those of the first marks file
+-- the rows of each granule from this one on are those of the first marks file (3.7)
 abbrev pub same_rows : (marks_name : List ℕ) → (granule : ℕ) → (known rows : List ℕ) → Judged (Unit {0})
 same_rows marks_name granule [] rows = Ok tt
 same_rows marks_name granule (count ∷ known) [] = Ok tt
 same_rows marks_name granule (count ∷ known) (here ∷ rows) = require (count == here) (granule_fault marks_name granule why.Rows) >>= λ _. same_rows marks_name (granule + 1) known rows
 
--- the granules of a marks file are those of the first: as many, and each of as many rows
+-- the granules of a marks file are those of the first: as many, and each of as many rows (3.6)
 abbrev pub granules_check : (marks_name : List ℕ) → (known rows : List ℕ) → Judged (Unit {0})
 granules_check marks_name known rows = require (length known == length rows) (file_fault marks_name why.Length) >>= λ _. same_rows marks_name 0 known rows
 
@@ -55,12 +55,12 @@ payloads_at granule streams = map (λ payloads. slice_index_or payloads granule 
 abbrev pub value_fault : (names : List (List ℕ)) → (granule : ℕ) → ℕ × (ℕ × CodecWhy) → Fault
 value_fault names granule (stream, (item, reason)) = granule_fault (data_name (slice_index_or names stream [])) granule (codec_why reason)
 
--- a column's values in a granule of so many rows
+-- a column's values in a granule of so many rows (3.8)
 abbrev pub granule_reading : Column → List (List (List ℕ)) → ℕ × ℕ → Judged (List Value)
 granule_reading column streams (granule, count) =
     blame (value_fault (stream_names column) granule) (decode_reading column.ty count (payloads_at granule streams))
 
--- a column's values in each granule: all its files are judged before its values
+-- a column's values in each granule: all its files are judged before its values (3.1 to 3.8)
 abbrev pub column_reading : Folder → (granules : List ℕ) → Column → Judged (List (List Value))
 column_reading folder granules column = do
   streams ← in_order (stream_reading folder granules) (stream_names column)

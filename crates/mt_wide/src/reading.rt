@@ -13,7 +13,7 @@ ghost use Rattle.mt_wide.specs.WideReading.{rows_reading, wide_granules, wide_re
 
 use crate::column::read_column;
 use crate::names::{stream_names, with_ending};
-use mt_granules::{FileError, FileIndex, append_column, empty_rows, read_granules};
+use mt_granules::{FileError, FileIndex, append_column, first_rows, read_granules};
 use mt_shelf::{FileBytes, ReadError};
 use mt_table::Column;
 use mt_types::{List, NoMemory, Row};
@@ -60,7 +60,7 @@ fn read_rows(
     Ok((List::of(rows), granules))
 }
 
-/// The rows of the columns, so many, which stand in these granules.
+/// The rows of the columns, so many, which stand in these granules. They are made once the first column was read.
 fn read_columns(
     alloc: Global,
     folder: &FileIndex<'_>,
@@ -68,14 +68,19 @@ fn read_columns(
     granules: &[u64],
     columns: &[Column],
 ) -> Result<Vec<Row>, FileError>
+    requires some { 1 ≤ length columns.now }
     requires profile { All (λ column. IsTrue (is_profile column.ty)) columns.now }
     requires rows { count ≤ MAX_ROWS }
     requires all { sum granules.now ≡ count }
     ensures reads { Shows (λ rows. rows.items) result (rows_reading (folder_in folder.now) granules.now count columns.now) }
     ensures fit { IfOk result (λ rows. All (RowFits columns.now) rows.items) }
 {
-    let mut rows = empty_rows(alloc, count, columns.len())?;
-    for column in columns {
+    let Some((first, others)) = columns.split_first() else {
+        unreachable!()
+    };
+    let first_values = read_column(alloc, folder, granules, first)?;
+    let mut rows = first_rows(alloc, first_values, count, columns.len())?;
+    for column in others {
         let values = read_column(alloc, folder, granules, column)?;
         append_column(values, &mut rows)?;
     }

@@ -1,4 +1,4 @@
-use Rattle.std.proofs.Common.{List, ℕ, ◌≡◌, ◌∷◌, ap, sym, subst, ◌∙◌, arith}
+use Rattle.std.proofs.Common.{ℕ, ◌≡◌, ◌∷◌, ap, sym, subst, ◌∙◌, arith}
 use Rattle.mt_types.specs.declared.ty.Ty.{out-Ty}
 use Rattle.mt_item.specs.ItemReading.{held_front, number_front}
 use Rattle.mt_item.specs.Results.{GivesRead}

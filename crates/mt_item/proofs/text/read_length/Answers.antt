@@ -1,4 +1,4 @@
-use Rattle.std.proofs.Common.{Ok, ℕ, List, ◌≡◌, ap, sym, ◌∙◌, arith}
+use Rattle.std.proofs.Common.{Ok, ℕ, List, ap, sym, ◌∙◌, arith}
 use Rattle.mt_item.specs.ItemReading.{First}
 use Rattle.mt_item.proofs.LengthLemmas.{read_got, read_short, read_bad}
 use Rattle.mt_item.proofs.text.read_length.Goals as goal
