@@ -18,14 +18,15 @@ use Rattle.mt_defs.specs.Rows.{Row}
 use Rattle.mt_defs.specs.SkipIndexes.{skip_data_name, skip_marks_name}
 use Rattle.mt_defs.specs.WrittenColumns.{file}
 use Rattle.mt_defs.specs.WrittenPartition.{minmax_file, partition_files}
-use Rattle.mt_check.specs.declared.accepted.Accepted.{Accepted}
-use Rattle.mt_check.specs.Faults.{fault_in, fault_of, file_reading, none_found}
-use Rattle.mt_check.specs.OwnNames as own
-use Rattle.mt_check.specs.OwnNames.{each_once, skip_names_in}
+use Rattle.mt_definition.specs.declared.accepted.Accepted.{Accepted}
+use Rattle.mt_granules.specs.FileFaults.{file_at, blame, frame_fault, file_fault, file_reading, granule_fault}
+use Rattle.mt_files.specs.Faults.{none_found}
+use Rattle.mt_files.specs.OwnNames as own
+use Rattle.mt_files.specs.OwnNames.{each_once, skip_names_in}
 use Rattle.mt_check.specs.PartitionReading.{files_reading, other_partition, partition_reading}
-use Rattle.mt_check.specs.RowsReading.{granule_of}
-use Rattle.mt_check.specs.SkipMarks.{in_frames, index_entries, marks_reading, pieces_at, positions_reading}
-use Rattle.mt_check.proofs.AgreeLemmas.{AgreeAt}
+use Rattle.mt_definition.specs.RowsReading.{granule_of}
+use Rattle.mt_files.specs.SkipMarks.{index_entries, marks_reading, pieces_at, positions_reading}
+use Rattle.mt_definition.proofs.AgreeLemmas.{AgreeAt, file_same}
 use Rattle.mt_frame.specs.FrameReading.{frames_reading, layout}
 use Rattle.mt_defs.specs.Frames.{file_of, payload_of}
 
@@ -35,8 +36,8 @@ files_same : (f g : Folder) (files : List FileBytes) → AgreeAt f g (map (λ fi
 unfolding files_reading
 files_same f g [] all = refl
 files_same f g (file ∷ files) all =
-    ap (λ (o : Option (List ℕ)). ok_or (fault_of file.name why.Missing) o >>= λ bytes. require (bytes_eq bytes file.bytes) (fault_of file.name why.Value) >>= λ _. files_reading f files) all.0
-    ∙ ap (λ (r : Result Unit Fault). file_reading g file.name >>= λ bytes. require (bytes_eq bytes file.bytes) (fault_of file.name why.Value) >>= λ _. r) (files_same f g files all.1)
+    ap (λ (o : Option (List ℕ)). ok_or (file_fault file.name why.Missing) o >>= λ bytes. require (bytes_eq bytes file.bytes) (file_fault file.name why.Value) >>= λ _. files_reading f files) (file_same f g file.name all.0)
+    ∙ ap (λ (r : Result Unit Fault). file_reading g file.name >>= λ bytes. require (bytes_eq bytes file.bytes) (file_fault file.name why.Value) >>= λ _. r) (files_same f g files all.1)
 
 -- the columns of a partition key, each where it is first used
 abbrev distinct : List ℕ → List ℕ
@@ -90,34 +91,34 @@ written_agree f g table rows = by_test (length table.partition == 0)
 abbrev partition_by : Bool → Table → Accepted → Option (List ℕ) → Result Unit Fault → Result Unit Fault
 partition_by none table accepted value files =
     if none then Ok tt
-    else (ok_or (fault_of partition_name why.Missing) value >>= λ _. none_found (other_partition table accepted.rows) (λ row. fault_in partition_name (granule_of accepted.granules row) why.Partition) >>= λ _. files)
+    else (ok_or (file_fault partition_name why.Missing) value >>= λ _. none_found (other_partition table accepted.rows) (λ row. granule_fault partition_name (granule_of accepted.granules row) why.Partition) >>= λ _. files)
 
-partition_is : (table : Table) (folder : Folder) (accepted : Accepted) → partition_reading table folder accepted ≡ partition_by (length table.partition == 0) table accepted (folder partition_name) (files_reading folder (partition_files table accepted.rows))
+partition_is : (table : Table) (folder : Folder) (accepted : Accepted) → partition_reading table folder accepted ≡ partition_by (length table.partition == 0) table accepted (file_at folder partition_name) (files_reading folder (partition_files table accepted.rows))
 unfolding partition_reading
 partition_is table folder accepted = refl
 
 pub partition_same : (f g : Folder) (table : Table) (accepted : Accepted) → AgreeAt f g (own.partition_files table) → partition_reading table f accepted ≡ partition_reading table g accepted
 partition_same f g table accepted all =
     let files : files_reading f (partition_files table accepted.rows) ≡ files_reading g (partition_files table accepted.rows) = files_same f g (partition_files table accepted.rows) (written_agree f g table accepted.rows all) in
-    partition_is table f accepted ∙ ap (partition_by (length table.partition == 0) table accepted (f partition_name)) files
+    partition_is table f accepted ∙ ap (partition_by (length table.partition == 0) table accepted (file_at f partition_name)) files
     ∙ by_test (length table.partition == 0) all ∙ sym (partition_is table g accepted)
   where
     by_test : (b : Bool) → AgreeAt f g (if b then [] else partition_name ∷ map (minmax_name table) (each_once (map expression_column table.partition)))
-        → partition_by b table accepted (f partition_name) (files_reading g (partition_files table accepted.rows)) ≡ partition_by b table accepted (g partition_name) (files_reading g (partition_files table accepted.rows))
+        → partition_by b table accepted (file_at f partition_name) (files_reading g (partition_files table accepted.rows)) ≡ partition_by b table accepted (file_at g partition_name) (files_reading g (partition_files table accepted.rows))
     by_test true all = refl
-    by_test false all = ap (λ o. partition_by false table accepted o (files_reading g (partition_files table accepted.rows))) all.0
+    by_test false all = ap (λ o. partition_by false table accepted o (files_reading g (partition_files table accepted.rows))) (file_same f g partition_name all.0)
 
 -- ---- the entries of a skip index
 
 abbrev entries_by : List ℕ → Skip → ℕ → Option (List ℕ) → Option (List ℕ) → Result (List (List ℕ)) Fault
 entries_by ending skip count file marks =
-    (ok_or (fault_of (skip_data_name skip) why.Missing) file >>= λ bytes. in_frames (skip_data_name skip) (frames_reading bytes)) >>= λ blocks.
-    ok_or (fault_of (skip_marks_name skip ending) why.Missing) marks >>= λ bytes.
+    (ok_or (file_fault (skip_data_name skip) why.Missing) file >>= λ bytes. blame (frame_fault (skip_data_name skip)) (frames_reading bytes)) >>= λ blocks.
+    ok_or (file_fault (skip_marks_name skip ending) why.Missing) marks >>= λ bytes.
     marks_reading (skip_marks_name skip ending) count bytes >>= λ marks.
     positions_reading (skip_marks_name skip ending) skip.granularity (length (file_of blocks)) (layout blocks) 0 None marks >>= λ positions.
     Ok (pieces_at (payload_of blocks) positions)
 
-entries_are : (folder : Folder) (ending : List ℕ) (skip : Skip) (count : ℕ) → index_entries folder ending skip count ≡ entries_by ending skip count (folder (skip_data_name skip)) (folder (skip_marks_name skip ending))
+entries_are : (folder : Folder) (ending : List ℕ) (skip : Skip) (count : ℕ) → index_entries folder ending skip count ≡ entries_by ending skip count (file_at folder (skip_data_name skip)) (file_at folder (skip_marks_name skip ending))
 unfolding index_entries
 entries_are folder ending skip count = refl
 
@@ -125,7 +126,7 @@ pub entries_same : (f g : Folder) (skip : Skip) (count : ℕ) → is_compact f �
 entries_same f g skip count kind all =
     let ending = marks_ending (is_compact f) in
     entries_are f ending skip count
-    ∙ ap (λ o. entries_by ending skip count o (f (skip_marks_name skip ending))) all.0
-    ∙ ap (entries_by ending skip count (g (skip_data_name skip))) all.1.0
+    ∙ ap (λ o. entries_by ending skip count o (file_at f (skip_marks_name skip ending))) (file_same f g (skip_data_name skip) all.0)
+    ∙ ap (entries_by ending skip count (file_at g (skip_data_name skip))) (file_same f g (skip_marks_name skip ending) all.1.0)
     ∙ sym (entries_are g ending skip count)
     ∙ ap (λ b. index_entries g (marks_ending b) skip count) kind

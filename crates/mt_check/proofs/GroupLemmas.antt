@@ -1,7 +1,7 @@
 -- Groups of granules, and the entries over them.
 use Rattle.std.proofs.Common.{◌≡◌, ℕ, zero, suc, ◌+◌, ◌*◌, ◌<◌, ◌≤◌, ◌^◌, Bool, true, false, List, [], ◌∷◌, ◌++◌, length, take, drop, refl, ap, sym, subst, ◌∙◌, arith, min, get_or, inl, inr}
 use Rattle.std.specs.Prelude.{sum, All, Result, Ok, Err, ◌==◌}
-use Rattle.std.specs.List.{flat_map}
+use Rattle.std.specs.List.{flat_map, zip}
 use Rattle.std.proofs.Math.Nat.{mul-le-mul}
 use Rattle.std.proofs.Math.Seq.{drop-nil, take-add}
 use Rattle.std.proofs.lemmas.Bool.Decides.{leb_tells}
@@ -11,22 +11,24 @@ use Rattle.std.proofs.lemmas.List.Elements.{All-head, All-tail, All-take, All-dr
 use Rattle.std.proofs.lemmas.List.Sums.{sum_by-cons, sum_by-take-drop}
 use Rattle.mt_types.specs.declared.ty.Ty.{Ty}
 use Rattle.mt_types.specs.Fits.{fits_of}
+use Rattle.mt_types.specs.Steps.{◌>>=◌, require}
+use Rattle.mt_types.proofs.StepLemmas.{passed, then_of}
+use Rattle.mt_shelf.specs.declared.fault.Fault.{Fault}
 use Rattle.mt_shelf.specs.declared.fault.ReadError.{ReadError}
 use Rattle.mt_shelf.specs.declared.fault.Why.TheVariants as why
 use Rattle.mt_table.specs.declared.column.Column.{Column}
 use Rattle.mt_table.specs.declared.skip.Skip.{Skip}
 use Rattle.mt_defs.specs.Granules.{granule_rows}
 use Rattle.mt_defs.specs.Rows.{Row, RowFits, cell, column_values}
-use Rattle.mt_defs.specs.SkipIndexes.{Summarizes, entry_groups, skip_data_name}
-use Rattle.mt_check.specs.Checks.{Checks, ◌>>=◌, holds, each}
-use Rattle.mt_check.specs.Faults.{fault_in}
-use Rattle.mt_check.specs.FolderChecks.{entries_checks}
-use Rattle.mt_check.specs.Results.{Answers, IsFault}
+use Rattle.mt_defs.specs.SkipIndexes.{summarizes, entry_groups, skip_data_name}
+use Rattle.mt_granules.specs.FileFaults.{granule_fault}
+use Rattle.mt_check.specs.FolderChecks.{each, entries_checks}
+use Rattle.mt_files.specs.Results.{FailsAs, IsFault}
 use Rattle.mt_check.specs.RowGroups.{group_sizes}
-use Rattle.mt_check.specs.SkipMarks.{pieces_at}
-use Rattle.mt_check.proofs.CheckLemmas.{first_error, next_answer, holds_not}
-use Rattle.mt_check.proofs.KeyLemmas.{cell_fits}
-use Rattle.mt_check.proofs.LoopLemmas.{at_index, at_end}
+use Rattle.mt_files.specs.SkipMarks.{pieces_at}
+use Rattle.mt_files.proofs.FaultLemmas.{fails_then, test_fails}
+use Rattle.mt_definition.proofs.KeyLemmas.{cell_fits}
+use Rattle.mt_files.proofs.LoopLemmas.{at_index, at_end}
 
 -- ---- sizes
 
@@ -174,67 +176,62 @@ values_left ty column n rows after back fit =
 
 -- ---- entries, one by one
 
-abbrev entry_check : Skip → Ty → ℕ → List Row → List ℕ → Checks Unit
-entry_check skip ty granule rows entry = holds (Summarizes skip.kind ty (column_values skip.column rows) entry) (fault_in (skip_data_name skip) granule why.Value)
+abbrev entry_check : Skip → Ty → ℕ → List Row → List ℕ → Result Unit Fault
+entry_check skip ty granule rows entry = require (summarizes skip.kind ty (column_values skip.column rows) entry) (granule_fault (skip_data_name skip) granule why.Value)
 
-entries_next : (skip : Skip) (ty : Ty) (granule : ℕ) (rows : List Row) (groups : List (List Row)) (entry : List ℕ) (entries : List (List ℕ)) (r : Result Unit ReadError)
-    → Answers r (entry_check skip ty granule rows entry >>= λ _. entries_checks skip ty (granule + skip.granularity) groups entries) → Answers r (entries_checks skip ty granule (rows ∷ groups) (entry ∷ entries))
+entries_next : (skip : Skip) (ty : Ty) (granule : ℕ) (rows : List Row) (entry : List ℕ) (entries : List (List Row × List ℕ))
+    → entries_checks skip ty granule ((rows, entry) ∷ entries) ≡ (entry_check skip ty granule rows entry >>= λ _. entries_checks skip ty (granule + skip.granularity) entries)
 unfolding entries_checks
-entries_next skip ty granule rows groups entry entries r answers = answers
+entries_next skip ty granule rows entry entries = refl
 
-entries_none : (skip : Skip) (ty : Ty) (granule : ℕ) (groups : List (List Row)) → Answers (Ok tt) (entries_checks skip ty granule groups [])
+entries_none : (skip : Skip) (ty : Ty) (granule : ℕ) → entries_checks skip ty granule [] ≡ Ok tt
 unfolding entries_checks
-entries_none skip ty granule [] = refl
-entries_none skip ty granule (rows ∷ groups) = refl
+entries_none skip ty granule = refl
 
-groups_none : (skip : Skip) (ty : Ty) (granule : ℕ) (entries : List (List ℕ)) → Answers (Ok tt) (entries_checks skip ty granule [] entries)
-unfolding entries_checks
-groups_none skip ty granule [] = refl
-groups_none skip ty granule (entry ∷ entries) = refl
+-- the checks of the entries from one on, where the loop stands
+abbrev pub entries_from : Skip → Ty → List ℕ → List ℕ → ℕ → List Row → List ℕ → Result Unit Fault
+entries_from skip ty sizes payload i rest ahead = entries_checks skip ty (i * skip.granularity) (zip (granule_rows (drop i sizes) rest) (pieces_at payload ahead))
 
--- where the loop stands
-abbrev pub Decides : Skip → Ty → List ℕ → List ℕ → List Row → List ℕ → ℕ → List Row → List ℕ → Type 0
-Decides skip ty sizes payload rows positions i rest ahead =
-    (r : Result Unit ReadError) → Answers r (entries_checks skip ty (i * skip.granularity) (granule_rows (drop i sizes) rest) (pieces_at payload ahead)) → Answers r (entries_checks skip ty 0 (granule_rows sizes rows) (pieces_at payload positions))
+pub no_entry : (skip : Skip) (ty : Ty) (sizes payload : List ℕ) (i : ℕ) (rest : List Row) (ahead : List ℕ) (whole : Result Unit Fault) → entries_from skip ty sizes payload i rest ahead ≡ whole → ahead ≡ [] → whole ≡ Ok tt
+no_entry skip ty sizes payload i rest ahead whole left none =
+    sym left ∙ ap (λ (a : List ℕ). entries_checks skip ty (i * skip.granularity) (zip (granule_rows (drop i sizes) rest) (pieces_at payload a))) none
+    ∙ ap (entries_checks skip ty (i * skip.granularity)) (nothing (granule_rows (drop i sizes) rest)) ∙ entries_none skip ty (i * skip.granularity)
+  where
+    nothing : (groups : List (List Row)) → zip groups (let none : List (List ℕ) = [] in none) ≡ []
+    nothing [] = refl
+    nothing (group ∷ groups) = refl
 
-pub no_entry : (skip : Skip) (ty : Ty) (sizes payload : List ℕ) (rows : List Row) (positions : List ℕ) (i : ℕ) (rest : List Row) (ahead : List ℕ) → Decides skip ty sizes payload rows positions i rest ahead → ahead ≡ []
-    → Answers (Ok tt) (entries_checks skip ty 0 (granule_rows sizes rows) (pieces_at payload positions))
-no_entry skip ty sizes payload rows positions i rest ahead decides none =
-    decides (Ok tt) (subst (λ (a : List ℕ). Answers (Ok tt) (entries_checks skip ty (i * skip.granularity) (granule_rows (drop i sizes) rest) (pieces_at payload a))) (sym none) (entries_none skip ty (i * skip.granularity) (granule_rows (drop i sizes) rest)))
+pub no_group : (skip : Skip) (ty : Ty) (sizes payload : List ℕ) (i : ℕ) (rest : List Row) (ahead : List ℕ) (whole : Result Unit Fault) → entries_from skip ty sizes payload i rest ahead ≡ whole → length sizes ≤ i → whole ≡ Ok tt
+no_group skip ty sizes payload i rest ahead whole left over =
+    sym left ∙ ap (λ (some : List ℕ). entries_checks skip ty (i * skip.granularity) (zip (granule_rows some rest) (pieces_at payload ahead))) (at_end sizes i over) ∙ entries_none skip ty (i * skip.granularity)
 
-pub no_group : (skip : Skip) (ty : Ty) (sizes payload : List ℕ) (rows : List Row) (positions : List ℕ) (i : ℕ) (rest : List Row) (ahead : List ℕ) → Decides skip ty sizes payload rows positions i rest ahead → length sizes ≤ i
-    → Answers (Ok tt) (entries_checks skip ty 0 (granule_rows sizes rows) (pieces_at payload positions))
-no_group skip ty sizes payload rows positions i rest ahead decides over =
-    decides (Ok tt) (subst (λ (some : List ℕ). Answers (Ok tt) (entries_checks skip ty (i * skip.granularity) (granule_rows some rest) (pieces_at payload ahead))) (sym (at_end sizes i over)) (groups_none skip ty (i * skip.granularity) (pieces_at payload ahead)))
-
-next_by : (skip : Skip) (ty : Ty) (sizes payload : List ℕ) (i size : ℕ) (rest group after : List Row) (ahead later entry : List ℕ) (r : Result Unit ReadError) → i < length sizes → size ≡ get_or sizes i size → group ≡ take size rest → after ≡ drop size rest
+next_is : (skip : Skip) (ty : Ty) (sizes payload : List ℕ) (i size : ℕ) (rest group after : List Row) (ahead later entry : List ℕ) → i < length sizes → size ≡ get_or sizes i size → group ≡ take size rest → after ≡ drop size rest
     → pieces_at payload ahead ≡ entry ∷ pieces_at payload later
-    → Answers r (entry_check skip ty (i * skip.granularity) group entry >>= λ _. entries_checks skip ty (i * skip.granularity + skip.granularity) (granule_rows (drop (i + 1) sizes) after) (pieces_at payload later))
-    → Answers r (entries_checks skip ty (i * skip.granularity) (granule_rows (drop i sizes) rest) (pieces_at payload ahead))
-next_by skip ty sizes payload i size rest group after ahead later entry r inside at front back first answers =
+    → entries_from skip ty sizes payload i rest ahead ≡ (entry_check skip ty (i * skip.granularity) group entry >>= λ _. entries_from skip ty sizes payload (i + 1) after later)
+next_is skip ty sizes payload i size rest group after ahead later entry inside at front back first =
     let groups : granule_rows (drop i sizes) rest ≡ group ∷ granule_rows (drop (i + 1) sizes) after =
     ap (λ (some : List ℕ). granule_rows some rest) (at_index sizes i size inside at) ∙ ap (λ (g : List Row). g ∷ granule_rows (drop (i + 1) sizes) (drop size rest)) (sym front) ∙ ap (λ (a : List Row). group ∷ granule_rows (drop (i + 1) sizes) a) (sym back) in
-    subst (λ (some : List (List Row)). Answers r (entries_checks skip ty (i * skip.granularity) some (pieces_at payload ahead))) (sym groups)
-    (subst (λ (some : List (List ℕ)). Answers r (entries_checks skip ty (i * skip.granularity) (group ∷ granule_rows (drop (i + 1) sizes) after) some)) (sym first)
-    (entries_next skip ty (i * skip.granularity) group (granule_rows (drop (i + 1) sizes) after) entry (pieces_at payload later) r answers))
+    let pairs = zip (granule_rows (drop (i + 1) sizes) after) (pieces_at payload later) in
+    let granule : i * skip.granularity + skip.granularity ≡ (i + 1) * skip.granularity = sym (ap (λ k. k * skip.granularity) (let e : i + 1 ≡ suc i = omega arith in e) ∙ omega arith) in
+    ap (λ (some : List (List Row)). entries_checks skip ty (i * skip.granularity) (zip some (pieces_at payload ahead))) groups
+    ∙ ap (λ (some : List (List ℕ)). entries_checks skip ty (i * skip.granularity) (zip (group ∷ granule_rows (drop (i + 1) sizes) after) some)) first
+    ∙ entries_next skip ty (i * skip.granularity) group entry pairs
+    ∙ ap (λ g. entry_check skip ty (i * skip.granularity) group entry >>= λ _. entries_checks skip ty g pairs) granule
 
-pub entry_differs : (skip : Skip) (ty : Ty) (sizes payload : List ℕ) (rows : List Row) (positions : List ℕ) (i size : ℕ) (rest group after : List Row) (ahead later entry : List ℕ) (e : ReadError) → Decides skip ty sizes payload rows positions i rest ahead
+pub entry_differs : (skip : Skip) (ty : Ty) (sizes payload : List ℕ) (i size : ℕ) (rest group after : List Row) (ahead later entry : List ℕ) (whole : Result Unit Fault) (e : ReadError) → entries_from skip ty sizes payload i rest ahead ≡ whole
     → i < length sizes → size ≡ get_or sizes i size → group ≡ take size rest → after ≡ drop size rest → pieces_at payload ahead ≡ entry ∷ pieces_at payload later
-    → (Summarizes skip.kind ty (column_values skip.column group) entry → ⊥) → IsFault (fault_in (skip_data_name skip) (i * skip.granularity) why.Value) e
-    → Answers (Err e) (entries_checks skip ty 0 (granule_rows sizes rows) (pieces_at payload positions))
-entry_differs skip ty sizes payload rows positions i size rest group after ahead later entry e decides inside at front back first differs fault =
-    decides (Err e) (next_by skip ty sizes payload i size rest group after ahead later entry (Err e) inside at front back first
-    (first_error e (entry_check skip ty (i * skip.granularity) group entry) (λ _. entries_checks skip ty (i * skip.granularity + skip.granularity) (granule_rows (drop (i + 1) sizes) after) (pieces_at payload later))
-    (holds_not (Summarizes skip.kind ty (column_values skip.column group) entry) (fault_in (skip_data_name skip) (i * skip.granularity) why.Value) e differs fault)))
+    → summarizes skip.kind ty (column_values skip.column group) entry ≡ false → IsFault (granule_fault (skip_data_name skip) (i * skip.granularity) why.Value) e → FailsAs e whole
+entry_differs skip ty sizes payload i size rest group after ahead later entry whole e left inside at front back first differs fault =
+    subst (FailsAs e) (sym (next_is skip ty sizes payload i size rest group after ahead later entry inside at front back first) ∙ left)
+    (fails_then e (entry_check skip ty (i * skip.granularity) group entry) (λ _. entries_from skip ty sizes payload (i + 1) after later)
+    (test_fails (summarizes skip.kind ty (column_values skip.column group) entry) (granule_fault (skip_data_name skip) (i * skip.granularity) why.Value) e differs fault))
 
-pub entry_agrees : (skip : Skip) (ty : Ty) (sizes payload : List ℕ) (rows : List Row) (positions : List ℕ) (i size : ℕ) (rest group after : List Row) (ahead later entry : List ℕ) → Decides skip ty sizes payload rows positions i rest ahead
+pub entry_agrees : (skip : Skip) (ty : Ty) (sizes payload : List ℕ) (i size : ℕ) (rest group after : List Row) (ahead later entry : List ℕ) (whole : Result Unit Fault) → entries_from skip ty sizes payload i rest ahead ≡ whole
     → i < length sizes → size ≡ get_or sizes i size → group ≡ take size rest → after ≡ drop size rest → pieces_at payload ahead ≡ entry ∷ pieces_at payload later
-    → Summarizes skip.kind ty (column_values skip.column group) entry → Decides skip ty sizes payload rows positions (i + 1) after later
-entry_agrees skip ty sizes payload rows positions i size rest group after ahead later entry decides inside at front back first agrees r answers =
-    let granule : (i + 1) * skip.granularity ≡ i * skip.granularity + skip.granularity = ap (λ k. k * skip.granularity) (let e : i + 1 ≡ suc i = omega arith in e) ∙ omega arith in
-    decides r (next_by skip ty sizes payload i size rest group after ahead later entry r inside at front back first
-    (next_answer tt r (entry_check skip ty (i * skip.granularity) group entry) (λ _. entries_checks skip ty (i * skip.granularity + skip.granularity) (granule_rows (drop (i + 1) sizes) after) (pieces_at payload later)) agrees
-    (subst (λ g. Answers r (entries_checks skip ty g (granule_rows (drop (i + 1) sizes) after) (pieces_at payload later))) granule answers)))
+    → summarizes skip.kind ty (column_values skip.column group) entry ≡ true → entries_from skip ty sizes payload (i + 1) after later ≡ whole
+entry_agrees skip ty sizes payload i size rest group after ahead later entry whole left inside at front back first agrees =
+    sym (passed (summarizes skip.kind ty (column_values skip.column group) entry) (granule_fault (skip_data_name skip) (i * skip.granularity) why.Value) (λ _. entries_from skip ty sizes payload (i + 1) after later) agrees)
+    ∙ sym (next_is skip ty sizes payload i size rest group after ahead later entry inside at front back first) ∙ left
 
 pub cut_next : (sizes : List ℕ) (i size : ℕ) (rest after : List Row) → i < length sizes → size ≡ get_or sizes i size → after ≡ drop size rest → sum (drop i sizes) ≡ length rest → sum (drop (i + 1) sizes) ≡ length after
 cut_next sizes i size rest after inside at back cut =
@@ -243,12 +240,13 @@ cut_next sizes i size rest after inside at back cut =
 
 -- ---- indexes, one by one
 
-pub each_fails : {A : Type 0} (check : A → Checks Unit) (xs items : List A) (i : ℕ) (x : A) (e : ReadError) → items ≡ xs → ((r : Result Unit ReadError) → Answers r (each check (drop i items)) → Answers r (each check xs)) → i < length items → x ≡ get_or items i x
-    → Answers (Err e) (check x) → Answers (Err e) (each check xs)
-each_fails check xs items i x e same decides inside at fails =
-    decides (Err e) (subst (λ some. Answers (Err e) (each check some)) (sym (at_index items i x inside at)) (first_error e (check x) (λ _. each check (drop (i + 1) items)) fails))
+pub each_fails : {A : Type 0} (check : A → Result Unit Fault) (items : List A) (i : ℕ) (x : A) (whole : Result Unit Fault) (e : ReadError) → each check (drop i items) ≡ whole → i < length items → x ≡ get_or items i x → FailsAs e (check x) → FailsAs e whole
+each_fails check items i x whole e left inside at fails =
+    subst (FailsAs e) (sym (ap (each check) (at_index items i x inside at)) ∙ left) (fails_then e (check x) (λ _. each check (drop (i + 1) items)) fails)
 
-pub each_holds : {A : Type 0} (check : A → Checks Unit) (xs items : List A) (i : ℕ) (x : A) → items ≡ xs → ((r : Result Unit ReadError) → Answers r (each check (drop i items)) → Answers r (each check xs)) → i < length items → x ≡ get_or items i x
-    → check x (Ok tt) → (r : Result Unit ReadError) → Answers r (each check (drop (i + 1) items)) → Answers r (each check xs)
-each_holds check xs items i x same decides inside at holds r answers =
-    decides r (subst (λ some. Answers r (each check some)) (sym (at_index items i x inside at)) (next_answer tt r (check x) (λ _. each check (drop (i + 1) items)) holds answers))
+pub each_holds : {A : Type 0} (check : A → Result Unit Fault) (items : List A) (i : ℕ) (x : A) (whole : Result Unit Fault) → each check (drop i items) ≡ whole → i < length items → x ≡ get_or items i x → check x ≡ Ok tt → each check (drop (i + 1) items) ≡ whole
+each_holds check items i x whole left inside at holds =
+    sym (then_of (check x) tt (λ _. each check (drop (i + 1) items)) holds) ∙ sym (ap (each check) (at_index items i x inside at)) ∙ left
+
+pub each_done : {A : Type 0} (check : A → Result Unit Fault) (items : List A) (i : ℕ) (whole : Result Unit Fault) → each check (drop i items) ≡ whole → length items ≤ i → whole ≡ Ok tt
+each_done check items i whole left over = sym left ∙ ap (each check) (at_end items i over)

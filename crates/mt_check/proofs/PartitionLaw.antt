@@ -9,55 +9,50 @@ use Rattle.std.proofs.lemmas.List.Elements.{All-nil, All-cons, All-head, All-tai
 use Rattle.std.proofs.lemmas.Slice.Eq.{bytes_eq-Decides}
 use Rattle.mt_shelf.specs.declared.file.FileBytes.{FileBytes}
 use Rattle.mt_shelf.specs.declared.fault.Fault.{Fault}
-use Rattle.mt_shelf.specs.declared.fault.Why.TheVariants.{Partition, Value, Missing}
-use Rattle.mt_types.specs.Steps.{◌>>=◌, require, ok_or}
+use Rattle.mt_shelf.specs.declared.fault.Why.TheVariants.{Partition, Value}
+use Rattle.mt_types.specs.Steps.{◌>>=◌, require}
 use Rattle.mt_types.proofs.StepLemmas.{ok_then, required, then_of, passed}
 use Rattle.mt_table.specs.declared.definition.Table.{Table}
 use Rattle.mt_table.specs.declared.partition.PartExpr.{PartExpr}
 use Rattle.mt_defs.specs.Folder.{Folder}
 use Rattle.mt_defs.specs.Rows.{Row}
-use Rattle.mt_defs.specs.Lists.{distinct_by}
+use Rattle.mt_defs.specs.Lists.{AreBytes, distinct_by}
 use Rattle.mt_meta.specs.PartitionReading.{HasPartitionFiles}
 use Rattle.mt_defs.specs.Partition.{HasPartition, HaveOnePartition, partition_bytes, partition_name, expression_bytes, expression_column}
 use Rattle.mt_defs.specs.WrittenColumns.{file}
 use Rattle.mt_defs.specs.WrittenPartition.{minmax_file, partition_files}
-use Rattle.mt_check.specs.declared.accepted.Accepted.{Accepted}
-use Rattle.mt_check.specs.Faults.{fault_of, fault_in, file_reading, none_found}
+use Rattle.mt_definition.specs.declared.accepted.Accepted.{Accepted}
+use Rattle.mt_granules.specs.FileFaults.{file_fault, file_reading, granule_fault}
+use Rattle.mt_files.specs.Faults.{none_found}
 use Rattle.mt_check.specs.PartitionReading.{files_reading, first_value, is_other, other_partition, partition_reading}
-use Rattle.mt_check.specs.RowsReading.{granule_of}
-use Rattle.mt_check.proofs.LoopLemmas.{is_none, same_default}
-use Rattle.mt_check.proofs.RowLemmas.{none_passes, none_found_of}
+use Rattle.mt_definition.specs.RowsReading.{granule_of}
+use Rattle.mt_granules.proofs.FileByteLemmas.{file_is_read, file_was_read}
+use Rattle.mt_files.proofs.LoopLemmas.{is_none, same_default}
+use Rattle.mt_definition.proofs.RowLemmas.{none_passes, none_found_of}
 
 -- ---- files
 
 abbrev HasFile : Folder → FileBytes → Type 0
 HasFile folder file = folder file.name ≡ Some file.bytes
 
-file_is : (folder : Folder) (name bytes : List ℕ) → file_reading folder name ≡ Ok bytes → folder name ≡ Some bytes
-file_is folder name bytes e = found (folder name) e
-  where
-    found : (o : Option (List ℕ)) → ok_or (fault_of name Missing) o ≡ Ok bytes → o ≡ Some bytes
-    found None e = cc
-    found (Some other) e = let same : other ≡ bytes = cc in ap Some same
-
-file_there : (folder : Folder) (name bytes : List ℕ) → folder name ≡ Some bytes → file_reading folder name ≡ Ok bytes
-file_there folder name bytes e = ap (ok_or (fault_of name Missing)) e
+abbrev HasBytes : FileBytes → Type 0
+HasBytes file = AreBytes file.bytes
 
 pub files_there : (folder : Folder) (files : List FileBytes) → files_reading folder files ≡ Ok tt → All (HasFile folder) files
 unfolding files_reading
 files_there folder [] e = All-nil (HasFile folder)
 files_there folder (file ∷ files) e =
-    ok_then (file_reading folder file.name) (λ bytes. require (bytes_eq bytes file.bytes) (fault_of file.name Value) >>= λ _. files_reading folder files) tt e (λ bytes is e.
-    required (bytes_eq bytes file.bytes) (fault_of file.name Value) (λ _. files_reading folder files) tt e (λ same e.
-    All-cons (HasFile folder) file files (file_is folder file.name bytes is ∙ ap Some ((bytes_eq-Decides bytes file.bytes).0 same)) (files_there folder files e)))
+    ok_then (file_reading folder file.name) (λ bytes. require (bytes_eq bytes file.bytes) (file_fault file.name Value) >>= λ _. files_reading folder files) tt e (λ bytes is e.
+    required (bytes_eq bytes file.bytes) (file_fault file.name Value) (λ _. files_reading folder files) tt e (λ same e.
+    All-cons (HasFile folder) file files ((file_was_read folder file.name bytes is).has ∙ ap Some ((bytes_eq-Decides bytes file.bytes).0 same)) (files_there folder files e)))
 
-pub files_are_read : (folder : Folder) (files : List FileBytes) → All (HasFile folder) files → files_reading folder files ≡ Ok tt
+pub files_are_read : (folder : Folder) (files : List FileBytes) → All (HasFile folder) files → All HasBytes files → files_reading folder files ≡ Ok tt
 unfolding files_reading
-files_are_read folder [] all = refl
-files_are_read folder (file ∷ files) all =
-    then_of (file_reading folder file.name) file.bytes (λ bytes. require (bytes_eq bytes file.bytes) (fault_of file.name Value) >>= λ _. files_reading folder files) (file_there folder file.name file.bytes (All-head (HasFile folder) file files all))
-    ∙ passed (bytes_eq file.bytes file.bytes) (fault_of file.name Value) (λ _. files_reading folder files) ((bytes_eq-Decides file.bytes file.bytes).1 refl)
-    ∙ files_are_read folder files (All-tail (HasFile folder) file files all)
+files_are_read folder [] all bytes = refl
+files_are_read folder (file ∷ files) all bytes =
+    then_of (file_reading folder file.name) file.bytes (λ bytes. require (bytes_eq bytes file.bytes) (file_fault file.name Value) >>= λ _. files_reading folder files) (file_is_read folder file.name file.bytes (All-head (HasFile folder) file files all) (All-head HasBytes file files bytes))
+    ∙ passed (bytes_eq file.bytes file.bytes) (file_fault file.name Value) (λ _. files_reading folder files) ((bytes_eq-Decides file.bytes file.bytes).1 refl)
+    ∙ files_are_read folder files (All-tail (HasFile folder) file files all) (All-tail HasBytes file files bytes)
 
 -- ---- one partition value
 
@@ -94,7 +89,7 @@ behind_rows table folder accepted _ = files_reading folder (partition_files tabl
 
 abbrev behind_file : Table → Folder → Accepted → List ℕ → Result Unit Fault
 behind_file table folder accepted bytes =
-    none_found (other_partition table accepted.rows) (λ row. fault_in partition_name (granule_of accepted.granules row) Partition) >>= behind_rows table folder accepted
+    none_found (other_partition table accepted.rows) (λ row. granule_fault partition_name (granule_of accepted.granules row) Partition) >>= behind_rows table folder accepted
 
 -- the writer's files, where there is no key and where there is one
 abbrev files_by : Table → List Row → Bool → List FileBytes
@@ -116,8 +111,8 @@ no_key table folder rows none = record {
 some_key : (table : Table) (folder : Folder) (accepted : Accepted) → (file_reading folder partition_name >>= behind_file table folder accepted) ≡ Ok tt → PartitionHolds table folder accepted.rows
 some_key table folder accepted e =
     ok_then (file_reading folder partition_name) (behind_file table folder accepted) tt e (λ bytes is e.
-    ok_then (none_found (other_partition table accepted.rows) (λ row. fault_in partition_name (granule_of accepted.granules row) Partition)) (behind_rows table folder accepted) tt e (λ done none e.
-    record { one = one_partition table accepted.rows (none_is (other_partition table accepted.rows) (λ row. fault_in partition_name (granule_of accepted.granules row) Partition) none); files = files_there folder (partition_files table accepted.rows) e }))
+    ok_then (none_found (other_partition table accepted.rows) (λ row. granule_fault partition_name (granule_of accepted.granules row) Partition)) (behind_rows table folder accepted) tt e (λ done none e.
+    record { one = one_partition table accepted.rows (none_is (other_partition table accepted.rows) (λ row. granule_fault partition_name (granule_of accepted.granules row) Partition) none); files = files_there folder (partition_files table accepted.rows) e }))
 
 pub partition_holds : (table : Table) (folder : Folder) (accepted : Accepted) → partition_reading table folder accepted ≡ Ok tt → PartitionHolds table folder accepted.rows
 unfolding partition_reading
@@ -130,32 +125,34 @@ partition_holds table folder accepted e =
 -- ---- and the other way
 
 pub partition_passes : (table : Table) (folder : Folder) (accepted : Accepted) (row : Row) (rest : List Row) → accepted.rows ≡ row ∷ rest → HaveOnePartition table accepted.rows → All (HasFile folder) (partition_files table accepted.rows)
-    → partition_reading table folder accepted ≡ Ok tt
+    → All HasBytes (partition_files table accepted.rows) → partition_reading table folder accepted ≡ Ok tt
 unfolding partition_reading
-partition_passes table folder accepted row rest is one files =
+partition_passes table folder accepted row rest is one files bytes =
     let checks : Bool → Result Unit Fault = λ b. if b then (let r : Result Unit Fault = Ok tt in r) else (file_reading folder partition_name >>= behind_file table folder accepted) in
     elim (cases_Bool (length table.partition == 0)) [
       | inl empty ↦ ap checks empty
       | inr some ↦
           let all : All (HasFile folder) (files_by table accepted.rows false) = subst (All (HasFile folder)) (ap (files_by table accepted.rows) some) files in
           let first = flat_map (partition_bytes table) (take 1 accepted.rows) in
-          let there = All-head (HasFile folder) (file partition_name first) (map (minmax_file table accepted.rows) (distinct_by (λ i j. i == j) (map expression_column table.partition))) all in
+          let others = map (minmax_file table accepted.rows) (distinct_by (λ i j. i == j) (map expression_column table.partition)) in
+          let there = All-head (HasFile folder) (file partition_name first) others all in
+          let held : All HasBytes (files_by table accepted.rows false) = subst (All HasBytes) (ap (files_by table accepted.rows) some) bytes in
           let no : other_partition table accepted.rows ≡ None = subst (λ (rows : List Row). other_partition table rows ≡ None) (sym is) (no_other table row rest (subst (HaveOnePartition table) is one)) in
-          let fault : ℕ → Fault = λ row. fault_in partition_name (granule_of accepted.granules row) Partition in
+          let fault : ℕ → Fault = λ row. granule_fault partition_name (granule_of accepted.granules row) Partition in
           ap checks some
-          ∙ then_of (file_reading folder partition_name) first (behind_file table folder accepted) (file_there folder partition_name first there)
+          ∙ then_of (file_reading folder partition_name) first (behind_file table folder accepted) (file_is_read folder partition_name first there (All-head HasBytes (file partition_name first) others held))
           ∙ then_of (none_found (other_partition table accepted.rows) fault) tt (behind_rows table folder accepted) (ap (λ (o : Option ℕ). none_found o fault) no)
-          ∙ files_are_read folder (partition_files table accepted.rows) files
+          ∙ files_are_read folder (partition_files table accepted.rows) files bytes
     ]
 
 -- the checks pass exactly where the folder has the partition of the rows
-pub partition_step : (table : Table) (folder : Folder) (accepted : Accepted) → (HasPartition table accepted.rows folder ↔ HasPartitionFiles table accepted.rows folder) → accepted.rows ≢ [] → (table.partition ≡ [] → folder partition_name ≡ None)
+pub partition_step : (table : Table) (folder : Folder) (accepted : Accepted) → (HasPartition table accepted.rows folder ↔ HasPartitionFiles table accepted.rows folder) → accepted.rows ≢ [] → All HasBytes (partition_files table accepted.rows) → (table.partition ≡ [] → folder partition_name ≡ None)
     → (partition_reading table folder accepted ≡ Ok tt) ↔ (HaveOnePartition table accepted.rows × HasPartition table accepted.rows folder)
-partition_step table folder accepted compared some none = (
+partition_step table folder accepted compared some bytes none = (
   (λ e. let h = partition_holds table folder accepted e in (h.one, compared.1 (record { files = h.files; none = none }))),
   (λ has. by accepted.rows refl has.0 (compared.0 has.1).files),
 )
   where
     by : (rows : List Row) → accepted.rows ≡ rows → HaveOnePartition table accepted.rows → All (HasFile folder) (partition_files table accepted.rows) → partition_reading table folder accepted ≡ Ok tt
     by [] is one files = absurd (some is)
-    by (row ∷ rest) is one files = partition_passes table folder accepted row rest is one files
+    by (row ∷ rest) is one files = partition_passes table folder accepted row rest is one files bytes

@@ -15,22 +15,22 @@ use Rattle.mt_table.specs.declared.definition.Table.{Table}
 use Rattle.mt_table.specs.declared.partition.PartExpr.{PartExpr}
 use Rattle.mt_defs.specs.Folder.{Folder}
 use Rattle.mt_defs.specs.Rows.{Row}
-use Rattle.mt_defs.specs.Part.{partition_names}
-use Rattle.mt_defs.specs.Partition.{partition_bytes, partition_name, minmax_name, expression_column}
+use Rattle.mt_defs.specs.Partition.{partition_bytes, partition_name}
 use Rattle.mt_defs.specs.WrittenPartition.{partition_files}
-use Rattle.mt_check.specs.declared.accepted.Accepted.{Accepted}
-use Rattle.mt_check.specs.Faults.{fault_of, fault_in, file_reading, none_found}
+use Rattle.mt_definition.specs.declared.accepted.Accepted.{Accepted}
+use Rattle.mt_granules.specs.FileFaults.{file_fault, file_reading, granule_fault}
+use Rattle.mt_files.specs.Faults.{none_found}
 use Rattle.mt_check.specs.PartitionReading.{files_reading, first_value, is_other, other_partition, partition_reading}
-use Rattle.mt_check.specs.Results.{Gives, FailsAs, IsFault}
-use Rattle.mt_check.specs.RowsReading.{first_index, granule_of}
-use Rattle.mt_check.proofs.FaultLemmas.{fails_then, fault_gives}
-use Rattle.mt_check.proofs.LoopLemmas.{at_index, at_end, nonempty}
-use Rattle.mt_check.proofs.RowLemmas.{later_by, index_here, index_step}
+use Rattle.mt_files.specs.Results.{Gives, FailsAs, IsFault}
+use Rattle.mt_definition.specs.RowsReading.{first_index, granule_of}
+use Rattle.mt_files.proofs.FaultLemmas.{fails_then, fault_gives}
+use Rattle.mt_files.proofs.LoopLemmas.{at_index, at_end, nonempty}
+use Rattle.mt_definition.proofs.RowLemmas.{later_by, index_here, index_step}
 
 -- ---- the files
 
 abbrev same_bytes : Folder → FileBytes → List FileBytes → List ℕ → Result Unit Fault
-same_bytes folder file files bytes = require (bytes_eq bytes file.bytes) (fault_of file.name Value) >>= λ _. files_reading folder files
+same_bytes folder file files bytes = require (bytes_eq bytes file.bytes) (file_fault file.name Value) >>= λ _. files_reading folder files
 
 files_next : (folder : Folder) (file : FileBytes) (files : List FileBytes) → files_reading folder (file ∷ files) ≡ (file_reading folder file.name >>= same_bytes folder file files)
 unfolding files_reading
@@ -47,17 +47,17 @@ files_fail folder written i file whole name e ahead inside at named fails =
     (fails_then e (file_reading folder file.name) (same_bytes folder file (drop (i + 1) written)) (subst (λ (n : List ℕ). FailsAs e (file_reading folder n)) named fails))
 
 pub files_differ : (folder : Folder) (written : List FileBytes) (i : ℕ) (file : FileBytes) (whole : Result Unit Fault) (name other bytes : List ℕ) (e : ReadError) → files_reading folder (drop i written) ≡ whole → i < length written → file ≡ get_or written i file
-    → name ≡ file.name → file_reading folder name ≡ Ok bytes → bytes_eq bytes file.bytes ≡ false → other ≡ file.name → IsFault (fault_of other Value) e → FailsAs e whole
+    → name ≡ file.name → file_reading folder name ≡ Ok bytes → bytes_eq bytes file.bytes ≡ false → other ≡ file.name → IsFault (file_fault other Value) e → FailsAs e whole
 files_differ folder written i file whole name other bytes e ahead inside at named is differ again fault =
-    fault_gives (fault_of file.name Value) e whole (subst (λ (n : List ℕ). IsFault (fault_of n Value) e) again fault)
+    fault_gives (file_fault file.name Value) e whole (subst (λ (n : List ℕ). IsFault (file_fault n Value) e) again fault)
     (sym (files_at folder written i file whole ahead inside at)
     ∙ then_of (file_reading folder file.name) bytes (same_bytes folder file (drop (i + 1) written)) (ap (file_reading folder) (sym named) ∙ is)
-    ∙ failed (bytes_eq bytes file.bytes) (fault_of file.name Value) (λ _. files_reading folder (drop (i + 1) written)) differ)
+    ∙ failed (bytes_eq bytes file.bytes) (file_fault file.name Value) (λ _. files_reading folder (drop (i + 1) written)) differ)
 
 pub files_same : (folder : Folder) (written : List FileBytes) (i : ℕ) (file : FileBytes) (whole : Result Unit Fault) (name bytes : List ℕ) → files_reading folder (drop i written) ≡ whole → i < length written → file ≡ get_or written i file
     → name ≡ file.name → file_reading folder name ≡ Ok bytes → bytes_eq bytes file.bytes ≡ true → files_reading folder (drop (i + 1) written) ≡ whole
 files_same folder written i file whole name bytes ahead inside at named is same =
-    sym (passed (bytes_eq bytes file.bytes) (fault_of file.name Value) (λ _. files_reading folder (drop (i + 1) written)) same)
+    sym (passed (bytes_eq bytes file.bytes) (file_fault file.name Value) (λ _. files_reading folder (drop (i + 1) written)) same)
     ∙ sym (then_of (file_reading folder file.name) bytes (same_bytes folder file (drop (i + 1) written)) (ap (file_reading folder) (sym named) ∙ is))
     ∙ files_at folder written i file whole ahead inside at
 
@@ -97,7 +97,7 @@ other_later table rows i row first same ahead inside at at_first decides is =
 
 abbrev rest : Table → Folder → Accepted → Result Unit Fault
 rest table folder accepted =
-    none_found (other_partition table accepted.rows) (λ row. fault_in partition_name (granule_of accepted.granules row) Partition) >>= λ _. files_reading folder (partition_files table accepted.rows)
+    none_found (other_partition table accepted.rows) (λ row. granule_fault partition_name (granule_of accepted.granules row) Partition) >>= λ _. files_reading folder (partition_files table accepted.rows)
 
 pub no_partition : (table : Table) (folder : Folder) (accepted : Accepted) → table.partition ≡ [] → partition_reading table folder accepted ≡ Ok tt
 unfolding partition_reading
@@ -115,23 +115,18 @@ partition_missing table folder accepted e some fails =
     subst (FailsAs e) (sym (partition_is table folder accepted some)) (fails_then e (file_reading folder partition_name) (λ _. rest table folder accepted) fails)
 
 pub partition_other : (table : Table) (folder : Folder) (accepted : Accepted) (bytes : List ℕ) (row granule : ℕ) (e : ReadError) → (table.partition ≡ [] → ⊥) → file_reading folder partition_name ≡ Ok bytes
-    → Some row ≡ other_partition table accepted.rows → granule ≡ granule_of accepted.granules row → IsFault (fault_in partition_name granule Partition) e → FailsAs e (partition_reading table folder accepted)
+    → Some row ≡ other_partition table accepted.rows → granule ≡ granule_of accepted.granules row → IsFault (granule_fault partition_name granule Partition) e → FailsAs e (partition_reading table folder accepted)
 partition_other table folder accepted bytes row granule e some is found at fault =
-    fault_gives (fault_in partition_name granule Partition) e (partition_reading table folder accepted) fault
+    fault_gives (granule_fault partition_name granule Partition) e (partition_reading table folder accepted) fault
     (partition_is table folder accepted some ∙ then_of (file_reading folder partition_name) bytes (λ _. rest table folder accepted) is
-    ∙ ap (λ (o : Option ℕ). none_found o (λ row. fault_in partition_name (granule_of accepted.granules row) Partition) >>= λ _. files_reading folder (partition_files table accepted.rows)) (sym found)
-    ∙ ap (λ g. Err (fault_in partition_name g Partition)) (sym at))
+    ∙ ap (λ (o : Option ℕ). none_found o (λ row. granule_fault partition_name (granule_of accepted.granules row) Partition) >>= λ _. files_reading folder (partition_files table accepted.rows)) (sym found)
+    ∙ ap (λ g. Err (granule_fault partition_name g Partition)) (sym at))
 
 pub partition_rest : (table : Table) (folder : Folder) (accepted : Accepted) (bytes : List ℕ) (written : List FileBytes) (r : Result Unit ReadError) → (table.partition ≡ [] → ⊥) → file_reading folder partition_name ≡ Ok bytes
     → None ≡ other_partition table accepted.rows → written ≡ partition_files table accepted.rows → Gives r (files_reading folder written) → Gives r (partition_reading table folder accepted)
 partition_rest table folder accepted bytes written r some is none are gives =
     let whole : files_reading folder written ≡ partition_reading table folder accepted =
     sym (partition_is table folder accepted some ∙ then_of (file_reading folder partition_name) bytes (λ _. rest table folder accepted) is
-    ∙ ap (λ (o : Option ℕ). none_found o (λ row. fault_in partition_name (granule_of accepted.granules row) Partition) >>= λ _. files_reading folder (partition_files table accepted.rows)) (sym none)
+    ∙ ap (λ (o : Option ℕ). none_found o (λ row. granule_fault partition_name (granule_of accepted.granules row) Partition) >>= λ _. files_reading folder (partition_files table accepted.rows)) (sym none)
     ∙ ap (files_reading folder) (sym are)) in
     subst (Gives r) whole gives
-
--- ---- the names
-
-pub partition_names_are : (table : Table) → (table.partition ≡ [] → ⊥) → partition_names table ≡ partition_name ∷ map (λ expression. minmax_name table (expression_column expression)) table.partition
-partition_names_are table some = ap (λ (b : Bool). if b then [] else partition_name ∷ map (λ expression. minmax_name table (expression_column expression)) table.partition) (nonempty table.partition some)

@@ -1,13 +1,13 @@
 -- The files of a part that are read make a folder that is checked like the part's own.
 use Rattle.std.proofs.Common.{◌≡◌, ℕ, ◌+◌, ◌<◌, Bool, true, false, ◌||◌, List, [], ◌∷◌, ◌++◌, length, map, take, refl, ap, sym, subst, ◌∙◌, get_or}
-use Rattle.std.specs.Prelude.{Option, Some, None, option_map, is_some, if◌then◌else◌, All, IfSome}
-use Rattle.std.specs.List.{AllByRecursion, cons_option, flat_map}
+use Rattle.std.specs.Prelude.{Option, Some, None, option_map, is_some, if◌then◌else◌, All, IfSome, Result}
+use Rattle.std.specs.List.{AllByRecursion, cons_option, flat_map, zip}
 use Rattle.std.proofs.lemmas.List.Elements.{All-head, All-tail, filter_map-append}
 use Rattle.std.proofs.lemmas.List.{map-append, take_more}
 use Rattle.mt_shelf.specs.Files.{Files, entries_below}
 use Rattle.mt_shelf.specs.declared.file.Entry.{Entry}
-use Rattle.mt_check.specs.Listings.{listed_folder}
-use Rattle.mt_check.proofs.KnownLemmas.{layout_listed}
+use Rattle.mt_files.specs.Listings.{listed_folder, is_known}
+use Rattle.mt_files.proofs.KnownLemmas.{layout_listed}
 use Rattle.mt_shelf.specs.declared.file.FileBytes.{FileBytes}
 use Rattle.mt_table.specs.declared.definition.PartDef.{PartDef}
 use Rattle.mt_table.specs.declared.definition.Table.{Table}
@@ -16,17 +16,19 @@ use Rattle.mt_defs.specs.Compact.{compact_marks_name}
 use Rattle.mt_defs.specs.Folder.{Folder, folder_below, folder_of, is_name}
 use Rattle.mt_defs.specs.Part.{is_compact}
 use Rattle.mt_defs.specs.Projections.{base_of, inner_of, projection_prefix}
-use Rattle.mt_check.specs.declared.accepted.Accepted.{Accepted}
-use Rattle.mt_check.specs.Checks.{Checks, ◌>>=◌}
-use Rattle.mt_check.specs.Definitions.{IsDefinition}
-use Rattle.mt_check.specs.FolderChecks.{files_checks, is_known, projection_checks, projection_folders, projections_checks}
-use Rattle.mt_check.specs.OwnNames as own
-use Rattle.mt_check.specs.OwnNames.{base_names, own_names, skip_names_in}
-use Rattle.mt_check.specs.PartFiles.{base_files, file_named, file_names, files_named, inner_files, part_files, part_folder, projection_files}
-use Rattle.mt_check.proofs.AgreeLemmas.{AgreeAt}
+use Rattle.mt_definition.specs.declared.accepted.Accepted.{Accepted}
+use Rattle.mt_types.specs.Steps.{◌>>=◌}
+use Rattle.mt_shelf.specs.declared.fault.Fault.{Fault}
+use Rattle.mt_files.specs.Definitions.{IsDefinition}
+use Rattle.mt_check.specs.FolderChecks.{files_checks, projection_checks, projection_folders, projections_checks}
+use Rattle.mt_files.specs.OwnNames as own
+use Rattle.mt_files.specs.OwnNames.{base_names, own_names, skip_names_in}
+use Rattle.mt_check.specs.PartFiles.{base_files, inner_files, part_files, projection_files}
+use Rattle.mt_files.specs.NamedFiles.{file_names, files_named, part_folder}
+use Rattle.mt_definition.proofs.AgreeLemmas.{AgreeAt}
 use Rattle.mt_check.proofs.AgreeOnChecks.{part_same, projection_same}
-use Rattle.mt_check.proofs.FileLemmas.{name_is, same_name}
-use Rattle.mt_check.proofs.TableLemmas.{base_checked, projections_checked}
+use Rattle.mt_files.proofs.FileLemmas.{name_is, same_name}
+use Rattle.mt_files.proofs.TableLemmas.{base_checked, projections_checked}
 
 -- ---- the folder of the files of some names
 
@@ -110,12 +112,12 @@ inner_same table accepted projection folder is =
     (subst (λ b. AgreeAt (folder_of (inner_files table projection folder)) folder (own_names (inner_of table projection) b)) (sym kind) (agrees folder (own_names (inner_of table projection) (is_compact folder))))
 
 projections_same : (table : Table) (folder : Folder) (accepted : Accepted) (projections : List Projection) → All (λ projection. IsDefinition (inner_of table projection)) projections
-    → projections_checks table accepted projections (map folder_of (map (projection_files table folder) projections)) ≡ projections_checks table accepted projections (map (λ projection. folder_below folder (projection_prefix projection)) projections)
+    → projections_checks table accepted (zip projections (map folder_of (map (projection_files table folder) projections))) ≡ projections_checks table accepted (zip projections (map (λ projection. folder_below folder (projection_prefix projection)) projections))
 projections_same table folder accepted [] are = refl
 projections_same table folder accepted (projection ∷ projections) are =
-    ap (λ (first : Checks Unit). first >>= λ _. projections_checks table accepted projections (map folder_of (map (projection_files table folder) projections)))
+    ap (λ (first : Result Unit Fault). first >>= λ _. projections_checks table accepted (zip projections (map folder_of (map (projection_files table folder) projections))))
     (inner_same table accepted projection (folder_below folder (projection_prefix projection)) (All-head (λ projection. IsDefinition (inner_of table projection)) projection projections are))
-    ∙ ap (λ (later : Checks Unit). projection_checks table accepted projection (folder_below folder (projection_prefix projection)) >>= λ _. later)
+    ∙ ap (λ (later : Result Unit Fault). projection_checks table accepted projection (folder_below folder (projection_prefix projection)) >>= λ _. later)
     (projections_same table folder accepted projections (All-tail (λ projection. IsDefinition (inner_of table projection)) projection projections are))
 
 -- ---- the part
@@ -130,43 +132,6 @@ part_read table folder =
     part_same (folder_of (base_files table folder)) folder table (map folder_of (part_files table folder).projections) (projection_folders table folder) (base_checked table) kind
     (subst (λ b. AgreeAt (folder_of (base_files table folder)) folder (base_names table b)) (sym kind) (agrees folder (base_names table (is_compact folder))))
     (λ accepted. projections_same table folder accepted table.projections (projections_checked table))
-
--- ---- one file more
-
-pub named_more : (folder : Folder) (names : List (List ℕ)) (i : ℕ) (name d : List ℕ) → i < length names → name ≡ get_or names i d → files_named folder (take (i + 1) names) ≡ files_named folder (take i names) ++ cons_option (file_named folder name) []
-named_more folder names i name d inside at =
-    ap (files_named folder) (take_more names i d inside ∙ ap (λ (n : List ℕ). take i names ++ n ∷ []) (sym at)) ∙ filter_map-append (file_named folder) (take i names) (name ∷ [])
-
-pub known_push : (part prefix : List ℕ) (stored : Option Files) (names : List (List ℕ)) (i : ℕ) (name d : List ℕ) (read : Option FileBytes) (files new : List FileBytes) → i < length names → name ≡ get_or names i d
-    → IfSome stored (λ s. files ≡ files_named (folder_below (part_folder part s) prefix) (take i names)) → IfSome stored (λ s. read ≡ file_named (folder_below (part_folder part s) prefix) name) → new ≡ files ++ cons_option read []
-    → IfSome stored (λ s. new ≡ files_named (folder_below (part_folder part s) prefix) (take (i + 1) names))
-known_push part prefix None names i name d read files new inside at before here more = tt
-known_push part prefix (Some s) names i name d read files new inside at before here more =
-    more ∙ ap (λ (fs : List FileBytes). fs ++ cons_option read []) before ∙ ap (λ (o : Option FileBytes). files_named (folder_below (part_folder part s) prefix) (take i names) ++ cons_option o []) here
-    ∙ sym (named_more (folder_below (part_folder part s) prefix) names i name d inside at)
-
-names_push : (files : List FileBytes) (read : Option FileBytes) → file_names (files ++ cons_option read []) ≡ file_names files ++ cons_option (option_map (λ (file : FileBytes). file.name) read) []
-names_push files None = map-append (λ (file : FileBytes). file.name) files []
-names_push files (Some file) = map-append (λ (file : FileBytes). file.name) files (file ∷ [])
-
-pub names_more : (folder : Folder) (names : List (List ℕ)) (i : ℕ) (name d : List ℕ) (read : Option FileBytes) (files new : List FileBytes) → i < length names → name ≡ get_or names i d
-    → file_names files ≡ file_names (files_named folder (take i names)) → option_map (λ (file : FileBytes). file.name) read ≡ option_map (λ (file : FileBytes). file.name) (file_named folder name) → new ≡ files ++ cons_option read []
-    → file_names new ≡ file_names (files_named folder (take (i + 1) names))
-names_more folder names i name d read files new inside at before here more =
-    ap file_names more ∙ names_push files read
-    ∙ ap (λ (ns : List (List ℕ)). ns ++ cons_option (option_map (λ (file : FileBytes). file.name) read) []) before
-    ∙ ap (λ (o : Option (List ℕ)). file_names (files_named folder (take i names)) ++ cons_option o []) here
-    ∙ sym (names_push (files_named folder (take i names)) (file_named folder name))
-    ∙ ap file_names (sym (named_more folder names i name d inside at))
-
--- a file, as far as its name is known
-pub same_option : (name : List ℕ) (read : Option (List ℕ)) (size : Option ℕ) → is_some read ≡ is_some size
-    → option_map (λ (file : FileBytes). file.name) (option_map (λ bytes. let file : FileBytes = record { name = name; bytes = bytes } in file) read)
-    ≡ option_map (λ (file : FileBytes). file.name) (option_map (λ bytes. let file : FileBytes = record { name = name; bytes = bytes } in file) (option_map (λ _. let none : List ℕ = [] in none) size))
-same_option name None None e = refl
-same_option name None (Some size) e = cc
-same_option name (Some bytes) None e = cc
-same_option name (Some bytes) (Some size) e = refl
 
 -- ---- the files of a folder of a part, by the listing
 

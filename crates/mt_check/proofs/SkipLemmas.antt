@@ -1,7 +1,9 @@
 -- A skip index: its groups, and then its entries.
 use Rattle.std.proofs.Common.{◌≡◌, ℕ, ◌*◌, ◌<◌, ◌≤◌, ◌^◌, Bool, List, length, ap, sym, subst, ◌∙◌, arith, get_or}
-use Rattle.std.specs.Prelude.{sum, Result, Ok, Err}
+use Rattle.std.specs.Prelude.{sum, Result, Ok}
+use Rattle.std.specs.List.{zip}
 use Rattle.mt_types.specs.declared.ty.Ty.{Ty}
+use Rattle.mt_shelf.specs.declared.fault.Fault.{Fault}
 use Rattle.mt_shelf.specs.declared.fault.ReadError.{ReadError}
 use Rattle.mt_table.specs.declared.column.Column.{Column}
 use Rattle.mt_table.specs.declared.definition.Table.{Table}
@@ -12,14 +14,13 @@ use Rattle.mt_defs.specs.Metadata.{column_at, no_column}
 use Rattle.mt_defs.specs.Part.{is_compact, marks_ending}
 use Rattle.mt_defs.specs.Rows.{Row}
 use Rattle.mt_defs.specs.SkipIndexes.{entry_rows}
-use Rattle.mt_check.specs.declared.accepted.Accepted.{Accepted}
-use Rattle.mt_check.specs.Checks.{Checks, gives}
+use Rattle.mt_definition.specs.declared.accepted.Accepted.{Accepted}
 use Rattle.mt_check.specs.FolderChecks.{entries_checks, skip_checks}
-use Rattle.mt_check.specs.Results.{Answers, FailsAs}
+use Rattle.mt_files.specs.Results.{FailsAs, Gives}
 use Rattle.mt_check.specs.RowGroups.{group_sizes}
-use Rattle.mt_check.specs.SkipMarks.{index_entries}
-use Rattle.mt_check.proofs.CheckLemmas.{first_error, next_answer, gives_error}
-use Rattle.mt_check.proofs.LoopLemmas.{same_default}
+use Rattle.mt_files.specs.SkipMarks.{index_entries}
+use Rattle.mt_files.proofs.FaultLemmas.{fails_then, gives_then}
+use Rattle.mt_files.proofs.LoopLemmas.{same_default}
 use Rattle.mt_check.proofs.GroupLemmas.{sizes_few, sizes_sum, granules_few, product_small, groups_are, length-granule_rows}
 
 sizes_are : (skip : Skip) (granules slice sizes : List ℕ) → slice ≡ granules → sizes ≡ group_sizes skip.granularity (length slice) slice → sizes ≡ group_sizes skip.granularity (length granules) granules
@@ -50,24 +51,24 @@ reading_is folder accepted skip slice sizes count compact same are counted layou
     ap (λ (b : Bool). index_entries folder (marks_ending b) skip count) layout
     ∙ ap (index_entries folder (marks_ending (is_compact folder)) skip) (count_of skip accepted.rows accepted.granules slice sizes count same are counted)
 
-abbrev behind : Table → Accepted → Skip → List (List ℕ) → Checks Unit
-behind table accepted skip entries = entries_checks skip (column_at table.columns skip.column).ty 0 (entry_rows skip accepted.rows accepted.granules) entries
+abbrev behind : Table → Accepted → Skip → List (List ℕ) → Result Unit Fault
+behind table accepted skip entries = entries_checks skip (column_at table.columns skip.column).ty 0 (zip (entry_rows skip accepted.rows accepted.granules) entries)
 
 pub entries_fail : (table : Table) (folder : Folder) (accepted : Accepted) (skip : Skip) (slice sizes : List ℕ) (count : ℕ) (compact : Bool) (e : ReadError) → slice ≡ accepted.granules → sizes ≡ group_sizes skip.granularity (length slice) slice
-    → count ≡ length sizes → compact ≡ is_compact folder → FailsAs e (index_entries folder (marks_ending compact) skip count) → Answers (Err e) (skip_checks table folder accepted skip)
+    → count ≡ length sizes → compact ≡ is_compact folder → FailsAs e (index_entries folder (marks_ending compact) skip count) → FailsAs e (skip_checks table folder accepted skip)
 entries_fail table folder accepted skip slice sizes count compact e same are counted layout fails =
     let reading = index_entries folder (marks_ending (is_compact folder)) skip (length (entry_rows skip accepted.rows accepted.granules)) in
-    first_error e (gives reading) (behind table accepted skip) (gives_error e reading (subst (FailsAs e) (reading_is folder accepted skip slice sizes count compact same are counted layout) fails))
+    fails_then e reading (behind table accepted skip) (subst (FailsAs e) (reading_is folder accepted skip slice sizes count compact same are counted layout) fails)
 
 pub entries_left : (table : Table) (folder : Folder) (accepted : Accepted) (skip : Skip) (slice sizes : List ℕ) (count : ℕ) (compact : Bool) (entries : List (List ℕ)) (ty : Ty) (rows : List Row) (r : Result Unit ReadError) → slice ≡ accepted.granules
     → sizes ≡ group_sizes skip.granularity (length slice) slice → count ≡ length sizes → compact ≡ is_compact folder → index_entries folder (marks_ending compact) skip count ≡ Ok entries → ty ≡ (column_at table.columns skip.column).ty → rows ≡ accepted.rows
-    → Answers r (entries_checks skip ty 0 (granule_rows sizes rows) entries) → Answers r (skip_checks table folder accepted skip)
+    → Gives r (entries_checks skip ty 0 (zip (granule_rows sizes rows) entries)) → Gives r (skip_checks table folder accepted skip)
 entries_left table folder accepted skip slice sizes count compact entries ty rows r same are counted layout reads is held answers =
     let reading = index_entries folder (marks_ending (is_compact folder)) skip (length (entry_rows skip accepted.rows accepted.granules)) in
     let groups : granule_rows sizes rows ≡ entry_rows skip accepted.rows accepted.granules = ap (granule_rows sizes) held ∙ sym (groups_of skip accepted.rows accepted.granules slice sizes same are) in
-    next_answer entries r (gives reading) (behind table accepted skip) (sym (sym (reading_is folder accepted skip slice sizes count compact same are counted layout) ∙ reads))
-    (subst (λ (t : Ty). Answers r (entries_checks skip t 0 (entry_rows skip accepted.rows accepted.granules) entries)) is
-    (subst (λ (gs : List (List Row)). Answers r (entries_checks skip ty 0 gs entries)) groups answers))
+    gives_then entries r reading (behind table accepted skip) (sym (reading_is folder accepted skip slice sizes count compact same are counted layout) ∙ reads)
+    (subst (λ (t : Ty). Gives r (entries_checks skip t 0 (zip (entry_rows skip accepted.rows accepted.granules) entries))) is
+    (subst (λ (gs : List (List Row)). Gives r (entries_checks skip ty 0 (zip gs entries))) groups answers))
 
 -- the type of the index's column, where code reads it
 pub type_at : (columns slice : List Column) (place : ℕ) (d : Column) → slice ≡ columns → place < length columns → (get_or slice place d).ty ≡ (column_at columns place).ty

@@ -11,16 +11,17 @@ use Rattle.mt_defs.specs.Folder.{Folder}
 use Rattle.mt_defs.specs.Rows.{Row}
 use Rattle.mt_defs.specs.Partition.{partition_name, partition_bytes}
 use Rattle.mt_defs.specs.WrittenPartition.{partition_files}
-use Rattle.mt_check.specs.declared.accepted.Accepted.{Accepted}
-use Rattle.mt_check.specs.Faults.{fault_of, fault_in, file_reading, none_found}
-use Rattle.mt_check.specs.RowsReading.{first_index, granule_of}
+use Rattle.mt_definition.specs.declared.accepted.Accepted.{Accepted}
+use Rattle.mt_granules.specs.FileFaults.{file_fault, file_reading, granule_fault}
+use Rattle.mt_files.specs.Faults.{none_found}
+use Rattle.mt_definition.specs.RowsReading.{first_index, granule_of}
 
 -- the folder has these files, byte by byte
 unfoldable pub files_reading : Folder → List FileBytes → Result Unit Fault
 files_reading folder [] = Ok tt
 files_reading folder (file ∷ files) = do
   bytes ← file_reading folder file.name
-  _ ← require (bytes_eq bytes file.bytes) (fault_of file.name Value)
+  _ ← require (bytes_eq bytes file.bytes) (file_fault file.name Value)
   files_reading folder files
 
 -- the partition value of the first row, in bytes
@@ -35,11 +36,11 @@ is_other table rows row = not (bytes_eq (partition_bytes table row) (first_value
 abbrev pub other_partition : Table → List Row → Option ℕ
 other_partition table rows = first_index (is_other table rows) rows
 
--- partition.dat is there, all rows have one partition value, and the files are those of the rows
+-- partition.dat is there, all rows have one partition value, and the files are those of the rows (7)
 unfoldable pub partition_reading : Table → Folder → Accepted → Result Unit Fault
 partition_reading table folder accepted =
     if length table.partition == 0 then Ok tt
     else do
       _ ← file_reading folder partition_name
-      _ ← none_found (other_partition table accepted.rows) (λ row. fault_in partition_name (granule_of accepted.granules row) Partition)
+      _ ← none_found (other_partition table accepted.rows) (λ row. granule_fault partition_name (granule_of accepted.granules row) Partition)
       files_reading folder (partition_files table accepted.rows)

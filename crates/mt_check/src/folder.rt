@@ -6,22 +6,21 @@ ghost use Rattle.mt_defs.specs.Granules.{AreGranules};
 ghost use Rattle.mt_defs.specs.Partition.{HaveOnePartition};
 ghost use Rattle.mt_defs.specs.Projections.{base_of};
 ghost use Rattle.mt_defs.specs.Rows.{ArePartRows};
-ghost use Rattle.mt_check.specs.DefinitionReading.{definition_reading};
+ghost use Rattle.mt_definition.specs.DefinitionReading.{definition_reading};
 ghost use Rattle.mt_check.specs.FolderChecks.{files_checks};
-ghost use Rattle.mt_check.specs.Results.{Answers, Gives};
+ghost use Rattle.mt_files.specs.Results.{Gives};
 
-use crate::accepted::Accepted;
-use crate::definition::read_definition;
 use crate::partition::check_partition;
 use crate::projection::check_projections;
 use crate::skip_index::check_skips;
+use mt_definition::{Accepted, read_definition};
 use mt_shelf::{FileBytes, ReadError};
 use mt_table::Table;
 use mt_types::List;
 use std::alloc::Global;
 
 /// The files of a part's folder that are read.
-#[derive(Debug, Drop)]
+#[derive(Drop)]
 pub struct PartFiles {
     /// The part's own files, by their names below it.
     pub base: List<FileBytes>,
@@ -33,7 +32,7 @@ pub struct PartFiles {
 /// first fault"). Other names in the folder aren't looked at. It never returns `Shelf`.
 pub fn check_files(alloc: Global, table: &Table, files: &PartFiles) -> Result<Accepted, ReadError>
     requires { length files.now.projections ≡ length table.now.projections }
-    ensures answers { Answers result (files_checks table.now (folder_of files.now.base) (map folder_of files.now.projections)) }
+    ensures gives { Gives result (files_checks table.now (folder_of files.now.base) (map folder_of files.now.projections)) }
     ensures rows { IfOk result (λ accepted. ArePartRows (base_of table.now) accepted.rows) }
     ensures one { IfOk result (λ accepted. HaveOnePartition table.now accepted.rows) }
     ensures cut { IfOk result (λ accepted. AreGranules accepted.granules accepted.rows) }

@@ -12,14 +12,15 @@ ghost use Rattle.mt_shelf.specs.Paths.{is_path, joined_path};
 ghost use Rattle.mt_shelf.specs.State.{files_of};
 ghost use Rattle.mt_table.specs.Rows.{RowFits};
 ghost use Rattle.mt_check.specs.FolderChecks.{folder_checks};
-ghost use Rattle.mt_check.specs.Listings.{listed_checks};
-ghost use Rattle.mt_check.specs.Results.{Answers};
-ghost use Rattle.mt_check.specs.ShelfResults.{AnswersFrom, ReadFails};
+ghost use Rattle.mt_check.specs.ListedChecks.{listed_checks};
+ghost use Rattle.mt_files.specs.Results.{Gives};
+ghost use Rattle.mt_files.specs.ShelfResults.{ReadFails};
+ghost use Rattle.mt_check.specs.ShelfResults.{GivesFrom};
 
-use crate::accepted::Accepted;
 use crate::folder::{PartFiles, check_files};
 use crate::reading::read_part;
-use crate::strays::check_names;
+use mt_definition::Accepted;
+use mt_files::check_names;
 use mt_shelf::{CallError, Entry, ReadError, Shelf};
 use mt_table::Table;
 use std::alloc::Global;
@@ -37,7 +38,7 @@ pub fn check<F: Shelf>(
     requires form { IsListing listing.now }
     requires few { sum_by (λ entry. entry.size) listing.now ≤ 536870912 }
     requires known { IfSome (files_of (F.state shelf.old)) (λ files. listing.now ≡ entries_below part.now files) }
-    ensures answers { IfSome (files_of (F.state shelf.old)) (λ files. AnswersFrom result
+    ensures gives { IfSome (files_of (F.state shelf.old)) (λ files. GivesFrom result
         (folder_checks table.now (λ name. get files (joined_path part.now name)) (map (λ entry. entry.name) listing.now))) }
     ensures rows { IfOk result (λ accepted. ArePartRows (base_of table.now) accepted.rows) }
     ensures one { IfOk result (λ accepted. HaveOnePartition table.now accepted.rows) }
@@ -63,7 +64,7 @@ pub fn check_listed(
 ) -> Result<Accepted, ReadError>
     requires form { IsListing listing.now }
     requires each { length files.now.projections ≡ length table.now.projections }
-    ensures answers { Answers result (listed_checks table.now files.now listing.now) }
+    ensures gives { Gives result (listed_checks table.now files.now listing.now) }
     ensures rows { IfOk result (λ accepted. ArePartRows (base_of table.now) accepted.rows) }
     ensures one { IfOk result (λ accepted. HaveOnePartition table.now accepted.rows) }
     ensures cut { IfOk result (λ accepted. AreGranules accepted.granules accepted.rows) }

@@ -5,12 +5,10 @@ ghost use Rattle.mt_defs.specs.Folder.{folder_of};
 ghost use Rattle.mt_defs.specs.Rows.{RowFits};
 ghost use Rattle.mt_meta.specs.PartitionKeys.{ArePartitionKeys};
 ghost use Rattle.mt_check.specs.PartitionReading.{files_reading, other_partition, partition_reading};
-ghost use Rattle.mt_check.specs.Results.{Gives};
+ghost use Rattle.mt_files.specs.Results.{Gives};
 
-use crate::accepted::Accepted;
-use crate::fault::{fault_in, fault_of};
-use crate::files::bytes_of;
-use crate::sort_order::granule_of;
+use mt_definition::{Accepted, granule_of};
+use mt_files::{bytes_of, fault_in, fault_of};
 use mt_meta::{partition_files, same_partition};
 use mt_shelf::{FileBytes, ReadError, Why};
 use mt_table::Table;

@@ -1,17 +1,19 @@
 //! Projections: whether the rows in their folders stand for the part's.
 
 ghost use Rattle.std.specs.Prelude.{◌≡◌, ◌<◌, ◌≤◌, ◌++◌, length, codes, map, IfOk};
+ghost use Rattle.std.specs.List.{zip};
 ghost use Rattle.mt_defs.specs.Folder.{folder_of};
 ghost use Rattle.mt_defs.specs.Projections as defined;
 ghost use Rattle.mt_table.specs.Stored.{projection_at};
-ghost use Rattle.mt_check.specs.Definitions.{HasProjections};
-ghost use Rattle.mt_check.specs.FolderChecks.{projection_checks, projection_folder, projections_checks};
-ghost use Rattle.mt_check.specs.Faults.{fault_of};
-ghost use Rattle.mt_check.specs.Results.{Answers, IsBelow, IsFault};
+ghost use Rattle.mt_files.specs.Definitions.{HasProjections};
+ghost use Rattle.mt_check.specs.FolderChecks.{projection_checks, projections_checks};
+ghost use Rattle.mt_files.specs.OwnNames.{projection_folder};
+ghost use Rattle.mt_granules.specs.FileFaults.{file_fault};
+ghost use Rattle.mt_check.specs.Results.{IsBelow};
+ghost use Rattle.mt_files.specs.Results.{Gives, IsFault};
 
-use crate::accepted::Accepted;
-use crate::definition::read_definition;
-use crate::fault::fault_of;
+use mt_definition::{Accepted, read_definition};
+use mt_files::{fault_of, folder_name};
 use mt_proj::stands_for;
 use mt_shelf::{Fault, FileBytes, ReadError, Why};
 use mt_table::{Projection, Table};
@@ -27,7 +29,7 @@ pub(crate) fn check_projections(
 ) -> Result<(), ReadError>
     requires table { HasProjections table.now }
     requires each { length folders.now ≡ length table.now.projections }
-    ensures { Answers result (projections_checks table.now accepted.now table.now.projections (map folder_of folders.now)) }
+    ensures { Gives result (projections_checks table.now accepted.now (zip table.now.projections (map folder_of folders.now))) }
 {
     for (place, files) in folders.iter().enumerate() {
         check_projection(alloc, table, place, files.as_slice(), accepted)?;
@@ -45,7 +47,7 @@ fn check_projection(
 ) -> Result<(), ReadError>
     requires table { HasProjections table.now }
     requires there { place < length table.now.projections }
-    ensures { Answers result (projection_checks table.now accepted.now (projection_at table.now place) (folder_of files.now)) }
+    ensures { Gives result (projection_checks table.now accepted.now (projection_at table.now place) (folder_of files.now)) }
 {
     let projection = &table.projections.as_slice()[place];
     let Ok(definition) = table.inner(alloc, place) else {
@@ -65,7 +67,7 @@ fn check_projection(
 
 /// The fault of a projection that doesn't stand for the rows.
 fn stands_not(alloc: Global, projection: &Projection) -> ReadError
-    ensures { IsFault (fault_of (projection_folder projection.now) Why.Projection) result }
+    ensures { IsFault (file_fault (projection_folder projection.now) Why.Projection) result }
 {
     match folder_name(alloc, projection, b"") {
         Ok(file) => fault_of(alloc, file.as_slice(), Why::Projection),
@@ -99,29 +101,4 @@ fn named_below(mut prefix: List<u8>, fault: Fault) -> ReadError
         }),
         Err(_) => ReadError::NoMemory,
     }
-}
-
-/// The name of a projection's folder, and an ending.
-pub(crate) fn folder_name(
-    alloc: Global,
-    projection: &Projection,
-    ending: &[u8],
-) -> Result<List<u8>, NoMemory>
-    ensures { IfOk result (λ name. name ≡ projection_folder projection.now ++ ending.now) }
-{
-    let name = match projection {
-        Projection::Normal { name, .. } | Projection::Grouped { name, .. } => name,
-    };
-    let mut folder = List::of_bytes(alloc, name.as_slice())?;
-    folder.append(b".proj")?;
-    folder.append(ending)?;
-    Ok(folder)
-}
-
-/// What the names in a projection's folder begin with, by the projection's place.
-pub(crate) fn prefix_at(alloc: Global, table: &Table, place: usize) -> Result<List<u8>, NoMemory>
-    requires { place < length table.now.projections }
-    ensures { IfOk result (λ prefix. prefix ≡ defined.projection_prefix (projection_at table.now place)) }
-{
-    folder_name(alloc, &table.projections.as_slice()[place], b"/")
 }

@@ -1,27 +1,25 @@
 //! Skip indexes: whether each entry is the one of its rows.
 
-ghost use Rattle.std.specs.Prelude.{◌≡◌, ◌↔◌, ◌*◌, ◌<◌, ◌≤◌, ◌^◌, All, IfOk, IsTrue, length, option_map, take, sum};
+ghost use Rattle.std.specs.Prelude.{◌≡◌, ◌*◌, ◌<◌, ◌≤◌, ◌^◌, All, IfOk, IsTrue, length, option_map, take, sum};
+ghost use Rattle.std.specs.List.{zip};
 ghost use Rattle.mt_table.specs.declared.limits.TheConstants.{MAX_ROWS};
 ghost use Rattle.mt_defs.specs.Folder.{folder_of};
 ghost use Rattle.mt_defs.specs.Granules.{AreGranules, granule_rows};
 ghost use Rattle.mt_defs.specs.Metadata.{column_at};
 ghost use Rattle.mt_defs.specs.Part.{is_compact};
 ghost use Rattle.mt_defs.specs.Rows.{RowFits, cell, column_values};
-ghost use Rattle.mt_defs.specs.SkipIndexes.{Summarizes, skip_data_name};
+ghost use Rattle.mt_defs.specs.SkipIndexes.{summarizes, skip_data_name};
 ghost use Rattle.mt_item.specs.ItemTypes.{has_items};
 ghost use Rattle.mt_skip.specs.Items.{AllFit};
-ghost use Rattle.mt_check.specs.Checks.{each};
-ghost use Rattle.mt_check.specs.Definitions.{HasSkips, IsSkip};
-ghost use Rattle.mt_check.specs.FolderChecks.{entries_checks, skip_checks};
-ghost use Rattle.mt_check.specs.Faults.{fault_in};
-ghost use Rattle.mt_check.specs.Results.{Answers, IsFault};
+ghost use Rattle.mt_files.specs.Definitions.{HasSkips, IsSkip};
+ghost use Rattle.mt_check.specs.FolderChecks.{each, entries_checks, skip_checks};
+ghost use Rattle.mt_granules.specs.FileFaults.{granule_fault};
+ghost use Rattle.mt_files.specs.Results.{Gives, IsFault};
 ghost use Rattle.mt_check.specs.RowGroups.{group_sizes};
-ghost use Rattle.mt_check.specs.SkipMarks.{IsFirstEntry, pieces_at};
+ghost use Rattle.mt_files.specs.SkipMarks.{IsFirstEntry, pieces_at};
 
-use crate::accepted::Accepted;
-use crate::fault::fault_in;
-use crate::skip_entries::{SkipEntries, data_name, read_entries};
-use crate::sort_order::is_compact;
+use mt_definition::Accepted;
+use mt_files::{SkipEntries, data_name, fault_in, is_compact, read_entries};
 use mt_shelf::{FileBytes, ReadError, Why};
 use mt_skip::agrees;
 use mt_table::{Skip, Table};
@@ -39,7 +37,7 @@ pub(crate) fn check_skips(
     requires few { length accepted.now.rows ≤ MAX_ROWS }
     requires fit { All (RowFits table.now.columns) accepted.now.rows }
     requires cut { AreGranules accepted.now.granules accepted.now.rows }
-    ensures { Answers result (each (skip_checks table.now (folder_of files.now) accepted.now) table.now.skips) }
+    ensures { Gives result (each (skip_checks table.now (folder_of files.now) accepted.now) table.now.skips) }
 {
     let compact = is_compact(files);
     for skip in table.skips.as_slice() {
@@ -62,7 +60,7 @@ fn check_skip(
     requires few { length accepted.now.rows ≤ MAX_ROWS }
     requires fit { All (RowFits table.now.columns) accepted.now.rows }
     requires cut { AreGranules accepted.now.granules accepted.now.rows }
-    ensures { Answers result (skip_checks table.now (folder_of files.now) accepted.now skip.now) }
+    ensures { Gives result (skip_checks table.now (folder_of files.now) accepted.now skip.now) }
 {
     let Ok(sizes) = group_sizes(alloc, skip.granularity, accepted.granules.as_slice()) else {
         return Err(ReadError::NoMemory);
@@ -116,8 +114,8 @@ fn check_entries(
     requires fit { AllFit ty.now (column_values skip.now.column rows.now) }
     requires cut { sum sizes.now ≡ length rows.now }
     requires small { length sizes.now * skip.now.granularity < 2 ^ 64 }
-    ensures { Answers result (entries_checks skip.now ty.now 0 (granule_rows sizes.now rows.now)
-        (pieces_at entries.now.payload entries.now.positions)) }
+    ensures { Gives result (entries_checks skip.now ty.now 0 (zip (granule_rows sizes.now rows.now)
+        (pieces_at entries.now.payload entries.now.positions))) }
 {
     let mut rest = rows;
     let mut ahead = entries.positions.as_slice();
@@ -139,7 +137,7 @@ fn check_entries(
 
 /// The fault of an entry, whose first granule this is.
 fn value_fault(alloc: Global, skip: &Skip, granule: u64) -> ReadError
-    ensures { IsFault (fault_in (skip_data_name skip.now) granule Why.Value) result }
+    ensures { IsFault (granule_fault (skip_data_name skip.now) granule Why.Value) result }
 {
     match data_name(alloc, skip) {
         Ok(file) => fault_in(alloc, file.as_slice(), granule, Why::Value),
@@ -178,8 +176,8 @@ fn is_entry_of(
 ) -> Result<bool, NoMemory>
     requires items { IsTrue (has_items ty.now) }
     requires fit { AllFit ty.now (column_values skip.now.column rows.now) }
-    ensures { IfOk result (λ is. IsTrue is
-        ↔ Summarizes skip.now.kind ty.now (column_values skip.now.column rows.now) entry.now) }
+    ensures { IfOk result (λ is. is
+        ≡ summarizes skip.now.kind ty.now (column_values skip.now.column rows.now) entry.now) }
 {
     let values = column_of(alloc, skip.column, rows)?;
     agrees(alloc, skip, ty, values.as_slice(), entry)

@@ -1,17 +1,17 @@
-use Rattle.std.proofs.Common.{List, map, sym, ap, ◌∙◌, subst}
-use Rattle.std.specs.Prelude.{Ok, Err}
+use Rattle.std.proofs.Common.{◌≡◌, List, map, sym, ap, ◌∙◌, subst}
+use Rattle.std.specs.Prelude.{Ok}
+use Rattle.std.specs.List.{zip}
 use Rattle.std.proofs.lemmas.Result.{err_from_is_err_and}
 use Rattle.mt_shelf.specs.declared.file.FileBytes.{FileBytes}
 use Rattle.mt_defs.specs.Folder.{folder_of}
 use Rattle.mt_defs.specs.Projections.{base_of}
-use Rattle.mt_check.specs.Checks.{each}
-use Rattle.mt_check.specs.DefinitionReading.{definition_reading}
-use Rattle.mt_check.specs.FolderChecks.{projections_checks, skip_checks}
+use Rattle.mt_definition.specs.DefinitionReading.{definition_reading}
+use Rattle.mt_check.specs.FolderChecks.{each, projections_checks, skip_checks}
 use Rattle.mt_check.specs.PartitionReading.{partition_reading}
-use Rattle.mt_check.specs.Results.{Answers}
+use Rattle.mt_files.specs.Results.{FailsAs}
 use Rattle.mt_check.proofs.FolderLemmas.{skips_fail, projections_fail, files_accepted}
 use Rattle.mt_check.proofs.PartitionLaw.{partition_holds}
-use Rattle.mt_check.proofs.TableLemmas.{partition_checked, projections_checked, skips_checked}
+use Rattle.mt_files.proofs.TableLemmas.{partition_checked, projections_checked, skips_checked}
 use Rattle.mt_check.proofs.folder.check_files.Goals as goal
 
 pub check_partition-requires-clause-key : goal.check_partition-requires-clause-key
@@ -20,40 +20,40 @@ check_partition-requires-clause-key c = partition_checked c.args.table.now
 pub check_skips-requires-clause-skips : goal.check_skips-requires-clause-skips
 check_skips-requires-clause-skips c = skips_checked c.args.table.now
 
-pub returns-in_err-check_skips-clause-answers : goal.returns-in_err-check_skips-clause-answers
-returns-in_err-check_skips-clause-answers c =
+pub returns-in_err-check_skips-clause-gives : goal.returns-in_err-check_skips-clause-gives
+returns-in_err-check_skips-clause-gives c =
     let p = err_from_is_err_and c.from_residual-in_err-check_skips.result c.from_residual-in_err-check_skips.ensures.1 in
     let table = c.args.table.now in
     let accepted = c.in_ok-accepted.accepted in
     let is = ap (λ (fs : List FileBytes). definition_reading (base_of table) (folder_of fs)) (sym c.as_slice.ensures) ∙ c.in_ok-accepted.ensures.gives in
     let holds = ap (λ (fs : List FileBytes). partition_reading table (folder_of fs) accepted) (sym c.as_slice-2.ensures) ∙ c.in_ok-check_partition.ensures in
     rw (p.1, p.2)
-    (skips_fail table (folder_of c.args.files.now.base) (map folder_of c.args.files.now.projections) accepted c.in_err-check_skips.field-0.0 is holds
-    (subst (λ (fs : List FileBytes). Answers (Err c.in_err-check_skips.field-0.0) (each (skip_checks table (folder_of fs) accepted) table.skips)) c.as_slice-3.ensures c.in_err-check_skips.ensures))
+    (skips_fail table (folder_of c.args.files.now.base) (map folder_of c.args.files.now.projections) accepted is c.in_err-check_skips.field-0.0 holds
+    (subst (λ (fs : List FileBytes). FailsAs c.in_err-check_skips.field-0.0 (each (skip_checks table (folder_of fs) accepted) table.skips)) c.as_slice-3.ensures c.in_err-check_skips.ensures))
 
 pub check_projections-requires-clause-table : goal.check_projections-requires-clause-table
 check_projections-requires-clause-table c = projections_checked c.args.table.now
 
-pub returns-in_err-check_projections-clause-answers : goal.returns-in_err-check_projections-clause-answers
-returns-in_err-check_projections-clause-answers c =
+pub returns-in_err-check_projections-clause-gives : goal.returns-in_err-check_projections-clause-gives
+returns-in_err-check_projections-clause-gives c =
     let p = err_from_is_err_and c.from_residual-in_err-check_projections.result c.from_residual-in_err-check_projections.ensures.1 in
     let table = c.args.table.now in
     let accepted = c.in_ok-accepted.accepted in
     let is = ap (λ (fs : List FileBytes). definition_reading (base_of table) (folder_of fs)) (sym c.as_slice.ensures) ∙ c.in_ok-accepted.ensures.gives in
     let holds = ap (λ (fs : List FileBytes). partition_reading table (folder_of fs) accepted) (sym c.as_slice-2.ensures) ∙ c.in_ok-check_partition.ensures in
-    let agree = subst (λ (fs : List FileBytes). each (skip_checks table (folder_of fs) accepted) table.skips (Ok tt)) c.as_slice-3.ensures c.in_ok-check_skips.ensures in
+    let agree = subst (λ (fs : List FileBytes). each (skip_checks table (folder_of fs) accepted) table.skips ≡ Ok tt) c.as_slice-3.ensures c.in_ok-check_skips.ensures in
     rw (p.1, p.2)
-    (projections_fail table (folder_of c.args.files.now.base) (map folder_of c.args.files.now.projections) accepted c.in_err-check_projections.field-0.0 is holds agree
-    (subst (λ (fs : List (List FileBytes)). Answers (Err c.in_err-check_projections.field-0.0) (projections_checks table accepted table.projections (map folder_of fs))) c.as_slice-4.ensures c.in_err-check_projections.ensures))
+    (projections_fail table (folder_of c.args.files.now.base) (map folder_of c.args.files.now.projections) accepted is c.in_err-check_projections.field-0.0 holds agree
+    (subst (λ (fs : List (List FileBytes)). FailsAs c.in_err-check_projections.field-0.0 (projections_checks table accepted (zip table.projections (map folder_of fs)))) c.as_slice-4.ensures c.in_err-check_projections.ensures))
 
-pub returns-clause-answers : goal.returns-clause-answers
-returns-clause-answers c =
+pub returns-clause-gives : goal.returns-clause-gives
+returns-clause-gives c =
     let table = c.args.table.now in
     let accepted = c.in_ok-accepted.accepted in
     let is = ap (λ (fs : List FileBytes). definition_reading (base_of table) (folder_of fs)) (sym c.as_slice.ensures) ∙ c.in_ok-accepted.ensures.gives in
     let holds = ap (λ (fs : List FileBytes). partition_reading table (folder_of fs) accepted) (sym c.as_slice-2.ensures) ∙ c.in_ok-check_partition.ensures in
-    let agree = subst (λ (fs : List FileBytes). each (skip_checks table (folder_of fs) accepted) table.skips (Ok tt)) c.as_slice-3.ensures c.in_ok-check_skips.ensures in
-    let stand = subst (λ (fs : List (List FileBytes)). projections_checks table accepted table.projections (map folder_of fs) (Ok tt)) c.as_slice-4.ensures c.in_ok-check_projections.ensures in
+    let agree = subst (λ (fs : List FileBytes). each (skip_checks table (folder_of fs) accepted) table.skips ≡ Ok tt) c.as_slice-3.ensures c.in_ok-check_skips.ensures in
+    let stand = subst (λ (fs : List (List FileBytes)). projections_checks table accepted (zip table.projections (map folder_of fs)) ≡ Ok tt) c.as_slice-4.ensures c.in_ok-check_projections.ensures in
     files_accepted table (folder_of c.args.files.now.base) (map folder_of c.args.files.now.projections) accepted is holds agree stand
 
 pub returns-clause-one : goal.returns-clause-one

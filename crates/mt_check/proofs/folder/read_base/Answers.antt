@@ -1,6 +1,6 @@
 use Rattle.std.proofs.Common.{sym, subst}
-use Rattle.mt_check.specs.Definitions.{IsDefinition}
-use Rattle.mt_check.proofs.TableLemmas.{base_checked}
+use Rattle.mt_files.specs.Definitions.{IsDefinition}
+use Rattle.mt_files.proofs.TableLemmas.{base_checked}
 use Rattle.mt_check.proofs.folder.read_base.Goals as goal
 
 pub read_definition-requires : goal.read_definition-requires

@@ -2,7 +2,7 @@ use Rattle.std.proofs.Common.{sym, ap, ◌∙◌}
 use Rattle.std.specs.Str.{bytes_eq}
 use Rattle.std.proofs.lemmas.Result.{err_from_is_err_and}
 use Rattle.mt_defs.specs.Folder.{folder_of}
-use Rattle.mt_check.proofs.LoopLemmas.{ne_true, ne_false}
+use Rattle.mt_files.proofs.LoopLemmas.{ne_true, ne_false}
 use Rattle.mt_check.proofs.PartitionLemmas.{files_fail, files_differ, files_same, files_done}
 use Rattle.mt_check.proofs.partition.check_files.Goals as goal
 

@@ -3,7 +3,7 @@ use Rattle.std.proofs.lemmas.Result.{err_from_is_err_and}
 use Rattle.mt_defs.specs.Folder.{folder_of}
 use Rattle.mt_defs.specs.WrittenPartition.{partition_files}
 use Rattle.mt_check.specs.PartitionReading.{other_partition}
-use Rattle.mt_check.specs.RowsReading.{granule_of}
+use Rattle.mt_definition.specs.RowsReading.{granule_of}
 use Rattle.mt_check.proofs.PartitionLemmas.{no_partition, partition_missing, partition_other, partition_rest}
 use Rattle.mt_check.proofs.partition.check_partition.Goals as goal
 

@@ -1,7 +1,7 @@
 use Rattle.std.proofs.Common.{◌≡◌, drop}
 use Rattle.mt_check.specs.PartitionReading.{is_other, other_partition}
-use Rattle.mt_check.specs.RowsReading.{first_index}
-use Rattle.mt_check.proofs.RowLemmas.{later_by}
+use Rattle.mt_definition.specs.RowsReading.{first_index}
+use Rattle.mt_definition.proofs.RowLemmas.{later_by}
 use Rattle.mt_check.proofs.partition.other_partition.Given as goal
 
 -- what is left decides

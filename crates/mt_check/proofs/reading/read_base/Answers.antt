@@ -1,7 +1,7 @@
 use Rattle.std.proofs.Common.{◌∙◌, refl, []}
 use Rattle.std.proofs.lemmas.Result.{IfOk-weaker}
 use Rattle.mt_shelf.specs.State.{files_of}
-use Rattle.mt_check.specs.OwnNames.{base_names}
+use Rattle.mt_files.specs.OwnNames.{base_names}
 use Rattle.mt_check.proofs.ReadLemmas.{folder_known, folder_names}
 use Rattle.mt_check.proofs.reading.read_base.Goals as goal
 

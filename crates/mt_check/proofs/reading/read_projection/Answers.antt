@@ -5,8 +5,8 @@ use Rattle.mt_table.specs.Stored.{projection_at}
 use Rattle.mt_defs.specs.Projections.{inner_of, projection_prefix}
 use Rattle.mt_defs.specs.Folder.{folder_below}
 use Rattle.mt_defs.specs.Part.{is_compact}
-use Rattle.mt_check.specs.Listings.{listed_folder}
-use Rattle.mt_check.specs.OwnNames.{own_names}
+use Rattle.mt_files.specs.Listings.{listed_folder}
+use Rattle.mt_files.specs.OwnNames.{own_names}
 use Rattle.mt_check.proofs.ReadLemmas.{folder_known, folder_names}
 use Rattle.mt_check.proofs.reading.read_projection.Goals as goal
 

@@ -3,8 +3,9 @@ use Rattle.std.specs.Prelude.{Option, IfSome}
 use Rattle.mt_shelf.specs.Files.{Files, entries_below}
 use Rattle.mt_shelf.specs.State.{files_of}
 use Rattle.mt_table.specs.Stored.{no_projection, projection_at}
-use Rattle.mt_check.specs.Listings.{listed_folder}
-use Rattle.mt_check.specs.PartFiles.{part_folder, projection_files}
+use Rattle.mt_files.specs.Listings.{listed_folder}
+use Rattle.mt_files.specs.NamedFiles.{part_folder}
+use Rattle.mt_check.specs.PartFiles.{projection_files}
 use Rattle.mt_check.proofs.ReadLemmas.{inner_names, inner_push}
 use Rattle.mt_check.proofs.reading.read_projections.Goals as goal
 

@@ -1,7 +1,8 @@
 use Rattle.std.specs.Prelude.{◌≡◌, map, take, IfSome}
 use Rattle.mt_shelf.specs.State.{files_of}
-use Rattle.mt_check.specs.Listings.{listed_folder}
-use Rattle.mt_check.specs.PartFiles.{file_names, part_folder, projection_files}
+use Rattle.mt_files.specs.Listings.{listed_folder}
+use Rattle.mt_files.specs.NamedFiles.{file_names, part_folder}
+use Rattle.mt_check.specs.PartFiles.{projection_files}
 use Rattle.mt_check.proofs.reading.read_projections.Given as goal
 
 abbrev pub invariant-loop-place : goal.invariant-loop-place

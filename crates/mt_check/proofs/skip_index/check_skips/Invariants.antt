@@ -1,13 +1,8 @@
-use Rattle.std.proofs.Common.{drop}
-use Rattle.std.specs.Prelude.{Result}
-use Rattle.mt_shelf.specs.declared.fault.ReadError.{ReadError}
+use Rattle.std.proofs.Common.{◌≡◌, drop}
 use Rattle.mt_defs.specs.Folder.{folder_of}
-use Rattle.mt_check.specs.Checks.{each}
-use Rattle.mt_check.specs.FolderChecks.{skip_checks}
-use Rattle.mt_check.specs.Results.{Answers}
+use Rattle.mt_check.specs.FolderChecks.{each, skip_checks}
 use Rattle.mt_check.proofs.skip_index.check_skips.Given as goal
 
 -- what is left decides
 abbrev pub invariant-loop-skip : goal.invariant-loop-skip
-invariant-loop-skip l =
-    (r : Result Unit ReadError) → Answers r (each (skip_checks l.table (folder_of l.files) l.accepted) (drop l.skip-index l.skip-items)) → Answers r (each (skip_checks l.table (folder_of l.files) l.accepted) l.table.skips)
+invariant-loop-skip l = each (skip_checks l.table (folder_of l.files) l.accepted) (drop l.skip-index l.skip-items) ≡ each (skip_checks l.table (folder_of l.files) l.accepted) l.table.skips

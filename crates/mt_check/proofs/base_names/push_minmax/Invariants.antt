@@ -1,6 +1,0 @@
-use Rattle.mt_check.proofs.OnceLemmas.{Left}
-use Rattle.mt_check.proofs.base_names.push_minmax.Given as goal
-
--- what is left is to be appended
-abbrev pub invariant-loop-index : goal.invariant-loop-index
-invariant-loop-index l = Left l.table l.initial.names.items l.names.items l.index

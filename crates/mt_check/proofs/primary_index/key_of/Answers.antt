@@ -1,6 +1,0 @@
-use Rattle.std.proofs.Common.{rules}
-use Rattle.mt_check.proofs.KeyLemmas.{cell_fits}
-use Rattle.mt_check.proofs.primary_index.key_of.Goals as goal
-
-pub append_cell-requires-clause-fits : goal.append_cell-requires-clause-fits
-append_cell-requires-clause-fits c = search (rules, cell_fits)

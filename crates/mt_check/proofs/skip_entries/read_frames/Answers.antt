@@ -1,9 +1,0 @@
-use Rattle.std.proofs.Common.{ap}
-use Rattle.mt_check.specs.SkipMarks.{in_frames}
-use Rattle.mt_check.proofs.FrameLemmas.{read_of_file}
-use Rattle.mt_check.proofs.skip_entries.read_frames.Goals as goal
-
-pub returns-in-Ok : goal.returns-in-Ok
-returns-in-Ok c =
-    let (blocks, is, laid, ends) = c.in-Ok.ensures.found in
-    (blocks, ap (in_frames c.args.file.now) (read_of_file c.args.bytes.now blocks is), is, laid, ends)

@@ -1,0 +1,18 @@
+-- The checks of files that were read, in a part that is listed.
+use Rattle.std.specs.Prelude.{List, map, Result, Ok}
+use Rattle.mt_types.specs.Steps.{◌>>=◌}
+use Rattle.mt_shelf.specs.declared.fault.Fault.{Fault}
+use Rattle.mt_shelf.specs.declared.file.Entry.{Entry}
+use Rattle.mt_table.specs.declared.definition.Table.{Table}
+use Rattle.mt_defs.specs.Folder.{folder_of}
+use Rattle.mt_files.specs.Listings.{names_reading}
+use Rattle.mt_definition.specs.declared.accepted.Accepted.{Accepted}
+use Rattle.mt_check.specs.declared.folder.PartFiles.{PartFiles}
+use Rattle.mt_check.specs.FolderChecks.{files_checks}
+
+-- what files that were read stand for, in a part that is listed so, or the first fault
+abbrev pub listed_checks : Table → PartFiles → List Entry → Result Accepted Fault
+listed_checks table files listing = do
+  accepted ← files_checks table (folder_of files.base) (map folder_of files.projections)
+  _ ← names_reading table listing
+  Ok accepted

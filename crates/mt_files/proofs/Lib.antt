@@ -1,0 +1,17 @@
+pub mod FaultLemmas
+pub mod LoopLemmas
+pub mod FileLemmas
+pub mod PlaceLemmas
+pub mod TextLemmas
+pub mod PositionLemmas
+pub mod EntryLemmas
+pub mod FrameLemmas
+pub mod PartDefs
+pub mod DefinitionLemmas
+pub mod InnerLemmas
+pub mod TableLemmas
+pub mod OnceLemmas
+pub mod ListingLemmas
+pub mod NamedLemmas
+pub mod KnownLemmas
+pub mod SetLemmas

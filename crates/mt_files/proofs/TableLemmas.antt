@@ -1,0 +1,100 @@
+-- What the rules of a table give its checks.
+use Rattle.std.proofs.Common.{◌≡◌, ◌≤◌, true, List, length, refl, sym, ◌∙◌, arith}
+use Rattle.std.specs.Prelude.{nat_le, ◌&&◌}
+use Rattle.std.specs.List.{list_all, filter_map}
+use Rattle.std.proofs.lemmas.Bool.{leb-true}
+use Rattle.std.proofs.lemmas.List.{length-map}
+use Rattle.std.proofs.lemmas.List.FromFn.{length-range_with_len}
+use Rattle.std.proofs.lemmas.List.Elements.{All-weaker}
+use Rattle.mt_types.specs.declared.ty.Ty.{Ty, out-Ty}
+use Rattle.mt_types.specs.declared.ty.Ty.TheOpen.{Ty-F}
+use Rattle.mt_types.specs.declared.ty.Ty.TheVariants.{Date, outs-Date}
+use Rattle.mt_types.proofs.Levels.{same_level}
+use Rattle.mt_types.proofs.StepLemmas.{both_true}
+use Rattle.mt_types.specs.Words.{is_name}
+use Rattle.mt_table.specs.declared.column.Column.{Column}
+use Rattle.mt_table.specs.declared.definition.PartDef.{PartDef}
+use Rattle.mt_table.specs.declared.definition.Table.{Table}
+use Rattle.mt_table.specs.declared.limits.TheConstants.{MAX_GRANULARITY, MAX_PARTITION, MAX_SKIPS}
+use Rattle.mt_table.specs.declared.partition.PartExpr.{PartExpr}
+use Rattle.mt_table.specs.declared.partition.PartExpr.TheVariants.{Plain, Month}
+use Rattle.mt_table.specs.declared.projection.Projection.{Projection}
+use Rattle.mt_table.specs.declared.projection.Projection.TheVariants.{Normal, Grouped}
+use Rattle.mt_table.specs.declared.skip.Skip.{Skip}
+use Rattle.mt_table.specs.ColumnTypes.{is_date_at, is_date_type, is_key_type, place_has}
+use Rattle.mt_table.specs.Kept.{is_one_of, keeps_expression, keeps_grouped, keeps_key, keeps_kind, keeps_normal, keeps_projection, keeps_skip, month_place, plain_place}
+use Rattle.mt_table.specs.Names.{places_differ}
+use Rattle.mt_table.specs.Tables.{fields_of_table}
+use Rattle.mt_table.proofs.KeptLemmas.{each_of, key_length}
+use Rattle.mt_defs.specs.Metadata.{column_at}
+use Rattle.mt_defs.specs.Projections.{base_of, index_in, inner_of, stored_columns}
+use Rattle.mt_meta.specs.PartitionKeys.{ArePartitionKeys, IsExpression}
+use Rattle.mt_files.specs.Definitions.{HasProjections, HasSkips, IsDefinition, IsSkip}
+use Rattle.mt_files.proofs.DefinitionLemmas.{all_pass, base_is, has_column, key_scalar}
+use Rattle.mt_files.proofs.InnerLemmas.{inner_is, kept_grouped, projections_kept}
+use Rattle.mt_files.proofs.PartDefs.{IsPartDef}
+
+-- ---- definitions
+
+flat : (definition : PartDef) → IsPartDef definition → 1 ≤ length definition.sort → IsDefinition definition
+flat definition is sorted = record { some = is.columns.some; few = is.columns.few; profile = is.columns.profile; keys = is.keys; sorted = sorted; primary = is.primary }
+
+pub base_checked : (table : Table) → IsDefinition (base_of table)
+base_checked table = flat (base_of table) (base_is table) (key_length table.columns table.sort (each_of (fields_of_table table) table.rules).sort).0
+
+inner_sorted : (table : Table) (projection : Projection) → keeps_projection table.columns projection ≡ true → 1 ≤ length (inner_of table projection).sort
+inner_sorted table (Normal name columns sort) keeps =
+    let parts = both_true _ (keeps_normal table.columns columns sort) keeps in
+    let more = both_true _ (list_all (is_one_of columns) sort && keeps_key table.columns sort) parts.1 in
+    let both = both_true (list_all (is_one_of columns) sort) (keeps_key table.columns sort) more.1 in
+    let some = (key_length table.columns sort both.1).0 in
+    omega (arith, some, length-map sort (index_in (stored_columns table columns)))
+inner_sorted table (Grouped name keys aggs) keeps =
+    let kept = kept_grouped table.columns keys aggs (both_true _ (keeps_grouped table.columns keys aggs) keeps).1 in
+    let some = (key_length table.columns keys kept.key).0 in
+    omega (arith, some, length-range_with_len 0 (length keys))
+
+pub projections_checked : (table : Table) → HasProjections table
+projections_checked table =
+    All-weaker (λ projection. keeps_projection table.columns projection ≡ true) (λ projection. IsDefinition (inner_of table projection))
+    (λ projection keeps. flat (inner_of table projection) (inner_is table projection keeps) (inner_sorted table projection keeps)) table.projections (projections_kept table)
+
+-- ---- skip indexes
+
+skip_is : (columns : List Column) (skip : Skip) → keeps_skip columns skip ≡ true → IsSkip columns skip
+skip_is columns skip keeps =
+    let named = both_true (is_name skip.name) _ keeps in
+    let typed = both_true (place_has is_key_type columns skip.column) _ named.1 in
+    let counted = both_true (nat_le 1 skip.granularity) _ typed.1 in
+    let small = both_true (nat_le skip.granularity MAX_GRANULARITY) (keeps_kind skip.kind) counted.1 in
+    let has = has_column is_key_type columns skip.column typed.0 in
+    record { known = has.known; scalar = key_scalar (column_at columns skip.column).ty has.passes; some = leb-true 1 skip.granularity counted.0; small = leb-true skip.granularity MAX_GRANULARITY small.0 }
+
+pub skips_checked : (table : Table) → HasSkips table
+skips_checked table =
+    let keeps = (each_of (fields_of_table table) table.rules).skips in
+    let parts = both_true (nat_le (length table.skips) MAX_SKIPS) _ keeps in
+    let each = both_true (list_all (keeps_skip table.columns) table.skips) _ parts.1 in
+    All-weaker (λ skip. keeps_skip table.columns skip ≡ true) (IsSkip table.columns) (skip_is table.columns) table.skips (all_pass (keeps_skip table.columns) table.skips each.0)
+
+-- ---- partition keys
+
+date_at : (ty : Ty) (level : Ty-F Ty) → out-Ty ty ≡ level → is_date_at level ≡ true → ty ≡ Date
+date_at ty Ty-F.Date is e = same_level ty Date (is ∙ sym outs-Date)
+date_at ty _ is e = cc
+
+expression_is : (columns : List Column) (expression : PartExpr) → keeps_expression columns expression ≡ true → IsExpression columns expression
+expression_is columns (Plain i) keeps =
+    let has = has_column is_key_type columns i keeps in
+    (has.known, key_scalar (column_at columns i).ty has.passes)
+expression_is columns (Month i) keeps =
+    let has = has_column is_date_type columns i keeps in
+    (has.known, date_at (column_at columns i).ty (out-Ty (column_at columns i).ty) refl has.passes)
+
+pub partition_checked : (table : Table) → ArePartitionKeys table.columns table.partition
+partition_checked table =
+    let keeps = (each_of (fields_of_table table) table.rules).partition in
+    let few = both_true (nat_le (length table.partition) MAX_PARTITION) _ keeps in
+    let plain = both_true (places_differ (filter_map plain_place table.partition)) _ few.1 in
+    let month = both_true (places_differ (filter_map month_place table.partition)) (list_all (keeps_expression table.columns) table.partition) plain.1 in
+    All-weaker (λ expression. keeps_expression table.columns expression ≡ true) (IsExpression table.columns) (expression_is table.columns) table.partition (all_pass (keeps_expression table.columns) table.partition month.1)

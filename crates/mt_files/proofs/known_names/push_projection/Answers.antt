@@ -1,0 +1,23 @@
+use Rattle.std.proofs.Common.{◌++◌, ◌∙◌, ap, sym, subst, List}
+use Rattle.std.proofs.lemmas.Result.{IfOk-equal}
+use Rattle.mt_table.specs.Stored.{no_projection, projection_at}
+use Rattle.mt_defs.specs.Folder.{folder_below}
+use Rattle.mt_defs.specs.Part.{is_compact}
+use Rattle.mt_files.specs.Definitions.{IsDefinition}
+use Rattle.mt_files.specs.Listings.{listed_folder}
+use Rattle.mt_files.proofs.KnownLemmas.{names_below}
+use Rattle.mt_files.proofs.TableLemmas.{projections_checked}
+use Rattle.mt_files.proofs.known_names.push_projection.Goals as goal
+
+pub definition_names-requires : goal.definition_names-requires
+definition_names-requires c = subst IsDefinition (sym c.in_ok-definition.ensures) (projections_checked c.args.table.now c.args.place no_projection c.requires.there)
+
+pub returns : goal.returns
+returns c =
+    let table = c.args.table.now in
+    let projection = projection_at table c.args.place in
+    IfOk-equal c.push_below.result c.push_below.new.names.items _ _ c.push_below.ensures
+    (ap (λ (names : List (List _)). c.args.names.now.items ++ names)
+    (names_below table (listed_folder c.args.listing.now) projection c.as_slice-2.result.now c.in_ok-definition.definition c.in_ok-compact.compact c.as_slice-3.result.now
+    (c.as_slice-2.ensures ∙ c.in_ok-prefix.ensures) c.in_ok-definition.ensures
+    (c.in_ok-compact.ensures ∙ ap (λ (p : List _). is_compact (folder_below (listed_folder c.args.listing.now) p)) (c.as_slice.ensures ∙ sym c.as_slice-2.ensures)) (c.as_slice-3.ensures.value ∙ c.in_ok-own.ensures)))

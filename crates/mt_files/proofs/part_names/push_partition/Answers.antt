@@ -1,0 +1,15 @@
+use Rattle.std.proofs.Common.{◌∷◌, [], ◌++◌, List, sym, ap, ◌∙◌, map}
+use Rattle.std.proofs.lemmas.List.{append_assoc}
+use Rattle.std.proofs.lemmas.Result.{IfOk-equal}
+use Rattle.mt_defs.specs.Partition.{minmax_name, partition_name}
+use Rattle.mt_files.specs.OwnNames.{partition_columns}
+use Rattle.mt_files.proofs.OnceLemmas.{files_are}
+use Rattle.mt_files.proofs.part_names.push_partition.Goals as goal
+
+pub returns : goal.returns
+returns c =
+    let table = c.args.table.now in
+    let later = map (minmax_name table) (partition_columns table) in
+    IfOk-equal c.push_minmax.result c.push_minmax.new.names.items _ _ c.push_minmax.ensures
+    (ap (λ (l : List (List _)). l ++ later) c.in_ok-push_name.ensures ∙ append_assoc c.args.names.now.items (partition_name ∷ []) later
+    ∙ ap (λ (l : List (List _)). c.args.names.now.items ++ l) (sym (files_are table (λ none. let e = sym (c.is_empty.ensures.1 none) ∙ c.if-is_empty.false in cc))))
