@@ -2,7 +2,7 @@
 use Rattle.std.proofs.Common.{◌≡◌, ℕ, Bool, true, false, ◌&&◌, ◌==◌, List, [], ◌∷◌, length, Option, Some, None, refl, ap, sym, ◌∙◌}
 use Rattle.std.specs.Prelude.{if◌then◌else◌}
 use Rattle.std.specs.List.{filter_map}
-use Rattle.std.specs.FinMap.{entries, entries-insert, entries_sorted, get-insert, insert}
+use Rattle.std.specs.FinMap.{entries, entries-insert, entries_sorted, get, get-insert, insert}
 use Rattle.std.proofs.lemmas.Bool.{eq-eqb}
 use Rattle.std.proofs.lemmas.Cmp.{nat_list_cmp_total}
 use Rattle.mt_shelf.specs.declared.file.Entry.{Entry}
@@ -13,13 +13,13 @@ use Rattle.mt_shelf.proofs.Puts.{joined_below}
 use Rattle.mt_shelf.proofs.Listings.{shown-put}
 use Rattle.mt_table.specs.declared.definition.Table.{Table}
 use Rattle.mt_defs.specs.Folder.{Folder}
-use Rattle.mt_check.specs.declared.accepted.Accepted.{Accepted}
+use Rattle.mt_definition.specs.declared.accepted.Accepted.{Accepted}
 use Rattle.mt_check.specs.FolderChecks.{folder_checks}
 use Rattle.mt_command.specs.Outcomes.{Outcomes, ◌>>=◌, gives, refused_by}
 use Rattle.mt_command.specs.Parts.{folder_at, listed_names, part_files, part_steps}
 use Rattle.mt_command.specs.declared.status.Status.TheVariants.{AtFault}
-use Rattle.mt_written.proofs.LookupLemmas.{other_name}
-use Rattle.mt_headline.proofs.GainedLemmas.{not_both}
+use Rattle.mt_law_written.proofs.LookupLemmas.{other_name}
+use Rattle.mt_headline.proofs.GainedLemmas.{at_or_below, not_both}
 
 -- ---- paths
 
@@ -50,7 +50,15 @@ none_below target other name one two = by (name_below other (joined_path target 
     by None is = refl
     by (Some below) is = absurd (below_one target other name below one two (joined_below other (joined_path target name) below is))
 
--- ---- the folder and the listing
+-- ---- the files, the folder and the listing
+
+pub file_stays : (target path : List ℕ) (draft : Draft) (files : Files) → is_at_or_below target path ≡ false → get (gained_files target draft files) path ≡ get files path
+file_stays target path [] files other = refl
+file_stays target path (file ∷ draft) files other =
+    file_stays target path draft (insert files (joined_path target file.0) file.1) other
+    ∙ get-insert nat_list_cmp_total files (joined_path target file.0) file.1 path
+    ∙ ap (λ (b : Bool). if b then Some file.1 else get files path)
+    (other_name path (joined_path target file.0) (λ same. not_both (is_at_or_below target path) (ap (is_at_or_below target) same ∙ at_or_below target file.0) other))
 
 pub folder_stays : (target other : List ℕ) (draft : Draft) (files : Files) → is_at_or_below target other ≡ false → is_at_or_below other target ≡ false → (name : List ℕ) → folder_at other (gained_files target draft files) name ≡ folder_at other files name
 folder_stays target other [] files one two name = refl
@@ -71,7 +79,7 @@ listing_stays target other (file ∷ draft) files one two =
 
 -- the steps of a part with this folder and this listing
 abbrev steps_by : Table → List ℕ → Folder → List Entry → Outcomes Accepted
-steps_by table part folder listing = gives (part_files part (listing_of listing)) >>= λ _. refused_by (AtFault part) (folder_checks table folder (listed_names listing))
+steps_by table part folder listing = gives (part_files part (listing_of listing)) >>= λ _. refused_by (AtFault part) (λ answer. folder_checks table folder (listed_names listing) ≡ answer)
 
 pub steps_stay : (table : Table) (target other : List ℕ) (draft : Draft) (files : Files) → is_at_or_below target other ≡ false → is_at_or_below other target ≡ false → part_steps table other (gained_files target draft files) ≡ part_steps table other files
 steps_stay table target other draft files one two =

@@ -13,9 +13,9 @@ use Rattle.mt_shelf.specs.Paths.{is_at_or_below, joined_path}
 use Rattle.mt_shelf.specs.Files.{Files, gained_files, stands}
 use Rattle.mt_shelf.specs.Held.{pair_of}
 use Rattle.mt_defs.specs.Folder.{folder_of, is_name}
-use Rattle.mt_written.proofs.ApartLemmas.{EachLater, apart_each}
-use Rattle.mt_written.proofs.LookupLemmas.{Apart, AreApart, name_is, other_name, same_name}
-use Rattle.mt_written.proofs.OrderLemmas.{Differently}
+use Rattle.mt_law_written.proofs.ApartLemmas.{EachLater, apart_each}
+use Rattle.mt_law_written.proofs.LookupLemmas.{Apart, AreApart, name_is, other_name, same_name}
+use Rattle.mt_law_written.proofs.OrderLemmas.{Differently}
 use Rattle.mt_command.specs.Parts.{folder_at}
 
 abbrev Pair : Type 0

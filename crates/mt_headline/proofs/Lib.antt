@@ -1,12 +1,8 @@
-mod NameLemmas
-mod ByteLemmas
-mod TextBytes
-mod DataBytes
-mod FolderBytes
-mod GainedLemmas
-mod SizeLemmas
-mod PublishedLemmas
-mod WrittenLemmas
-mod StorableLemmas
-mod ApartLemmas
-mod OutcomeLemmas
+pub mod NameLemmas
+pub mod GainedLemmas
+pub mod SizeLemmas
+pub mod PublishedLemmas
+pub mod WrittenLemmas
+pub mod StorableLemmas
+pub mod ApartLemmas
+pub mod OutcomeLemmas

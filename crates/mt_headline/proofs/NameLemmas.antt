@@ -7,10 +7,10 @@ use Rattle.std.proofs.lemmas.List.Elements.{Contains-append_left, Contains-appen
 use Rattle.mt_shelf.specs.declared.file.Entry.{Entry}
 use Rattle.mt_shelf.specs.Files.{Files, entries_below}
 use Rattle.mt_defs.specs.Folder.{is_name}
-use Rattle.mt_check.specs.Listings.{size_in}
-use Rattle.mt_check.proofs.ListingLemmas.{size_of_file}
-use Rattle.mt_written.proofs.LookupLemmas.{name_is, same_name}
-use Rattle.mt_stands.specs.Listed.{HasNames}
+use Rattle.mt_files.specs.Listings.{size_in}
+use Rattle.mt_files.proofs.ListingLemmas.{size_of_file}
+use Rattle.mt_law_written.proofs.LookupLemmas.{name_is, same_name}
+use Rattle.mt_law_checked.specs.Listed.{HasNames}
 use Rattle.mt_command.specs.Parts.{folder_at, listed_names}
 
 abbrev size_by : Entry → List Entry → List ℕ → Bool → Option ℕ

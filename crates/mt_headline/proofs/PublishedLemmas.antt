@@ -1,7 +1,6 @@
 -- The part that a command publishes: what its checks read, and that its listing is within the limit.
-use Rattle.std.proofs.Common.{◌≡◌, ℕ, zero, suc, ◌<◌, ◌≤◌, ◌^◌, false, List, [], ◌∷◌, length, map, get_or, ap, sym, ◌∙◌, subst, arith, lit<, inl, inr}
-use Rattle.std.specs.Prelude.{All, AllPairs, Result, Ok, Err}
-use Rattle.std.proofs.lemmas.List.Sums.{sum_by-cons}
+use Rattle.std.proofs.Common.{◌≡◌, ℕ, ◌≤◌, false, List, map, ap, sym, ◌∙◌, subst, inl, inr}
+use Rattle.std.specs.Prelude.{AllPairs, Result, Ok, Err}
 use Rattle.mt_shelf.specs.declared.fault.Fault.{Fault}
 use Rattle.mt_shelf.specs.declared.file.Entry.{Entry}
 use Rattle.mt_shelf.specs.declared.file.FileBytes.{FileBytes}
@@ -10,32 +9,17 @@ use Rattle.mt_shelf.specs.Held.{pair_of}
 use Rattle.mt_table.specs.declared.definition.Table.{Table}
 use Rattle.mt_defs.specs.Folder.{Folder, folder_of}
 use Rattle.mt_defs.specs.Metadata.{columns_name, columns_text, column_at}
-use Rattle.mt_defs.specs.Part.{StandsFor}
+use Rattle.mt_defs.specs.Part.{StandsForIn}
 use Rattle.mt_defs.specs.Projections.{base_of}
 use Rattle.mt_defs.specs.Rows.{Row}
-use Rattle.mt_granules.specs.ByteFiles.{HasByteFiles, IsByteFile}
-use Rattle.mt_check.specs.declared.accepted.Accepted.{Accepted}
+use Rattle.mt_definition.specs.declared.accepted.Accepted.{Accepted}
 use Rattle.mt_command.specs.Parts.{folder_at, listing_in, part_checks, part_steps}
 use Rattle.mt_command.specs.Targets.{folder_bytes, free_target}
 use Rattle.mt_command.specs.declared.limits.TheConstants.{MAX_FOLDER}
 use Rattle.mt_command.specs.declared.status.Status.{Status}
-use Rattle.mt_written.proofs.OrderLemmas.{Differently}
-use Rattle.mt_headline.proofs.DataBytes.{HasBytes}
+use Rattle.mt_law_written.proofs.OrderLemmas.{Differently}
 use Rattle.mt_headline.proofs.GainedLemmas.{all_apart, folder_gained}
 use Rattle.mt_headline.proofs.SizeLemmas.{few_gained, listed_within, ok_of}
-
--- ---- files of bytes
-
-small_file : (files : List FileBytes) (k : ℕ) (d : FileBytes) → k < length files → length (get_or files k d).bytes ≤ folder_bytes files
-small_file [] k d inside = absurd (omega (arith, inside))
-small_file (file ∷ files) zero d inside = omega (arith, sum_by-cons (λ (f : FileBytes). length f.bytes) file files)
-small_file (file ∷ files) (suc k) d inside = omega (arith, sum_by-cons (λ (f : FileBytes). length f.bytes) file files, small_file files k d (omega (arith, inside)))
-
-pub byte_files : (files : List FileBytes) → All HasBytes files → folder_bytes files ≤ MAX_FOLDER → All (λ file. IsByteFile file.bytes) files
-byte_files files are few k d inside =
-    let limit : MAX_FOLDER < 2 ^ 64 = lit< tt in
-    let small = small_file files k d inside in
-    (are k d inside, omega (arith, small, few, limit))
 
 -- ---- a free target
 
@@ -48,8 +32,12 @@ is_free part files free = ok_of (stands part files) _ tt free
 pub steps_accept : (table : Table) (part : List ℕ) (files : Files) (listing : List Entry) (accepted : Accepted) → listing_in part files ≡ Ok listing → part_checks table part files (Ok accepted) → part_steps table part files (Ok accepted)
 steps_accept table part files listing accepted listed checks = inl (listing, sym listed, checks)
 
+-- checks have one answer
 pub same_accepted : (a b : Accepted) → (let r : Result Accepted Fault = Ok a in r) ≡ Ok b → a ≡ b
 same_accepted a b e = cc
+
+pub not_both : (accepted : Accepted) (fault : Fault) → (let r : Result Accepted Fault = Ok accepted in r) ≡ Err fault → ⊥
+not_both accepted fault e = cc
 
 pub steps_checks : (table : Table) (part : List ℕ) (files : Files) (accepted : Accepted) → part_steps table part files (Ok accepted) → part_checks table part files (Ok accepted)
 steps_checks table part files accepted (inl (listing, listed, checks)) = checks
@@ -58,10 +46,10 @@ steps_checks table part files accepted (inr (status, listed, bad)) = cc
 -- and where the checks have no fault, no refusal
 pub steps_refuse : (table : Table) (part : List ℕ) (files : Files) (listing : List Entry) (status : Status) → listing_in part files ≡ Ok listing → ((fault : Fault) → part_checks table part files (Err fault) → ⊥) → part_steps table part files (Err status) → ⊥
 steps_refuse table part files listing status listed none (inl (other, is, (fault, checks, named))) = none fault checks
-steps_refuse table part files listing status listed none (inr (other, is, same)) = not_both other listing (is ∙ listed)
+steps_refuse table part files listing status listed none (inr (other, is, same)) = never other listing (is ∙ listed)
   where
-    not_both : (status : Status) (listing : List Entry) → (let r : Result (List Entry) Status = Err status in r) ≡ Ok listing → ⊥
-    not_both status listing e = cc
+    never : (status : Status) (listing : List Entry) → (let r : Result (List Entry) Status = Err status in r) ≡ Ok listing → ⊥
+    never status listing e = cc
 
 -- ---- the part
 
@@ -70,20 +58,18 @@ abbrev pub with_draft : List ℕ → List FileBytes → Files → Files
 with_draft part draft files = gained_files part (map pair_of draft) files
 
 -- what is known of a part that was published
-pub record IsPublished (table : Table) (rows : List Row) (part : List ℕ) (files : Files) : Type 0 where
-  pub bytes : HasByteFiles (folder_at part files)
-  pub stands_for : StandsFor table (folder_at part files) rows
+pub record IsPublished (table : Table) (rows : List Row) (granules part : List ℕ) (files : Files) : Type 0 where
+  pub stands_for : StandsForIn table (folder_at part files) rows granules
   pub listed : listing_in part files ≡ Ok (entries_below part files)
 
 -- a draft that is a folder for some rows, published at a free target
-pub draft_published : (table : Table) (rows : List Row) (part : List ℕ) (draft : List FileBytes) (files : Files) → AllPairs Differently draft → stands part files ≡ false → folder_bytes draft ≤ MAX_FOLDER → StandsFor table (folder_of draft) rows
-    → HasByteFiles (folder_of draft) → IsPublished table rows part (with_draft part draft files)
-draft_published table rows part draft files differ free few is bytes =
+pub draft_published : (table : Table) (rows : List Row) (granules part : List ℕ) (draft : List FileBytes) (files : Files) → AllPairs Differently draft → stands part files ≡ false → folder_bytes draft ≤ MAX_FOLDER
+    → StandsForIn table (folder_of draft) rows granules → IsPublished table rows granules part (with_draft part draft files)
+draft_published table rows granules part draft files differ free few is =
     let same : folder_at part (with_draft part draft files) ≡ folder_of draft = folder_gained part draft files (all_apart draft differ) free in
     let metadata = is.holds.metadata in
     let there = ap (λ (folder : Folder). folder columns_name) same ∙ metadata.lists_columns in
     record {
-      bytes = subst HasByteFiles (sym same) bytes;
-      stands_for = subst (λ (folder : Folder). StandsFor table folder rows) (sym same) is;
+      stands_for = subst (λ (folder : Folder). StandsForIn table folder rows granules) (sym same) is;
       listed = listed_within part columns_name (columns_text (map (column_at (base_of table).columns) is.holds.order)) (with_draft part draft files) there (few_gained part draft files free few);
     }

@@ -17,7 +17,7 @@ use Rattle.mt_shelf.specs.Files.{Files, entries_below, entry_of, gained_files, l
 use Rattle.mt_shelf.specs.Held.{by_order, pair_of, with_entry, with_entry_if}
 use Rattle.mt_shelf.proofs.Puts.{below_joined, joined_below}
 use Rattle.mt_shelf.proofs.Listings.{shown-put}
-use Rattle.mt_check.specs.Listings.{size_in}
+use Rattle.mt_files.specs.Listings.{size_in}
 use Rattle.mt_command.specs.Parts.{folder_at, listed_bytes, listing_in, part_files}
 use Rattle.mt_command.specs.Targets.{folder_bytes, within_limit}
 use Rattle.mt_command.specs.declared.limits.TheConstants.{MAX_FOLDER}

@@ -1,7 +1,7 @@
 -- Storable rows are writable in key order.
 use Rattle.std.proofs.Common.{◌≡◌, ◌≤◌, false, List, [], ◌∷◌, get_or, sym, ◌∙◌, arith}
-use Rattle.std.specs.Prelude.{All, IsTrue}
-use Rattle.std.specs.List.{list_all, list_any}
+use Rattle.std.specs.Prelude.{All}
+use Rattle.std.specs.List.{list_any}
 use Rattle.std.proofs.lemmas.List.Elements.{All-contains, Contains-get_or}
 use Rattle.mt_table.specs.declared.definition.Table.{Table}
 use Rattle.mt_table.specs.declared.limits.TheConstants.{MAX_CELLS}
@@ -10,9 +10,8 @@ use Rattle.mt_defs.specs.Rows.{Row, RowFits, cell_count}
 use Rattle.mt_defs.specs.Sorting.{sorted_rows}
 use Rattle.mt_defs.specs.Writer.{IsWritable}
 use Rattle.mt_defs.proofs.Sorted.{IsSorted-sorted_rows, All-sorted_rows, cell_count-sorted_rows, length-sorted_rows, some_sorted_rows}
-use Rattle.mt_written.specs.Texts.{HoldBytes, holds_bytes}
-use Rattle.mt_written.proofs.FolderLemmas.{rules_of}
-use Rattle.mt_written.proofs.RuleLemmas.{none_pass}
+use Rattle.mt_law_written.proofs.FolderLemmas.{rules_of}
+use Rattle.mt_law_written.proofs.RuleLemmas.{none_pass}
 use Rattle.mt_command.specs.Targets.{has_many_cells}
 use Rattle.mt_command.proofs.ProjectionParts.{projection_part}
 use Rattle.mt_headline.specs.Storable.{AreStorable}
@@ -27,9 +26,6 @@ sorted_one table (first ∷ rows) one a b at_a at_b =
     let all : All P sorted =
     All-sorted_rows P table.sort (first ∷ rows) (λ k d h. one first (get_or (first ∷ rows) k d) (Contains-get_or (first ∷ rows) 0 first (omega arith)) (Contains-get_or (first ∷ rows) k d h)) in
     sym (All-contains P sorted a all at_a) ∙ All-contains P sorted b all at_b
-
-pub sorted_bytes : (table : Table) (rows : List Row) → HoldBytes rows → HoldBytes (sorted_rows table.sort rows)
-sorted_bytes table rows holds = All-sorted_rows (λ row. IsTrue (list_all holds_bytes row)) table.sort rows holds
 
 few_each : (table : Table) (rows : List Row) → AreStorable table rows → All (λ projection. has_many_cells table rows projection ≡ false) table.projections
 few_each table rows are = none_pass (has_many_cells table rows) table.projections (ok_of (list_any (has_many_cells table rows) table.projections) _ tt are.projection_limit)

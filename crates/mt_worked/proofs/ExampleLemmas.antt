@@ -1,9 +1,7 @@
 -- The worked example's folder stands for its rows.
-use Rattle.std.proofs.Common.{◌≡◌, ℕ, ◌≤◌, Bool, true, [], ◌∷◌, refl, ap, sym, ◌∙◌, subst, lit≤}
+use Rattle.std.proofs.Common.{◌≡◌, ℕ, ◌≤◌, true, [], ◌∷◌, refl, ap, sym, ◌∙◌, subst, lit≤}
 use Rattle.std.specs.Prelude.{All, IsTrue, pos}
 use Rattle.std.specs.List.Sorted.{IsSorted}
-use Rattle.std.specs.List.{list_all}
-use Rattle.std.proofs.lemmas.Bool.{and_from}
 use Rattle.std.proofs.lemmas.List.Elements.{All-nil, All-cons}
 use Rattle.mt_types.specs.declared.ty.Ty.TheVariants.{UInt}
 use Rattle.mt_types.specs.declared.ty.Width.TheVariants.{W64}
@@ -18,11 +16,11 @@ use Rattle.mt_defs.specs.Rows.{Row, RowFits, key_cmp, ArePartRows}
 use Rattle.mt_defs.specs.Part.{StandsFor}
 use Rattle.mt_defs.specs.Projections.{inner_of}
 use Rattle.mt_defs.specs.Writer.{IsWritable, projection_rows}
-use Rattle.mt_defs.specs.WorkedExample.{table, input, rows, row, seven_files}
+use Rattle.mt_defs.specs.WorkedExample.{table, settings, input, rows, row, seven_files}
+use Rattle.mt_defs.specs.WrittenGranules.{written_granules}
 use Rattle.mt_defs.proofs.Examples.{in_order, folder_is}
 use Rattle.mt_defs.proofs.Sorted.{IsSorted-sorted_rows}
-use Rattle.mt_written.specs.Texts.{HoldBytes, holds_bytes, holds_bytes_step}
-use Rattle.mt_written.proofs.StandLemmas.{written_stands}
+use Rattle.mt_law_written.proofs.StandLemmas.{written_stands}
 use Rattle.mt_worked.proofs.ItemLemmas.{fits_UInt}
 
 number_fits : (n : ℕ) → is_unsigned 64 (pos n) ≡ true → IsTrue (fits_of (UInt W64) (Num (pos n)))
@@ -55,16 +53,5 @@ writable = record {
   projections = All-nil (λ projection. ArePartRows (inner_of table projection) (projection_rows table projection rows));
 }
 
-number_holds : (n : ℕ) → holds_bytes (Num (pos n)) ≡ true
-number_holds n = fold_out-Value Bool holds_bytes_step (Num (pos n)) ∙ ap (λ l. holds_bytes_step (map-Value Value Bool holds_bytes l)) (outs-Num (pos n))
-
-row_holds : (k v : ℕ) → list_all holds_bytes (row k v) ≡ true
-row_holds k v = and_from (holds_bytes (Num (pos k))) _ (number_holds k) (and_from (holds_bytes (Num (pos v))) true (number_holds v) refl)
-
-hold_bytes : HoldBytes rows
-hold_bytes =
-    let P : Row → Type 0 = λ row. IsTrue (list_all holds_bytes row) in
-    All-cons P (row 1 10) (row 2 20 ∷ row 3 30 ∷ []) (row_holds 1 10) (All-cons P (row 2 20) (row 3 30 ∷ []) (row_holds 2 20) (All-cons P (row 3 30) [] (row_holds 3 30) (All-nil P)))
-
 pub stands : StandsFor table (folder_of seven_files) rows
-stands = subst (λ files. StandsFor table (folder_of files) rows) folder_is (written_stands table rows writable hold_bytes)
+stands = subst (λ files. StandsFor table (folder_of files) rows) folder_is (written_granules settings table.columns rows, written_stands table rows writable)

@@ -34,7 +34,7 @@ use Rattle.mt_defs.specs.Part.{StandsFor, HasColumns}
 use Rattle.mt_defs.specs.WorkedExample.{table, u64_column}
 use Rattle.mt_defs.proofs.Numbers.{stream_suffixes_UInt}
 use Rattle.mt_worked.specs.NumberColumns.{HasNumbers}
-use Rattle.mt_written.proofs.ListLemmas.{Pointwise-get_or}
+use Rattle.mt_law_written.proofs.ListLemmas.{Pointwise-get_or}
 use Rattle.mt_worked.proofs.NumberLemmas.{encoding_UInt, length-granule_rows, same_rows}
 
 abbrev pub key_name : List ℕ
@@ -101,17 +101,17 @@ wide_of columns rows granules folder none (inl compact) =
 wide_of columns rows granules folder none (inr wide) = wide.1
 
 pub held : (folder : Folder) (rows : List Row) → folder columns_name ≡ Some example_columns_text → folder compact_marks_name ≡ None → StandsFor table folder rows → Held folder rows
-held folder rows text none stands =
+held folder rows text none (granules, stands) =
     let order = stands.holds.order in
     let is : order ≡ 0 ∷ 1 ∷ [] = in_order order stands.holds.metadata.each_once (same_Some (text_in order) example_columns_text (sym stands.holds.metadata.lists_columns ∙ text)) in
     let fit : All (RowFits table.columns) rows = stands.holds.part_rows.fit in
-    let there : HasColumns (map (column_at table.columns) (0 ∷ 1 ∷ [])) (map (key_of (0 ∷ 1 ∷ [])) rows) stands.granules folder =
-    subst (λ o. HasColumns (map (column_at table.columns) o) (map (key_of o) rows) stands.granules folder) is stands.holds.columns in
-    let wide : IsWide table.columns rows stands.granules folder =
-    subst (λ r. IsWide table.columns r stands.granules folder) (same_rows key_name (codes "v") rows fit) (wide_of table.columns (map (key_of (0 ∷ 1 ∷ [])) rows) stands.granules folder none there) in
-    let C : ℕ × Column → Type 0 = λ (column_index, column). HasColumn column column_index rows stands.granules folder in
+    let there : HasColumns (map (column_at table.columns) (0 ∷ 1 ∷ [])) (map (key_of (0 ∷ 1 ∷ [])) rows) granules folder =
+    subst (λ o. HasColumns (map (column_at table.columns) o) (map (key_of o) rows) granules folder) is stands.holds.columns in
+    let wide : IsWide table.columns rows granules folder =
+    subst (λ r. IsWide table.columns r granules folder) (same_rows key_name (codes "v") rows fit) (wide_of table.columns (map (key_of (0 ∷ 1 ∷ [])) rows) granules folder none there) in
+    let C : ℕ × Column → Type 0 = λ (column_index, column). HasColumn column column_index rows granules folder in
     record {
-      granules = stands.granules;
+      granules = granules;
       cut = wide.cut;
       ordered = stands.holds.part_rows.ordered;
       numbers =

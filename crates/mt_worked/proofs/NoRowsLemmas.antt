@@ -40,7 +40,7 @@ use Rattle.mt_worked.specs.NumberColumns.{HasNumbers}
 use Rattle.mt_worked.specs.WrongFolders.{with_stray_file, with_short_index, with_sizes_that_disagree, with_rows_out_of_order, with_mark_off_by_one, wrong_header}
 use Rattle.mt_worked.proofs.ItemLemmas.{number_fits, fitting_is_number, number_item}
 use Rattle.mt_worked.proofs.NumberLemmas.{items_length}
-use Rattle.mt_written.proofs.LookupLemmas.{same_name}
+use Rattle.mt_law_written.proofs.LookupLemmas.{same_name}
 use Rattle.mt_worked.proofs.HeldLemmas.{Held, held, HeldColumn, held_column, key_stream, key_name}
 
 -- ---- a stray file
@@ -64,7 +64,7 @@ names_with some others = (columns_name ∷ count_name ∷ index_name ∷ ((strea
 pub stray : (bytes : List ℕ) (rows : List Row) → StandsFor table (folder_of (with_stray_file bytes)) rows → ⊥
 stray bytes rows stands =
     let P : List (List ℕ) → List (List ℕ) → Type 0 = λ some others. Contains (names_with some others) (codes "k.bak") in
-    let known : P (stream_names (u64_column key_name)) (stream_names (u64_column (codes "v"))) = stands.known (codes "k.bak") refl in
+    let known : P (stream_names (u64_column key_name)) (stream_names (u64_column (codes "v"))) = stands.1.known (codes "k.bak") refl in
     let listed : P (key_name ∷ []) (codes "v" ∷ []) = subst (P (key_name ∷ [])) value_stream (subst (λ names. P names (stream_names (u64_column (codes "v")))) key_stream known) in
     not_among (names_with (key_name ∷ []) (codes "v" ∷ [])) (codes "k.bak") refl listed
 

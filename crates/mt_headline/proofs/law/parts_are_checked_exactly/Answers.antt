@@ -4,17 +4,7 @@ use Rattle.mt_headline.proofs.NameLemmas.{listed_below}
 use Rattle.mt_headline.proofs.law.parts_are_checked_exactly.Goals as goal
 
 pub returns-clause-accepted : goal.returns-clause-accepted
-returns-clause-accepted c table part files accepted bytes =
-    c.folders_are_checked_exactly.ensures.accepted table (folder_at part files) (listed_names (entries_below part files)) accepted bytes (listed_below part files)
-
-pub returns-clause-stands : goal.returns-clause-stands
-returns-clause-stands c table part files rows bytes =
-    c.folders_are_checked_exactly.ensures.stands table (folder_at part files) (listed_names (entries_below part files)) rows bytes (listed_below part files)
-
-pub returns-clause-no_fault : goal.returns-clause-no_fault
-returns-clause-no_fault c table part files rows fault bytes =
-    c.folders_are_checked_exactly.ensures.no_fault table (folder_at part files) (listed_names (entries_below part files)) rows fault bytes (listed_below part files)
+returns-clause-accepted c table part files accepted = c.folders_are_checked_exactly.ensures.accepted table (folder_at part files) (listed_names (entries_below part files)) accepted (listed_below part files)
 
 pub returns-clause-fault : goal.returns-clause-fault
-returns-clause-fault c table part files bytes =
-    c.folders_are_checked_exactly.ensures.fault table (folder_at part files) (listed_names (entries_below part files)) bytes (listed_below part files)
+returns-clause-fault c table part files = c.folders_are_checked_exactly.ensures.fault table (folder_at part files) (listed_names (entries_below part files)) (listed_below part files)

@@ -1,0 +1,100 @@
+-- What is read of a definition's folder, the folder holds.
+use Rattle.std.proofs.Common.{◌≡◌, ◌≢◌, ℕ, ◌≤◌, List, [], length, map, sym, ap, subst, ◌∙◌, arith}
+use Rattle.std.specs.Prelude.{All, IsTrue, Ok, Some}
+use Rattle.std.proofs.lemmas.List.{length-map}
+use Rattle.mt_types.specs.Profile.{is_profile}
+use Rattle.mt_table.specs.declared.column.Column.{Column}
+use Rattle.mt_table.specs.declared.definition.PartDef.{PartDef}
+use Rattle.mt_table.specs.declared.limits.TheConstants.{MAX_ROWS}
+use Rattle.mt_defs.specs.Folder.{Folder}
+use Rattle.mt_defs.specs.Metadata.{column_at, no_column}
+use Rattle.mt_defs.specs.Part.{HoldsRows, HasColumns}
+use Rattle.mt_defs.specs.Rows.{Row, RowFits, key_of}
+use Rattle.mt_definition.specs.declared.accepted.Accepted.{Accepted}
+use Rattle.mt_definition.specs.DefinitionReading.{definition_reading}
+use Rattle.mt_definition.specs.RowsReading.{places_in}
+use Rattle.mt_definition.proofs.DefinitionLaw.{part_rows}
+use Rattle.mt_files.proofs.LoopLemmas.{same_default}
+use Rattle.mt_files.proofs.PlaceLemmas.{order_is}
+use Rattle.mt_definition.proofs.StoredLemmas.{ordered_profile, rows_fit, rows_long}
+use Rattle.mt_law_checked.specs.Readable.{IsReadable}
+use Rattle.mt_law_checked.proofs.DataLemmas.{CanBeRead, CompactIsExact, WideIsExact, data_is_read}
+use Rattle.mt_law_checked.proofs.FileLemmas.{CountsAreRead, HasCount, HasOrder, OnlyLists, count_is_read, index_is_read, order_is_read}
+use Rattle.mt_law_checked.proofs.PassedLemmas.{Passed, ReadsStored, passed_of, stored_of}
+use Rattle.mt_law_checked.proofs.OrderLemmas.{rows_there}
+
+types_of : (definition : PartDef) → IsReadable definition → All (λ column. IsTrue (is_profile column.ty)) definition.columns
+types_of definition readable k d inside = ap (λ (column : Column). is_profile column.ty) (same_default definition.columns k d no_column inside) ∙ readable.listed.types k inside
+
+pub can_be_read : (definition : PartDef) (folder : Folder) (order : List ℕ) (count : ℕ) → IsReadable definition → HasOrder definition.columns order folder → 1 ≤ count → count ≤ MAX_ROWS
+    → CanBeRead folder count (map (column_at definition.columns) order)
+can_be_read definition folder order count readable has some few =
+    let is = order_is (length definition.columns) order has.lists.each_once in
+    let size = length-map order (column_at definition.columns) in
+    let long = is.1 in
+    let some_columns = readable.some in
+    let few_columns = readable.listed.few in
+    record {
+      types = ordered_profile definition.columns order is.0 is.1 (types_of definition readable);
+      some = omega (arith, size, long, some_columns);
+      few = omega (arith, size, long, few_columns);
+      some_rows = some;
+      few_rows = few;
+    }
+
+module _ (only : OnlyLists) (counted : CountsAreRead) (wide_is : WideIsExact) (compact_is : CompactIsExact) (definition : PartDef) (folder : Folder) (readable : IsReadable definition) where
+  -- what the files say of the accepted rows
+  record Stored (accepted : Accepted) : Type 0 where
+    order : List ℕ
+    file_rows : List Row
+    orders : HasOrder definition.columns order folder
+    counts : HasCount (length definition.columns) (length accepted.rows) folder
+    fit : All (RowFits (map (column_at definition.columns) order)) file_rows
+    columns : HasColumns (map (column_at definition.columns) order) file_rows accepted.granules folder
+    placed : accepted.rows ≡ map (key_of (places_in order)) file_rows
+
+  stored_holds : (accepted : Accepted) → ReadsStored definition folder accepted → Stored accepted
+  stored_holds accepted read =
+      let orders = order_is_read definition folder read.order only read.orders in
+      let counts = count_is_read definition folder read.count counted read.counts in
+      let can = can_be_read definition folder read.order read.count readable orders counts.counts.some counts.counts.few_rows in
+      let has = data_is_read wide_is compact_is folder read.count (map (column_at definition.columns) read.order) read.rows read.granules can read.reads in
+      let rows_are : accepted.rows ≡ map (key_of (places_in read.order)) read.rows = ap (λ (a : Accepted). a.rows) read.is in
+      let granules_are : accepted.granules ≡ read.granules = ap (λ (a : Accepted). a.granules) read.is in
+      let many : length accepted.rows ≡ read.count = ap (λ (rows : List Row). length rows) rows_are ∙ length-map read.rows (key_of (places_in read.order)) ∙ has.many in
+      record {
+        order = read.order;
+        file_rows = read.rows;
+        orders = orders;
+        counts = subst (λ n. HasCount (length definition.columns) n folder) (sym many) counts;
+        fit = has.fit;
+        columns = subst (λ (granules : List ℕ). HasColumns (map (column_at definition.columns) read.order) read.rows granules folder) (sym granules_are) has.layout;
+        placed = rows_are;
+      }
+
+  some_rows : (accepted : Accepted) → 1 ≤ length accepted.rows → accepted.rows ≢ []
+  some_rows accepted some none = let size : length accepted.rows ≡ 0 = ap (λ (rows : List Row). length rows) none in omega (arith, some, size)
+
+  -- the folder holds the rows that are accepted
+  held_of : (accepted : Accepted) → Passed definition folder accepted → Stored accepted → HoldsRows definition folder accepted.rows accepted.granules
+  held_of accepted passed stored =
+      let order = stored.order in
+      let is = order_is (length definition.columns) order stored.orders.lists.each_once in
+      let fit : All (RowFits definition.columns) accepted.rows = subst (All (RowFits definition.columns)) (sym stored.placed) (rows_fit definition.columns order stored.file_rows is.0 is.1 stored.fit) in
+      let back : stored.file_rows ≡ map (key_of order) accepted.rows = rows_there order stored.file_rows is.0 (rows_long definition.columns order stored.file_rows stored.fit) ∙ ap (map (key_of order)) (sym stored.placed) in
+      record {
+        part_rows = part_rows definition folder accepted (some_rows accepted stored.counts.counts.some) stored.counts.counts.few_rows fit passed.cells passed.rises;
+        order = order;
+        metadata = record {
+          each_once = stored.orders.lists.each_once;
+          lists_columns = stored.orders.there ∙ ap Some stored.orders.lists.listed;
+          counts_rows = stored.counts.there ∙ ap Some stored.counts.counts.decimal;
+        };
+        columns = subst (λ (rows : List Row). HasColumns (map (column_at definition.columns) order) rows accepted.granules folder) back stored.columns;
+        index = index_is_read definition folder accepted passed.index;
+      }
+
+  pub read_rows_are_held : (accepted : Accepted) → definition_reading definition folder ≡ Ok accepted → HoldsRows definition folder accepted.rows accepted.granules
+  read_rows_are_held accepted e =
+      let passed = passed_of definition folder accepted e in
+      held_of accepted passed (stored_holds accepted (stored_of definition folder accepted passed.stored))

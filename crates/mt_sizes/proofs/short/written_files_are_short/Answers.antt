@@ -1,8 +1,0 @@
-use Rattle.mt_sizes.proofs.ShortFiles.{compact_short, wide_short}
-use Rattle.mt_sizes.proofs.short.written_files_are_short.Goals as goal
-
-pub returns-clause-wide : goal.returns-clause-wide
-returns-clause-wide c = wide_short
-
-pub returns-clause-compact : goal.returns-clause-compact
-returns-clause-compact c = compact_short

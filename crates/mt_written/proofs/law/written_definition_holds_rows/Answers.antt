@@ -1,5 +1,0 @@
-use Rattle.mt_written.proofs.StandLemmas.{definition_holds}
-use Rattle.mt_written.proofs.law.written_definition_holds_rows.Goals as goal
-
-pub returns : goal.returns
-returns c = definition_holds

@@ -1,5 +1,0 @@
-use Rattle.mt_written.proofs.StandLemmas.{written_stands}
-use Rattle.mt_written.proofs.law.written_folder_stands.Goals as goal
-
-pub returns : goal.returns
-returns c = written_stands
