@@ -40,10 +40,11 @@ printing_printed steps text (Ok done) left written written' files mid a b c b' c
       inl gives,
       (
         record {
-          answer = for_all_known files left (λ f i. Answers (refusal_of plan f i) Done) (λ f i inside. refl);
+          answer = for_all_known files (Some []) (λ f i. Answers (refusal_of plan f i) Done) (λ f i inside. refl);
           early = for_all_files files (λ f. IsSome (plan.early f) → Answers (plan.early f) Done) (λ f some. never_early some);
           words = λ e. cc;
-          left = (files_stay files mid left same, for_all_known files left (λ f i. written' ≡ append_known written (plan.text f i)) (λ f i. printed), λ e. cc);
+          left = (files_stay files mid (Some []) same, for_all_known files (Some []) (λ f i. written' ≡ append_known written (plan.text f i)) (λ f i. printed), λ e. cc);
+          quiet = λ e. cc;
           unread = λ _. refl;
           taken = for_all_files files (λ f. IsSome (plan.early f) → left ≡ left) (λ f some. refl);
         },
@@ -56,10 +57,11 @@ printing_printed steps text (Err SinkFault) left written written' files mid a b 
       inl gives,
       (
         record {
-          answer = for_all_known files left (λ f i. Answers (refusal_of plan f i) SinkFault) (λ f i. outside_answers (refusal_of plan f i) SinkFault refl);
+          answer = for_all_known files (Some []) (λ f i. Answers (refusal_of plan f i) SinkFault) (λ f i. outside_answers (refusal_of plan f i) SinkFault refl);
           early = for_all_files files (λ f. IsSome (plan.early f) → Answers (plan.early f) SinkFault) (λ f some. never_early some);
           words = λ e. cc;
-          left = (same, for_all_known files left (λ f i. GrowsByPrefix (plan.text f i) written written') (λ f i. printed));
+          left = (same, for_all_known files (Some []) (λ f i. GrowsByPrefix (plan.text f i) written written') (λ f i. printed));
+          quiet = λ e. cc;
           unread = λ _. refl;
           taken = for_all_files files (λ f. IsSome (plan.early f) → left ≡ left) (λ f some. refl);
         },
@@ -72,10 +74,11 @@ printing_printed steps text (Err NoMemory) left written written' files mid a b c
       inl gives,
       (
         record {
-          answer = for_all_known files left (λ f i. Answers (refusal_of plan f i) NoMemory) (λ f i. outside_answers (refusal_of plan f i) NoMemory refl);
+          answer = for_all_known files (Some []) (λ f i. Answers (refusal_of plan f i) NoMemory) (λ f i. outside_answers (refusal_of plan f i) NoMemory refl);
           early = for_all_files files (λ f. IsSome (plan.early f) → Answers (plan.early f) NoMemory) (λ f some. never_early some);
           words = λ e. cc;
-          left = (inr same, for_all_known files left (λ f i. GrowsByPrefix (plan.text f i) written written') (λ f i. printed));
+          left = (inr same, for_all_known files (Some []) (λ f i. GrowsByPrefix (plan.text f i) written written') (λ f i. printed));
+          quiet = λ e. cc;
           unread = λ _. refl;
           taken = for_all_files files (λ f. IsSome (plan.early f) → left ≡ left) (λ f some. refl);
         },
@@ -129,10 +132,11 @@ publishing_stored part steps folder (Ok done) left written files mid new a b c c
       inl gives,
       (
         record {
-          answer = for_all_known files left (λ f i. Answers (refusal_of plan f i) Done) (λ f i inside. refl);
+          answer = for_all_known files (Some []) (λ f i. Answers (refusal_of plan f i) Done) (λ f i inside. refl);
           early = for_all_files files (λ f. IsSome (plan.early f) → Answers (plan.early f) Done) (λ f some. never_early some);
           words = λ e. cc;
-          left = (files_gained part folder files mid left new same stored, for_all_known files left (λ f i. written ≡ append_known written (plan.text f i)) (λ f i. nothing_printed written), λ e. cc);
+          left = (files_gained part folder files mid (Some []) new same stored, for_all_known files (Some []) (λ f i. written ≡ append_known written (plan.text f i)) (λ f i. nothing_printed written), λ e. cc);
+          quiet = λ _. refl;
           unread = λ _. refl;
           taken = for_all_files files (λ f. IsSome (plan.early f) → left ≡ left) (λ f some. refl);
         },
@@ -145,10 +149,11 @@ publishing_stored part steps folder (Err ShelfFault) left written files mid new 
       inl gives,
       (
         record {
-          answer = for_all_known files left (λ f i. Answers (refusal_of plan f i) ShelfFault) (λ f i. outside_answers (refusal_of plan f i) ShelfFault refl);
+          answer = for_all_known files (Some []) (λ f i. Answers (refusal_of plan f i) ShelfFault) (λ f i. outside_answers (refusal_of plan f i) ShelfFault refl);
           early = for_all_files files (λ f. IsSome (plan.early f) → Answers (plan.early f) ShelfFault) (λ f some. never_early some);
           words = λ e. cc;
           left = (after stored, refl);
+          quiet = λ _. refl;
           unread = λ _. refl;
           taken = for_all_files files (λ f. IsSome (plan.early f) → left ≡ left) (λ f some. refl);
         },
@@ -156,8 +161,8 @@ publishing_stored part steps folder (Err ShelfFault) left written files mid new 
       ),
     )
   where
-    after : (new ≡ option_map (gained_files part (map pair_of folder)) mid) ⊎ (new ≡ mid) → IfSome files (λ f. IfSome left (λ input. new ≡ Some ((publishing_plan part (Ok folder)).files f input))) ⊎ (new ≡ files)
-    after (inl is) = inl (files_gained part folder files mid left new same is)
+    after : (new ≡ option_map (gained_files part (map pair_of folder)) mid) ⊎ (new ≡ mid) → IfSome files (λ f. IfSome (let o : Option (List ℕ) = Some [] in o) (λ input. new ≡ Some ((publishing_plan part (Ok folder)).files f input))) ⊎ (new ≡ files)
+    after (inl is) = inl (files_gained part folder files mid (Some []) new same is)
     after (inr is) = inr (is ∙ same)
 publishing_stored part steps folder (Err NoMemory) left written files mid new a b c c' c'' gives same kept stored cause =
     let plan = publishing_plan part (Ok folder) in (
@@ -165,10 +170,11 @@ publishing_stored part steps folder (Err NoMemory) left written files mid new a 
       inl gives,
       (
         record {
-          answer = for_all_known files left (λ f i. Answers (refusal_of plan f i) NoMemory) (λ f i. outside_answers (refusal_of plan f i) NoMemory refl);
+          answer = for_all_known files (Some []) (λ f i. Answers (refusal_of plan f i) NoMemory) (λ f i. outside_answers (refusal_of plan f i) NoMemory refl);
           early = for_all_files files (λ f. IsSome (plan.early f) → Answers (plan.early f) NoMemory) (λ f some. never_early some);
           words = λ e. cc;
           left = (inr (stored ∙ same), printed_nothing plan (world left written files a b c) (world left written new a b c'') refl);
+          quiet = λ _. refl;
           unread = λ _. refl;
           taken = for_all_files files (λ f. IsSome (plan.early f) → left ≡ left) (λ f some. refl);
         },

@@ -5,7 +5,7 @@ use Rattle.mt_shelf.specs.declared.file.FileBytes.{FileBytes}
 use Rattle.mt_shelf.specs.Held.{HasName}
 use Rattle.mt_defs.specs.Rows.{Row}
 use Rattle.mt_defs.specs.Writer.{written_folder}
-use Rattle.mt_written.proofs.PathLemmas.{written_paths}
+use Rattle.mt_law_written.proofs.PathLemmas.{written_paths}
 
 -- the writer's files have names
 pub built_names : (table : Table) (rows : List Row) (files : List FileBytes) → files ≡ written_folder table rows → All HasName files

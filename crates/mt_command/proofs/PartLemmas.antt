@@ -8,7 +8,7 @@ use Rattle.mt_shelf.specs.declared.fault.Fault.{Fault}
 use Rattle.mt_shelf.specs.declared.file.Entry.{Entry}
 use Rattle.mt_shelf.specs.Files.{Files, entries_below}
 use Rattle.mt_defs.specs.Rows.{Row, RowFits}
-use Rattle.mt_check.specs.declared.accepted.Accepted.{Accepted}
+use Rattle.mt_definition.specs.declared.accepted.Accepted.{Accepted}
 use Rattle.mt_check.specs.FolderChecks.{folder_checks}
 use Rattle.mt_command.specs.Outcomes.{Returns, refused_by}
 use Rattle.mt_command.specs.Parts.{folder_at, listed_names, listing_in, part_checks, part_steps, table_part_steps}
@@ -24,12 +24,12 @@ long_rows columns rows fit = All-weaker (RowFits columns) (λ row. length row �
 
 -- what the checks of the listed files answer, where they are the part's
 abbrev Listed : Table → List ℕ → List Entry → Result Accepted Fault → Option Files → Type 0
-Listed table part listing answer files = IfSome files (λ f. folder_checks table (folder_at part f) (listed_names listing) answer)
+Listed table part listing answer files = IfSome files (λ f. folder_checks table (folder_at part f) (listed_names listing) ≡ answer)
 
 pub checks_listed : (table : Table) (part : List ℕ) (listing : List Entry) (answer : Result Accepted Fault) (files : Option Files) → IfSome files (λ f. listing ≡ entries_below part f) → Listed table part listing answer files
     → IfSome files (λ f. part_checks table part f answer)
 checks_listed table part listing answer None known checks = tt
-checks_listed table part listing answer (Some f) known checks = let P : List Entry → Type 0 = λ l. folder_checks table (folder_at part f) (listed_names l) answer in subst P known checks
+checks_listed table part listing answer (Some f) known checks = let P : List Entry → Type 0 = λ l. folder_checks table (folder_at part f) (listed_names l) ≡ answer in subst P known checks
 
 -- the first fault is the refusal, unless there is no memory for the part's name
 pub fault_listed : (table : Table) (part : List ℕ) (listing : List Entry) (fault : Fault) (status : Status) (files : Option Files) → IfSome files (λ f. listing ≡ entries_below part f) → Listed table part listing (Err fault) files

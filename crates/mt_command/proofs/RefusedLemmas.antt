@@ -8,7 +8,7 @@ use Rattle.mt_shelf.specs.Files.{Files}
 use Rattle.mt_shelf.specs.Streams.{GrowsByPrefix}
 use Rattle.mt_command.specs.Outcomes.{Outcomes, Returns}
 use Rattle.mt_command.specs.Commands.{IsOutcome, PrintsTextOf, PublishesFolderOf, printing_plan, publishing_plan}
-use Rattle.mt_command.specs.Plans.{Plan, World, Leaves, CausedBy, PrintsPrefix, Answers, world, refusal_of}
+use Rattle.mt_command.specs.Plans.{Plan, World, Leaves, CausedBy, PrintsPrefix, Answers, input_of, world, refusal_of}
 use Rattle.mt_command.specs.Status.{is_outside}
 use Rattle.mt_command.specs.Steps.{Counts, StepCausedBy, of_shelf}
 use Rattle.mt_command.specs.declared.status.Status.{Status}
@@ -22,19 +22,14 @@ grew_by_nothing known now text same = (0, same ∙ sym (nothing known))
     nothing None = refl
     nothing (Some xs) = ap Some (append-nil xs)
 
-pub printed_nothing : (plan : Plan) (old new : World) → new.written ≡ old.written → PrintsPrefix plan old new
-printed_nothing plan old new same = both old.files old.left
-  where
-    both : (files : _) (left : _) → IfSome files (λ f. IfSome left (λ input. GrowsByPrefix (plan.text f input) old.written new.written))
-    both None left = tt
-    both (Some f) None = tt
-    both (Some f) (Some input) = grew_by_nothing old.written new.written (plan.text f input) same
-
 -- what holds whatever the files and the input are
 pub for_all_known : (files : Option Files) (left : Option (List ℕ)) (P : Files → List ℕ → Type 0) → ((f : Files) (i : List ℕ) → P f i) → IfSome files (λ f. IfSome left (P f))
 for_all_known None left P holds = tt
 for_all_known (Some f) None P holds = tt
 for_all_known (Some f) (Some i) P holds = holds f i
+
+pub printed_nothing : (plan : Plan) (old new : World) → new.written ≡ old.written → PrintsPrefix plan old new
+printed_nothing plan old new same = for_all_known old.files (input_of plan old) (λ f i. GrowsByPrefix (plan.text f i) old.written new.written) (λ f i. grew_by_nothing old.written new.written (plan.text f i) same)
 
 pub for_all_files : (files : Option Files) (P : Files → Type 0) → ((f : Files) → P f) → IfSome files P
 for_all_files None P holds = tt
@@ -114,10 +109,11 @@ printing_refused steps status left written files mid a b c c' refuses same cause
       refused_outcome steps status (is_outside status) left written files mid a b c c' refl refuses same,
       (
         record {
-          answer = for_all_known files left (λ f i. Answers (refusal_of plan f i) status) (λ f i. answers_itself status);
+          answer = for_all_known files (Some []) (λ f i. Answers (refusal_of plan f i) status) (λ f i. answers_itself status);
           early = for_all_files files (λ f. IsSome (plan.early f) → Answers (plan.early f) status) (λ f some. answers_itself status);
           words = stands.1;
           left = stands.0;
+          quiet = λ _. refl;
           unread = λ _. refl;
           taken = for_all_files files (λ f. IsSome (plan.early f) → left ≡ left) (λ f some. refl);
         },
@@ -136,10 +132,11 @@ publishing_refused part steps status left written files mid a b c c' refuses sam
       refused_outcome steps status (is_outside status) left written files mid a b c c' refl refuses same,
       (
         record {
-          answer = for_all_known files left (λ f i. Answers (refusal_of plan f i) status) (λ f i. answers_itself status);
+          answer = for_all_known files (Some []) (λ f i. Answers (refusal_of plan f i) status) (λ f i. answers_itself status);
           early = for_all_files files (λ f. IsSome (plan.early f) → Answers (plan.early f) status) (λ f some. answers_itself status);
           words = stands.1;
           left = stands.0;
+          quiet = λ _. refl;
           unread = λ _. refl;
           taken = for_all_files files (λ f. IsSome (plan.early f) → left ≡ left) (λ f some. refl);
         },

@@ -4,7 +4,7 @@ use Rattle.mt_shelf.specs.declared.file.FileBytes.{FileBytes}
 use Rattle.mt_shelf.specs.Files.{Files}
 use Rattle.mt_command.specs.Commands.{IsOutcome, PrintsTextOf, PublishesFolderOf, printing_plan, publishing_plan}
 use Rattle.mt_command.specs.Outcomes.{Outcomes}
-use Rattle.mt_command.specs.Plans.{Plan, World, Leaves, CausedBy, Performs, Answers, refusal_of}
+use Rattle.mt_command.specs.Plans.{Plan, World, Leaves, CausedBy, Performs, Answers, input_of, refusal_of}
 use Rattle.mt_command.specs.Status.{is_outside}
 use Rattle.mt_command.specs.declared.status.Status.{Status}
 use Rattle.mt_command.specs.declared.status.Status.TheVariants.{Done, AtFault, BadWords, NoTable, NoPart, BadTable, BadQuery, Exists, NoRows, BadRows, ManyPartitions, MixedPartitions, TooMuch, SourceFault, ShelfFault, SinkFault, NoMemory}
@@ -57,10 +57,11 @@ performed_memory : (plan : Option Plan) (old new : World) (status : Status) → 
 performed_memory None old new status refused (same, words) = (same, inr refl)
 performed_memory (Some plan) old new status refused (meets, cause) = (
   record {
-    answer = answer_of_memory old.files old.left (refusal_of plan);
+    answer = answer_of_memory old.files (input_of plan old) (refusal_of plan);
     early = early_memory old.files plan.early;
     words = no_words;
     left = left_of_memory plan old new status refused cause meets.left;
+    quiet = meets.quiet;
     unread = meets.unread;
     taken = meets.taken;
   },

@@ -1,7 +1,6 @@
 -- Steps whose outcome a relation gives: a value, or the first refusal.
 use Rattle.std.specs.Prelude.{◌≡◌, ◌⊎◌, false, Result, Ok, Err}
 use Rattle.mt_shelf.specs.declared.fault.Fault.{Fault}
-use Rattle.mt_check.specs.Checks.{Checks}
 use Rattle.mt_command.specs.Status.{is_outside}
 use Rattle.mt_command.specs.declared.status.Status.{Status}
 
@@ -19,7 +18,7 @@ abbrev pub ◌>>=◌ : {A B : Type 0} → Outcomes A → (A → Outcomes B) → 
 (first >>= next) outcome = ((x : _) × first (Ok x) × next x outcome) ⊎ ((status : Status) × first (Err status) × (outcome ≡ Err status))
 
 -- what checks answer, with their first fault as a refusal
-abbrev pub refused_by : {A : Type 0} → (Fault → Status) → Checks A → Outcomes A
+abbrev pub refused_by : {A : Type 0} → (Fault → Status) → (Result A Fault → Type 0) → Outcomes A
 refused_by status_for checks (Ok x) = checks (Ok x)
 refused_by status_for checks (Err status) = (fault : Fault) × checks (Err fault) × (status ≡ status_for fault)
 

@@ -1,14 +1,14 @@
 -- A part that a command checks, and what it stands for: docs/CLI.md, "check" and "rows".
-use Rattle.std.specs.Prelude.{ℕ, nat_lt, List, map, Option, None, Some, if◌then◌else◌, Result, Ok, Err}
+use Rattle.std.specs.Prelude.{◌≡◌, ℕ, nat_lt, List, map, Option, None, Some, if◌then◌else◌, Result, Ok, Err}
 use Rattle.std.specs.List.{sum_by}
 use Rattle.std.specs.FinMap.{get}
 use Rattle.mt_table.specs.declared.definition.Table.{Table}
+use Rattle.mt_shelf.specs.declared.fault.Fault.{Fault}
 use Rattle.mt_shelf.specs.declared.file.Entry.{Entry}
 use Rattle.mt_shelf.specs.Paths.{joined_path}
 use Rattle.mt_shelf.specs.Files.{Files, entries_below, listing_of}
 use Rattle.mt_defs.specs.Folder.{Folder}
-use Rattle.mt_check.specs.declared.accepted.Accepted.{Accepted}
-use Rattle.mt_check.specs.Checks.{Checks}
+use Rattle.mt_definition.specs.declared.accepted.Accepted.{Accepted}
 use Rattle.mt_check.specs.FolderChecks.{folder_checks}
 use Rattle.mt_command.specs.Outcomes.{Outcomes, ◌>>=◌, gives, refused_by}
 use Rattle.mt_command.specs.Tables.{table_in}
@@ -47,8 +47,8 @@ listing_in part files = part_files part (listing_of (entries_below part files))
 -- ---- what it stands for
 
 -- what the checks of a part's folder answer: the rows and granules for which it stands, or the first fault
-abbrev pub part_checks : Table → List ℕ → Files → Checks Accepted
-part_checks table part files = folder_checks table (folder_at part files) (listed_names (entries_below part files))
+abbrev pub part_checks : Table → List ℕ → Files → Result Accepted Fault → Type 0
+part_checks table part files answer = folder_checks table (folder_at part files) (listed_names (entries_below part files)) ≡ answer
 
 -- what a part stands for: it is there, within the limit, and has no fault
 abbrev pub part_steps : Table → List ℕ → Files → Outcomes Accepted

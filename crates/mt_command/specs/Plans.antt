@@ -1,5 +1,5 @@
 -- What a command is to do, as functions of the files and the input, and what it means to have done it.
-use Rattle.std.specs.Prelude.{◌≡◌, ◌⊎◌, ℕ, Bool, true, false, List, Option, None, Some, IfSome, IsSome, Result, Ok, Err}
+use Rattle.std.specs.Prelude.{◌≡◌, ◌⊎◌, ℕ, Bool, true, false, List, [], Option, None, Some, IfSome, IsSome, Result, Ok, Err, if◌then◌else◌}
 use Rattle.std.specs.Io.KnownBytes.{append_known, IsAtEnd}
 use Rattle.mt_shelf.specs.Causes.{Rose}
 use Rattle.mt_shelf.specs.Files.{Files}
@@ -49,17 +49,25 @@ pub record World : Type 0 where
 abbrev pub world : Option (List ℕ) → Option (List ℕ) → Option Files → ℕ → ℕ → ℕ → World
 world left written files source output shelf = record { left = left; written = written; files = files; source_faults = source; output_faults = output; shelf_faults = shelf }
 
+-- the input that a plan reads, where it is known; of a plan that reads none, the empty text
+abbrev pub input_of : Plan → World → Option (List ℕ)
+input_of plan old = if plan.reads then old.left else Some []
+
+-- it holds of the files and of that input, where they are known
+abbrev pub WhereKnown : Plan → World → (Files → List ℕ → Type 0) → Type 0
+WhereKnown plan old P = IfSome old.files (λ files. IfSome (input_of plan old) (P files))
+
 -- the files are as the plan has them
 abbrev pub Gains : Plan → World → World → Type 0
-Gains plan old new = IfSome old.files (λ files. IfSome old.left (λ input. new.files ≡ Some (plan.files files input)))
+Gains plan old new = WhereKnown plan old (λ files input. new.files ≡ Some (plan.files files input))
 
 -- the plan's text was printed
 abbrev pub Prints : Plan → World → World → Type 0
-Prints plan old new = IfSome old.files (λ files. IfSome old.left (λ input. new.written ≡ append_known old.written (plan.text files input)))
+Prints plan old new = WhereKnown plan old (λ files input. new.written ≡ append_known old.written (plan.text files input))
 
 -- a prefix of the plan's text was printed
 abbrev pub PrintsPrefix : Plan → World → World → Type 0
-PrintsPrefix plan old new = IfSome old.files (λ files. IfSome old.left (λ input. GrowsByPrefix (plan.text files input) old.written new.written))
+PrintsPrefix plan old new = WhereKnown plan old (λ files input. GrowsByPrefix (plan.text files input) old.written new.written)
 
 -- the files are as before, and nothing was printed
 abbrev pub Unchanged : World → World → Type 0
@@ -80,13 +88,15 @@ Answers refusal status = is_outside status ≡ false → status ≡ status_of re
 -- a command is done, refused or ended from outside, as its plan has it
 pub record Meets (plan : Plan) (old new : World) (status : Status) : Type 0 where
   -- each refusal comes exactly where it is the first, and Done where there is none
-  pub answer : IfSome old.files (λ files. IfSome old.left (λ input. Answers (refusal_of plan files input) status))
+  pub answer : WhereKnown plan old (λ files input. Answers (refusal_of plan files input) status)
   -- a refusal before the input is read needs no known input
   pub early : IfSome old.files (λ files. IsSome (plan.early files) → Answers (plan.early files) status)
   -- the words are a command's
   pub words : ¬ (status ≡ BadWords)
   -- what stands afterwards
   pub left : Leaves plan old new status
+  -- a command that prints no text leaves the output
+  pub quiet : plan.prints ≡ false → new.written ≡ old.written
   -- only a command that reads rows takes anything of the input
   pub unread : plan.reads ≡ false → new.left ≡ old.left
   -- and it does so after its early refusals

@@ -2,7 +2,7 @@
 use Rattle.std.specs.Prelude.{ℕ, nat_lt, List, length, Option, None, Some, if◌then◌else◌, Result, Ok, Err}
 use Rattle.std.specs.FinMap.{get}
 use Rattle.mt_table.specs.declared.definition.Table.{Table}
-use Rattle.mt_table.specs.TextReading.{table_reading}
+use Rattle.mt_table_text.specs.TextReading.{table_reading}
 use Rattle.mt_shelf.specs.Files.{Files}
 use Rattle.mt_command.specs.Status.{◌>>=◌, refused_by}
 use Rattle.mt_command.specs.declared.limits.TheConstants.{MAX_TABLE_TEXT}

@@ -6,12 +6,12 @@ ghost use Rattle.mt_command.specs.Plans.{answer_of};
 
 use mt_query::QueryWhy;
 use mt_shelf::{CallError, Fault};
-use mt_table::TableWhy;
+use mt_table_text::TableWhy;
 use mt_tsv::{MAX_CELLS, MAX_ROWS, RowError, RowWhy};
 use mt_types::List;
 
 /// A quantity that has a limit.
-#[derive(Clone, Copy, Debug, PartialEq, Eq)]
+#[derive(Clone, Copy)]
 pub enum What {
     /// The bytes of the table's text.
     Table,
@@ -26,7 +26,7 @@ pub enum What {
 }
 
 /// What a run returns.
-#[derive(Debug, Drop)]
+#[derive(Drop)]
 pub enum Status {
     /// All that the command says was done.
     Done,

@@ -10,7 +10,8 @@ ghost use Rattle.mt_command.specs.Tables.{table_in, table_of, table_text};
 use crate::limits::MAX_TABLE_TEXT;
 use crate::status::{Status, What, status_of_shelf};
 use mt_shelf::{Shelf, read_file};
-use mt_table::{Table, TableError};
+use mt_table::Table;
+use mt_table_text::TableError;
 use mt_types::List;
 use std::alloc::Global;
 
@@ -45,7 +46,7 @@ fn table_of(alloc: Global, text: &[u8]) -> Result<Table, Status>
     ensures gives { Gives result (table_of text.now) }
     ensures cause { StepCausedBy result of_nothing of_nothing }
 {
-    match Table::read(alloc, text) {
+    match mt_table_text::read_table(alloc, text) {
         Ok(table) => Ok(table),
         Err(TableError::Bad(why)) => Err(Status::BadTable(why)),
         Err(TableError::NoMemory) => Err(Status::NoMemory),

@@ -5,7 +5,7 @@ use Rattle.mt_shelf.specs.declared.file.FileBytes.{FileBytes}
 use Rattle.mt_shelf.specs.Files.{Files}
 use Rattle.mt_defs.specs.Rows.{Row}
 use Rattle.mt_defs.specs.Sorting.{merged_rows}
-use Rattle.mt_check.specs.declared.accepted.Accepted.{Accepted}
+use Rattle.mt_definition.specs.declared.accepted.Accepted.{Accepted}
 use Rattle.mt_command.specs.Outcomes.{Returns}
 use Rattle.mt_command.specs.Parts.{part_steps}
 use Rattle.mt_command.specs.Status.{Gives, is_outside}

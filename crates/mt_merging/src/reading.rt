@@ -13,8 +13,8 @@ ghost use Rattle.mt_merging.specs.Rooms.{LeaveRoom};
 
 use crate::inputs::add_input;
 use crate::room::{Room, whole_room};
-use mt_check::Accepted;
 use mt_command::{Status, accept_part};
+use mt_definition::Accepted;
 use mt_shelf::Shelf;
 use mt_table::Table;
 use mt_types::{List, Row};

@@ -11,7 +11,7 @@ use mt_table::{MAX_CELLS, MAX_ROWS, Table};
 use mt_types::Row;
 
 /// What rows leave of the limits on a part.
-#[derive(Clone, Copy, Debug)]
+#[derive(Clone, Copy)]
 pub struct Room {
     /// Rows.
     pub rows: usize,

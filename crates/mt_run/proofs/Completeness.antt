@@ -3,7 +3,7 @@ use Rattle.std.proofs.Common.{◌≡◌, ◌⊎◌, inl, inr, false, ℕ, List, 
 use Rattle.mt_shelf.specs.Causes.{Rose}
 use Rattle.mt_shelf.specs.Files.{Files}
 use Rattle.mt_command.specs.Status.{is_outside}
-use Rattle.mt_command.specs.Plans.{Plan, World, Performs, CausedBy, Answers, refusal_of, status_of}
+use Rattle.mt_command.specs.Plans.{Plan, World, Performs, CausedBy, Answers, input_of, refusal_of, status_of}
 use Rattle.mt_command.specs.declared.status.Status.{Status}
 use Rattle.mt_command.specs.declared.status.Status.TheVariants.{Done, AtFault, BadWords, NoTable, NoPart, BadTable, BadQuery, Exists, NoRows, BadRows, ManyPartitions, MixedPartitions, TooMuch, SourceFault, ShelfFault, SinkFault, NoMemory}
 
@@ -20,12 +20,12 @@ inside : (plan : Plan) (old new : World) (status : Status) (refused : Option Sta
 inside plan old new status refused none answers not_outside = answers not_outside ∙ ap status_of none
 
 pub done_or_no_memory : (plan : Plan) (old new : World) (status : Status) (files : Files) (input : List ℕ)
-    → old.files ≡ Some files → old.left ≡ Some input → refusal_of plan files input ≡ None → Unfailed old new
+    → old.files ≡ Some files → input_of plan old ≡ Some input → refusal_of plan files input ≡ None → Unfailed old new
     → Performs (Some plan) old new status → (status ≡ Done) ⊎ (status ≡ NoMemory)
-done_or_no_memory plan old new status files input known left none unfailed (meets, cause) = by_status status cause answers
+done_or_no_memory plan old new status files input known read none unfailed (meets, cause) = by_status status cause answers
   where
     answers : Answers (refusal_of plan files input) status
-    answers = at_some (λ i. Answers (refusal_of plan files i) status) old.left input left (at_some (λ f. IfSome old.left (λ i. Answers (refusal_of plan f i) status)) old.files files known meets.answer)
+    answers = at_some (λ i. Answers (refusal_of plan files i) status) (input_of plan old) input read (at_some (λ f. IfSome (input_of plan old) (λ i. Answers (refusal_of plan f i) status)) old.files files known meets.answer)
 
     done : (s : Status) → Answers (refusal_of plan files input) s → is_outside s ≡ false → (s ≡ Done) ⊎ (s ≡ NoMemory)
     done s answers not_outside = inl (inside plan old new s (refusal_of plan files input) none answers not_outside)

@@ -2,7 +2,7 @@
 use Rattle.std.proofs.Common.{◌≡◌, inl, inr, ℕ, List, Option, Some, None, IfSome, Result, Ok, Err, refl, ap}
 use Rattle.mt_table.specs.declared.definition.Table.{Table}
 use Rattle.mt_shelf.specs.Files.{Files}
-use Rattle.mt_check.specs.declared.accepted.Accepted.{Accepted}
+use Rattle.mt_definition.specs.declared.accepted.Accepted.{Accepted}
 use Rattle.mt_command.specs.Outcomes.{Outcomes, Returns, ◌>>=◌, gives}
 use Rattle.mt_command.specs.Parts.{table_part_steps}
 use Rattle.mt_command.specs.declared.status.Status.{Status}

@@ -29,9 +29,14 @@ was_done : (status reported : Status) → IsReported status reported → reporte
 was_done status reported (inl same) done = sym same ∙ done
 was_done status reported (inr (memory, other)) done = let never : (let s : Status = NoMemory in s) ≡ Done = sym memory ∙ done in cc
 
+not_of_shelf : (status reported : Status) → IsReported status reported → ¬ (status ≡ ShelfFault) → ¬ (reported ≡ ShelfFault)
+not_of_shelf status reported (inl same) never is = never (sym same ∙ is)
+not_of_shelf status reported (inr (memory, other)) never is = let no : (let s : Status = NoMemory in s) ≡ ShelfFault = sym memory ∙ is in cc
+
 trial_reported : (number rows : ℕ) (old new : World) (status reported : Status) → IsReported status reported → PrintsTrial number rows old new status → PrintsTrial number rows old new reported
 trial_reported number rows old new status reported is runs = record {
   unrefused = done_or_outside status reported is runs.unrefused;
+  no_shelf = (not_of_shelf status reported is runs.no_shelf.0, runs.no_shelf.1);
   printed = λ done. runs.printed (was_done status reported is done);
   performed = prints_reported (λ files. gives (Ok (trial_text number rows))) old new status reported is runs.performed;
 }

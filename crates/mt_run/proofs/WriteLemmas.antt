@@ -85,6 +85,7 @@ folder_stored path part table folder (Ok done) left left' written files mid new 
   early = if_some (λ f is some. not_refused (table_for path part f) table is some) files known;
   words = λ e. cc;
   left = (files_gained path part table folder files left new known gives (stored ∙ ap (option_map (gained_files part (map pair_of folder))) same), text_printed path part files left written, λ _. ended);
+  quiet = λ _. refl;
   unread = λ none. cc;
   taken = if_some (λ f is some. not_refused (table_for path part f) table is some) files known;
 }
@@ -93,6 +94,7 @@ folder_stored path part table folder (Err ShelfFault) left left' written files m
   early = if_some (λ f is some. not_refused (table_for path part f) table is some) files known;
   words = λ e. cc;
   left = (after stored, refl);
+  quiet = λ _. refl;
   unread = λ none. cc;
   taken = if_some (λ f is some. not_refused (table_for path part f) table is some) files known;
 }
@@ -105,6 +107,7 @@ folder_stored path part table folder (Err NoMemory) left left' written files mid
   early = if_some (λ f is some. not_refused (table_for path part f) table is some) files known;
   words = λ e. cc;
   left = (inr (stored ∙ same), printed_prefix path part files left written);
+  quiet = λ _. refl;
   unread = λ none. cc;
   taken = if_some (λ f is some. not_refused (table_for path part f) table is some) files known;
 }
@@ -156,6 +159,7 @@ input_refused path part table status left left' written files mid a b c a' b' c'
       early = if_some (λ f is some. not_refused (table_for path part f) table is some) files known;
       words = both.1;
       left = both.0;
+      quiet = λ _. refl;
       unread = λ none. cc;
       taken = if_some (λ f is some. not_refused (table_for path part f) table is some) files known;
     }

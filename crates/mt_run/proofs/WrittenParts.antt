@@ -1,8 +1,9 @@
 -- What `write` publishes is the folder of writable rows, and so stands for them.
 use Rattle.std.proofs.Common.{◌≡◌, ◌≢◌, ℕ, Bool, true, false, List, [], ◌∷◌, ◌||◌, ◌≤◌, get_or, All, Result, Ok, Err, refl, ap, sym, subst, arith}
-use Rattle.std.specs.Prelude.{IsTrue, nat_lt}
+use Rattle.std.specs.Prelude.{nat_lt}
 use Rattle.std.specs.List.{list_all, list_any}
 use Rattle.std.proofs.lemmas.List.Elements.{All-nil, All-cons}
+use Rattle.mt_types.specs.Bytes.{is_byte}
 use Rattle.mt_shelf.specs.declared.file.FileBytes.{FileBytes}
 use Rattle.mt_table.specs.declared.definition.Table.{Table}
 use Rattle.mt_table.specs.declared.limits.TheConstants.{MAX_CELLS}
@@ -16,9 +17,9 @@ use Rattle.mt_defs.specs.Part.{StandsFor}
 use Rattle.mt_defs.specs.Rows.{Row, RowFits}
 use Rattle.mt_defs.specs.Sorting.{sorted_rows}
 use Rattle.mt_defs.specs.Writer.{IsWritable, written_folder}
+use Rattle.mt_defs.specs.WrittenGranules.{written_granules}
 use Rattle.mt_defs.proofs.Sorted.{IsSorted-sorted_rows, All-sorted_rows, cell_count-sorted_rows, length-sorted_rows, some_sorted_rows}
-use Rattle.mt_written.specs.Texts.{HoldBytes, holds_bytes}
-use Rattle.mt_written.proofs.StandLemmas.{written_stands}
+use Rattle.mt_law_written.proofs.StandLemmas.{written_stands}
 use Rattle.mt_build.proofs.InnerLemmas.{projections_kept}
 use Rattle.mt_command.specs.Status.{◌>>=◌, refused_by, status_of_rows}
 use Rattle.mt_run.specs.Partitions.{one_partition}
@@ -98,9 +99,9 @@ accepted table text rows files read made =
       made = within (written_folder table (sorted_rows table.sort rows)) files (nat_lt MAX_FOLDER (folder_bytes (written_folder table (sorted_rows table.sort rows)))) refl one.later;
     }
 
-writable : (table : Table) (text : List ℕ) (rows : List Row) (files : List FileBytes) → text ≢ [] → Accepted table text rows files → IsWritable table (sorted_rows table.sort rows)
-writable table text rows files some are =
-    let fit = rows_fit table.columns text rows are.reads in
+writable : (table : Table) (text : List ℕ) (rows : List Row) (files : List FileBytes) → text ≢ [] → list_all is_byte text ≡ true → Accepted table text rows files → IsWritable table (sorted_rows table.sort rows)
+writable table text rows files some bytes are =
+    let fit = rows_fit table.columns text rows bytes are.reads in
     let sorted_fit = All-sorted_rows (RowFits table.columns) table.sort rows fit in
     let some_rows = limits.some_rows table.columns text rows are.reads some in
     let few_rows = limits.few_rows table.columns text rows are.reads in
@@ -120,10 +121,9 @@ writable table text rows files some are =
       projections = λ k d h. projection_part table (get_or table.projections k d) rows (projections_kept table k d h) fit sorted_fit some_rows few_rows sorted_few (are.few k d h);
     }
 
-pub parts_stand : (table : Table) (text : List ℕ) (rows : List Row) (files : List FileBytes) → text ≢ [] → rows_of table text ≡ Ok rows → HoldBytes rows → folder_of table text ≡ Ok files
+pub parts_stand : (table : Table) (text : List ℕ) (rows : List Row) (files : List FileBytes) → text ≢ [] → list_all is_byte text ≡ true → rows_of table text ≡ Ok rows → folder_of table text ≡ Ok files
     → StandsFor table (folders.folder_of files) (sorted_rows table.sort rows)
-parts_stand table text rows files some read bytes made =
+parts_stand table text rows files some bytes read made =
     let are = accepted table text rows files read made in
     let sorted = sorted_rows table.sort rows in
-    let held : HoldBytes sorted = All-sorted_rows (λ row. IsTrue (list_all holds_bytes row)) table.sort rows bytes in
-    subst (λ fs. StandsFor table (folders.folder_of fs) sorted) (sym are.made) (written_stands table sorted (writable table text rows files some are) held)
+    subst (λ fs. StandsFor table (folders.folder_of fs) sorted) (sym are.made) (written_granules table.settings table.columns sorted, written_stands table sorted (writable table text rows files some bytes are))

@@ -6,8 +6,8 @@ use Rattle.mt_shelf.specs.Streams.{GrowsByPrefix}
 use Rattle.mt_shelf.specs.declared.fault.Fault.{Fault}
 use Rattle.mt_shelf.specs.declared.fault.Why.{Why}
 use Rattle.mt_shelf.specs.declared.fault.Why.TheVariants as why
-use Rattle.mt_table.specs.declared.why.TableWhy.{TableWhy}
-use Rattle.mt_table.specs.declared.why.TableWhy.TheVariants as table
+use Rattle.mt_table_text.specs.declared.why.TableWhy.{TableWhy}
+use Rattle.mt_table_text.specs.declared.why.TableWhy.TheVariants as table
 use Rattle.mt_query.specs.declared.why.QueryWhy.{QueryWhy}
 use Rattle.mt_query.specs.declared.why.QueryWhy.TheVariants as query
 use Rattle.mt_tsv.specs.declared.fault.RowWhy.{RowWhy}

@@ -2,7 +2,7 @@
 use Rattle.std.specs.Prelude.{ℕ, List, ◌++◌, length, codes, decimal, Ok}
 use Rattle.mt_tsv.specs.Printing.{rows_text}
 use Rattle.mt_shelf.specs.Files.{Files}
-use Rattle.mt_check.specs.declared.accepted.Accepted.{Accepted}
+use Rattle.mt_definition.specs.declared.accepted.Accepted.{Accepted}
 use Rattle.mt_command.specs.Outcomes.{Outcomes, ◌>>=◌, gives}
 use Rattle.mt_command.specs.Parts.{table_part_steps}
 

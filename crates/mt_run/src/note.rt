@@ -7,7 +7,7 @@ use itoa::Buffer;
 use mt_command::{Status, What};
 use mt_query::QueryWhy;
 use mt_shelf::{Fault, Why};
-use mt_table::TableWhy;
+use mt_table_text::TableWhy;
 use mt_tsv::RowWhy;
 use mt_types::{List, NoMemory};
 use std::alloc::Global;

@@ -11,8 +11,8 @@ ghost use Rattle.mt_command.specs.Steps.{StepCausedBy, of_shelf};
 ghost use Rattle.mt_run.specs.Reading.{accepted_line, check_steps, rows_steps};
 
 use itoa::Buffer;
-use mt_check::Accepted;
 use mt_command::{Status, finished, print, read_part};
+use mt_definition::Accepted;
 use mt_shelf::{Shelf, Sink, Source};
 use mt_table::Column;
 use mt_tsv::write_row;

@@ -3,7 +3,7 @@ use Rattle.std.proofs.Common.{◌≡◌, ℕ, List, Option, Some, None, IfSome, 
 use Rattle.mt_table.specs.declared.definition.Table.{Table}
 use Rattle.mt_query.specs.declared.query.Query.{Query}
 use Rattle.mt_shelf.specs.Files.{Files}
-use Rattle.mt_check.specs.declared.accepted.Accepted.{Accepted}
+use Rattle.mt_definition.specs.declared.accepted.Accepted.{Accepted}
 use Rattle.mt_command.specs.Outcomes.{Returns}
 use Rattle.mt_command.specs.Parts.{part_steps}
 use Rattle.mt_command.specs.Status.{Gives}

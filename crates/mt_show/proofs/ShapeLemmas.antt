@@ -14,17 +14,18 @@ use Rattle.mt_defs.specs.Part.{is_compact}
 use Rattle.mt_defs.specs.Projections.{base_of, inner_of, projection_prefix}
 use Rattle.mt_meta.specs.ColumnsReading.{columns_reading}
 use Rattle.mt_meta.specs.Results.{in_file}
-use Rattle.mt_check.specs.declared.accepted.Accepted.{Accepted}
-use Rattle.mt_check.specs.Definitions.{IsDefinition}
-use Rattle.mt_check.specs.DefinitionReading.{definition_reading, order_reading}
-use Rattle.mt_check.specs.Faults.{fault_of}
+use Rattle.mt_definition.specs.declared.accepted.Accepted.{Accepted}
+use Rattle.mt_files.specs.Definitions.{IsDefinition}
+use Rattle.mt_definition.specs.DefinitionReading.{definition_reading}
+use Rattle.mt_files.specs.PartTexts.{order_reading}
+use Rattle.mt_granules.specs.FileFaults.{file_fault}
 use Rattle.mt_check.specs.FolderChecks.{projection_folders}
-use Rattle.mt_check.specs.OwnNames.{base_names, own_names}
+use Rattle.mt_files.specs.OwnNames.{base_names, own_names}
 use Rattle.mt_check.specs.PartFiles.{base_files, inner_files, part_files, projection_files}
-use Rattle.mt_check.proofs.AgreeLemmas.{AgreeAt}
-use Rattle.mt_check.proofs.AgreeOnData.{definition_same}
+use Rattle.mt_definition.proofs.AgreeLemmas.{AgreeAt, file_same}
+use Rattle.mt_definition.proofs.AgreeOnData.{definition_same}
 use Rattle.mt_check.proofs.ReadLemmas.{agrees, base_layout, inner_layout}
-use Rattle.mt_check.proofs.TableLemmas.{projections_checked}
+use Rattle.mt_files.proofs.TableLemmas.{projections_checked}
 use Rattle.mt_show.specs.declared.shape.Shape.{Shape}
 use Rattle.mt_show.specs.declared.shape.Size.{Size}
 use Rattle.mt_show.specs.Shape.{order_in, order_or_none, shape_in, size_in, size_or_none, sizes_in}
@@ -32,7 +33,7 @@ use Rattle.mt_show.specs.Shape.{order_in, order_or_none, shape_in, size_in, size
 -- ---- the order of columns
 
 order_same : (f g : Folder) (definition : PartDef) → f columns_name ≡ g columns_name → order_reading definition f ≡ order_reading definition g
-order_same f g definition same = ap (λ o. ok_or (fault_of columns_name Missing) o >>= λ text. in_file columns_name (columns_reading definition.columns text)) same
+order_same f g definition same = ap (λ o. ok_or (file_fault columns_name Missing) o >>= λ text. in_file columns_name (columns_reading definition.columns text)) (file_same f g columns_name same)
 
 base_agrees : (table : Table) (folder : Folder) → AgreeAt (folder_of (base_files table folder)) folder (base_names table (is_compact folder))
 base_agrees table folder = agrees folder (base_names table (is_compact folder))

@@ -7,11 +7,12 @@ use Rattle.mt_shelf.specs.declared.file.Entry.{Entry}
 use Rattle.mt_shelf.specs.Files.{Files, entries_below}
 use Rattle.mt_table.specs.declared.definition.Table.{Table}
 use Rattle.mt_defs.specs.Folder.{folder_of}
-use Rattle.mt_check.specs.declared.accepted.Accepted.{Accepted}
+use Rattle.mt_definition.specs.declared.accepted.Accepted.{Accepted}
 use Rattle.mt_check.specs.declared.folder.PartFiles.{PartFiles}
-use Rattle.mt_check.specs.Listings.{listed_checks}
-use Rattle.mt_check.specs.PartFiles.{part_files, part_folder}
-use Rattle.mt_check.proofs.PartLemmas.{whole_answers}
+use Rattle.mt_check.specs.ListedChecks.{listed_checks}
+use Rattle.mt_check.specs.PartFiles.{part_files}
+use Rattle.mt_files.specs.NamedFiles.{part_folder}
+use Rattle.mt_check.proofs.PartLemmas.{whole_gives}
 use Rattle.mt_command.specs.Outcomes.{Outcomes, ◌>>=◌, Returns, gives, refused_by}
 use Rattle.mt_command.specs.Status.{Gives, is_outside}
 use Rattle.mt_command.specs.declared.status.Status.{Status}
@@ -56,24 +57,24 @@ outside_refused table part status (Some f) outside = λ inside. let never : true
 
 -- the files that were read are at fault
 pub listed_refused : (table : Table) (part : List ℕ) (listing : List Entry) (files : PartFiles) (status : Status) (stored : Option Files) → IfSome stored (λ f. listing ≡ entries_below part f)
-    → IfSome stored (λ f. files ≡ part_files table (part_folder part f)) → Returns (let r : Result Accepted Status = Err status in r) (refused_by (AtFault part) (listed_checks table files listing)) → IfSome stored (RefusesListed table part status)
+    → IfSome stored (λ f. files ≡ part_files table (part_folder part f)) → Returns (let r : Result Accepted Status = Err status in r) (refused_by (AtFault part) (λ answer. listed_checks table files listing ≡ answer)) → IfSome stored (RefusesListed table part status)
 listed_refused table part listing files status None is are refuses = tt
 listed_refused table part listing files status (Some f) is are refuses = λ inside. refused (refuses inside)
   where
-    refused : ((fault : Fault) × listed_checks table files listing (Err fault) × (status ≡ AtFault part fault)) → listed_text table part f (Err status)
+    refused : ((fault : Fault) × (listed_checks table files listing ≡ Err fault) × (status ≡ AtFault part fault)) → listed_text table part f (Err status)
     refused found =
         let answer : Result Accepted ReadError = Err (read.AtFault found.0) in
-        let whole = whole_answers table part listing (Some f) files answer is are found.1 in
+        let whole = whole_gives table part listing (Some f) files answer is are found.1 in
         inr (status, (found.0, checks_listed table part listing (Err found.0) (Some f) is whole, found.2), refl)
 
 -- the text of the files that were read
 pub listed_given : (table : Table) (part : List ℕ) (listing : List Entry) (files : PartFiles) (accepted : Accepted) (text : List ℕ) (stored : Option Files) → IfSome stored (λ f. listing ≡ entries_below part f)
-    → IfSome stored (λ f. files ≡ part_files table (part_folder part f)) → listed_checks table files listing (Ok accepted)
+    → IfSome stored (λ f. files ≡ part_files table (part_folder part f)) → listed_checks table files listing ≡ Ok accepted
     → text ≡ show_text table (shape_in table (folder_of files.base) (map folder_of files.projections)) accepted → IfSome stored (λ f. listed_text table part f (Ok text))
 listed_given table part listing files accepted text None is are accepts made = tt
 listed_given table part listing files accepted text (Some f) is are accepts made =
     let answer : Result Accepted ReadError = Ok accepted in
-    let whole = whole_answers table part listing (Some f) files answer is are accepts in
+    let whole = whole_gives table part listing (Some f) files answer is are accepts in
     let folder = part_folder part f in
     let same : text ≡ folder_text table folder accepted =
     made ∙ ap (λ (fs : PartFiles). show_text table (shape_in table (folder_of fs.base) (map folder_of fs.projections)) accepted) are ∙ ap (λ (shape : Shape). show_text table shape accepted) (shape_same table folder) in

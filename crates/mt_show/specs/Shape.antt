@@ -6,8 +6,9 @@ use Rattle.mt_table.specs.declared.projection.Projection.{Projection}
 use Rattle.mt_defs.specs.Folder.{Folder}
 use Rattle.mt_defs.specs.Part.{is_compact}
 use Rattle.mt_defs.specs.Projections.{base_of, inner_of}
-use Rattle.mt_check.specs.declared.accepted.Accepted.{Accepted}
-use Rattle.mt_check.specs.DefinitionReading.{definition_reading, order_reading}
+use Rattle.mt_definition.specs.declared.accepted.Accepted.{Accepted}
+use Rattle.mt_definition.specs.DefinitionReading.{definition_reading}
+use Rattle.mt_files.specs.PartTexts.{order_reading}
 use Rattle.mt_show.specs.declared.shape.Shape.{Shape}
 use Rattle.mt_show.specs.declared.shape.Size.{Size}
 

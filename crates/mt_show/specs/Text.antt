@@ -12,7 +12,7 @@ use Rattle.mt_defs.specs.Metadata.{column_at}
 use Rattle.mt_defs.specs.Projections.{projection_name}
 use Rattle.mt_defs.specs.Rows.{Row, key_of}
 use Rattle.mt_tsv.specs.Printing.{row_text}
-use Rattle.mt_check.specs.declared.accepted.Accepted.{Accepted}
+use Rattle.mt_definition.specs.declared.accepted.Accepted.{Accepted}
 use Rattle.mt_show.specs.declared.key.Key.{Key}
 use Rattle.mt_show.specs.declared.shape.Shape.{Shape}
 use Rattle.mt_show.specs.declared.shape.Size.{Size}

@@ -12,7 +12,7 @@ use mt_types::{List, NoMemory, Row, Ty, Value};
 use std::alloc::Global;
 
 /// Some columns of a table that are a key.
-#[derive(Debug, Drop)]
+#[derive(Drop)]
 pub struct Key {
     /// The columns.
     pub columns: List<Column>,

@@ -5,8 +5,9 @@ ghost use Rattle.mt_shelf.specs.Files.{IsListing, entries_below};
 ghost use Rattle.mt_shelf.specs.Paths.{is_path};
 ghost use Rattle.mt_shelf.specs.State.{files_of};
 ghost use Rattle.mt_defs.specs.Folder.{folder_of};
-ghost use Rattle.mt_check.specs.Listings.{listed_checks};
-ghost use Rattle.mt_check.specs.PartFiles.{part_files, part_folder};
+ghost use Rattle.mt_check.specs.ListedChecks.{listed_checks};
+ghost use Rattle.mt_check.specs.PartFiles.{part_files};
+ghost use Rattle.mt_files.specs.NamedFiles.{part_folder};
 ghost use Rattle.mt_command.specs.Outcomes.{Returns, refused_by};
 ghost use Rattle.mt_command.specs.Status.{is_outside};
 ghost use Rattle.mt_command.specs.Steps.{StepCausedBy, of_nothing, of_shelf};
@@ -16,8 +17,9 @@ ghost use Rattle.mt_show.specs.Text as text;
 
 use crate::shape::shape_of;
 use crate::text::show_text;
-use mt_check::{Accepted, PartFiles, check_listed, read_part};
+use mt_check::{PartFiles, check_listed, read_part};
 use mt_command::{Status, at_fault, status_of_shelf};
+use mt_definition::Accepted;
 use mt_shelf::{Entry, ReadError, Shelf};
 use mt_table::Table;
 use mt_types::{List, NoMemory};
@@ -56,7 +58,8 @@ pub(crate) fn judge_files(
 ) -> Result<Accepted, Status>
     requires form { IsListing listing.now }
     requires each { length files.now.projections ≡ length table.now.projections }
-    ensures gives { Returns result (refused_by (AtFault part.now) (listed_checks table.now files.now listing.now)) }
+    ensures gives { Returns result
+        (refused_by (AtFault part.now) (λ answer. listed_checks table.now files.now listing.now ≡ answer)) }
     ensures cause { StepCausedBy result of_nothing of_nothing }
 {
     match check_listed(alloc, table, files, listing) {

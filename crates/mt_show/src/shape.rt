@@ -6,7 +6,9 @@ ghost use Rattle.mt_defs.specs.Folder.{folder_of};
 ghost use Rattle.mt_defs.specs.Part as defined;
 ghost use Rattle.mt_show.specs.Shape.{order_in, shape_in, size_in, sizes_in};
 
-use mt_check::{PartFiles, read_definition, read_order};
+use mt_check::PartFiles;
+use mt_definition::read_definition;
+use mt_files::read_order;
 use mt_shelf::{FileBytes, ReadError};
 use mt_table::Table;
 use mt_types::{List, NoMemory};
@@ -16,7 +18,7 @@ use std::alloc::Global;
 const COMPACT_MARKS: &[u8] = b"data.mrk3";
 
 /// The layout of an accepted part, and how much its projections store.
-#[derive(Debug, Drop)]
+#[derive(Drop)]
 pub struct Shape {
     /// Whether it is Compact, else Wide.
     pub compact: bool,
@@ -27,7 +29,7 @@ pub struct Shape {
 }
 
 /// How much a projection stores.
-#[derive(Clone, Copy, Debug)]
+#[derive(Clone, Copy)]
 pub struct Size {
     /// Its rows.
     pub rows: u64,

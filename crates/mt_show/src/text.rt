@@ -8,7 +8,7 @@ use crate::granules::{append_granules, append_last};
 use crate::key::{Key, primary_key};
 use crate::shape::Shape;
 use crate::stored::{append_columns, append_number, append_projections, append_skips};
-use mt_check::Accepted;
+use mt_definition::Accepted;
 use mt_table::Table;
 use mt_types::{List, NoMemory};
 use std::alloc::Global;

@@ -4,7 +4,7 @@ use Rattle.std.specs.Prelude.{option_and_then}
 use Rattle.mt_types.proofs.OptionLemmas.{mapped_is, then_is}
 use Rattle.mt_tokens.specs.Lexis.{AreTokens, skip_blanks, token_at}
 use Rattle.mt_tokens.specs.Tokens.{Tok}
-use Rattle.mt_table.specs.TextReading.{token_onto, tokens_from, tokens_of}
+use Rattle.mt_table_text.specs.TextReading.{token_onto, tokens_from, tokens_of}
 use Rattle.mt_query_syntax.specs.declared.tree.QueryText.{QueryText}
 use Rattle.mt_query_syntax.specs.Grammar.{IsQueryText}
 use Rattle.mt_query_syntax.specs.Reading.{sentence_at}

@@ -15,11 +15,11 @@ use Rattle.mt_defs.specs.Writer.{definition_files, written_folder}
 use Rattle.mt_defs.specs.WrittenPartition.{partition_files}
 use Rattle.mt_defs.specs.WrittenSkips.{skip_files}
 use Rattle.mt_defs.specs.declared.frame.TheConstants.{FRAME_PAYLOAD}
-use Rattle.mt_sizes.specs.Sizes.{files_size}
-use Rattle.mt_sizes.proofs.DefinitionSizes.{definition_size}
-use Rattle.mt_sizes.proofs.FolderSizes.{folder_size, projection_size}
-use Rattle.mt_sizes.proofs.MinmaxSizes.{minmax_size}
-use Rattle.mt_sizes.proofs.SkipSizes.{skip_size}
+use Rattle.mt_law_written.specs.Sizes.{files_size}
+use Rattle.mt_law_written.proofs.DefinitionSizes.{definition_size}
+use Rattle.mt_law_written.proofs.FolderSizes.{folder_size, projection_size}
+use Rattle.mt_law_written.proofs.MinmaxSizes.{minmax_size}
+use Rattle.mt_law_written.proofs.SkipSizes.{skip_size}
 use Rattle.mt_trial.specs.declared.rows.TheConstants.{MAX_TRIAL_ROWS}
 use Rattle.mt_trial.specs.Tables.{trial_fields, trial_projection, trial_skip}
 use Rattle.mt_trial.proofs.GroupRows.{group_rows, groups_few}

@@ -12,7 +12,6 @@ mod FlatLemmas
 mod TextSizes
 mod WidthLemmas
 mod FolderLemmas
-mod ByteLemmas
 mod StorableLemmas
 mod HalfLemmas
 mod AnswerLemmas

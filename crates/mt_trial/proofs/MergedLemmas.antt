@@ -6,7 +6,7 @@ use Rattle.mt_table.specs.declared.definition.Table.{Table}
 use Rattle.mt_shelf.specs.declared.file.FileBytes.{FileBytes}
 use Rattle.mt_shelf.specs.Files.{Files, gained_files}
 use Rattle.mt_shelf.specs.Held.{pair_of}
-use Rattle.mt_check.specs.declared.accepted.Accepted.{Accepted}
+use Rattle.mt_definition.specs.declared.accepted.Accepted.{Accepted}
 use Rattle.mt_command.specs.Outcomes.{Returns, gives}
 use Rattle.mt_command.specs.Parts.{part_steps}
 use Rattle.mt_command.specs.Status.{is_outside}

@@ -10,11 +10,10 @@ use Rattle.mt_shelf.specs.Paths.{is_at_or_below}
 use Rattle.mt_defs.specs.Rows.{Row}
 use Rattle.mt_defs.specs.Sorting.{sorted_rows}
 use Rattle.mt_defs.specs.Writer.{written_folder}
-use Rattle.mt_check.specs.declared.accepted.Accepted.{Accepted}
+use Rattle.mt_definition.specs.declared.accepted.Accepted.{Accepted}
 use Rattle.mt_command.specs.Parts.{part_files, part_steps}
 use Rattle.mt_command.specs.Targets.{free_target, within_limit}
 use Rattle.mt_command.specs.declared.status.Status.{Status}
-use Rattle.mt_written.specs.Texts.{HoldBytes}
 use Rattle.mt_headline.specs.Storable.{AreStorable}
 use Rattle.mt_merging.specs.Inputs.{some_files}
 use Rattle.mt_trial.specs.Steps.{with_part}
@@ -25,7 +24,7 @@ use Rattle.mt_trial.proofs.OnlyLemmas.{IsOnly}
 -- what is published of storable rows is accepted
 abbrev pub AreAccepted : Type 0
 AreAccepted =
-    (table : Table) (rows : List Row) (part : List ℕ) (files : Files) → AreStorable table rows → HoldBytes rows → free_target part files ≡ Ok tt
+    (table : Table) (rows : List Row) (part : List ℕ) (files : Files) → AreStorable table rows → free_target part files ≡ Ok tt
     → within_limit (written_folder table (sorted_rows table.sort rows)) ≡ Ok (written_folder table (sorted_rows table.sort rows))
     → (accepted : Accepted) × part_steps table part (gained_files part (map pair_of (written_folder table (sorted_rows table.sort rows))) files) (Ok accepted) × (accepted.rows ≡ sorted_rows table.sort rows)
 
@@ -63,10 +62,10 @@ is_there table part rows files has = by has.given
     by (inl (listing, listed, checks)) = there_by part (listing_of (entries_below part files)) listing listed
     by (inr (status, listed, same)) = cc
 
-pub part_published : (laws : PartLaws) (table : Table) (rows : List Row) (part : List ℕ) (files : Files) → AreStorable table rows → HoldBytes rows → free_target part files ≡ Ok tt
+pub part_published : (laws : PartLaws) (table : Table) (rows : List Row) (part : List ℕ) (files : Files) → AreStorable table rows → free_target part files ≡ Ok tt
     → within_limit (written_folder table (sorted_rows table.sort rows)) ≡ Ok (written_folder table (sorted_rows table.sort rows)) → HasPart table part (sorted_rows table.sort rows) (with_part part (written_folder table (sorted_rows table.sort rows)) files)
-part_published laws table rows part files storable bytes free small =
-    let (accepted, given, same) = laws.accepted table rows part files storable bytes free small in
+part_published laws table rows part files storable free small =
+    let (accepted, given, same) = laws.accepted table rows part files storable free small in
     record { accepted = accepted; same = same; given = given; only = λ outcome is. laws.one table part _ outcome (Ok accepted) is given }
 
 pub part_stays : (laws : PartLaws) (table : Table) (part target : List ℕ) (rows : List Row) (folder : List FileBytes) (files : Files) → is_at_or_below target part ≡ false → is_at_or_below part target ≡ false

@@ -10,7 +10,7 @@ use Rattle.mt_tokens.specs.Numbers.{number_of}
 use Rattle.mt_syntax.specs.declared.tree.Selected.TheVariants.{Items}
 use Rattle.mt_syntax.specs.declared.tree.Selection.TheVariants as item
 use Rattle.mt_syntax.specs.Readers.{more}
-use Rattle.mt_table.specs.TextReading.{tokens_from, tokens_of}
+use Rattle.mt_table_text.specs.TextReading.{tokens_from, tokens_of}
 use Rattle.mt_query_syntax.specs.declared.op.Op.{Op}
 use Rattle.mt_query_syntax.specs.declared.op.Op.TheVariants.{Lt, Ge}
 use Rattle.mt_query_syntax.specs.declared.tree.CondText.{CondText}

@@ -6,7 +6,7 @@ use Rattle.std.proofs.lemmas.List.Elements.{All-append, All-nil}
 use Rattle.mt_defs.specs.Rows.{Row}
 use Rattle.mt_defs.specs.Writer.{written_folder}
 use Rattle.mt_defs.proofs.Sorted.{length-sorted_rows, some_sorted_rows}
-use Rattle.mt_sizes.specs.Sizes.{files_size}
+use Rattle.mt_law_written.specs.Sizes.{files_size}
 use Rattle.mt_command.specs.Targets.{within_limit}
 use Rattle.mt_command.specs.declared.limits.TheConstants.{MAX_FOLDER}
 use Rattle.mt_merging.specs.Inputs.{all_rows}
@@ -16,7 +16,6 @@ use Rattle.mt_trial.specs.Rows.{half_rows}
 use Rattle.mt_trial.specs.Steps.{trial_steps}
 use Rattle.mt_trial.specs.Trial.{part_rows, trial_rows, trial_text}
 use Rattle.mt_trial.specs.TrialTable.{trial_table}
-use Rattle.mt_trial.proofs.ByteLemmas.{trial_bytes}
 use Rattle.mt_trial.proofs.FolderLemmas.{trial_size}
 use Rattle.mt_trial.proofs.OnlyLemmas.{IsOnly}
 use Rattle.mt_trial.proofs.PartLemmas.{PartLaws}
@@ -29,7 +28,7 @@ small : (rows : List Row) → files_size (written_folder trial_table rows) ≤ M
 small rows few = rw (le-ltb MAX_FOLDER (files_size (written_folder trial_table rows)) few) refl
 
 ready : (rows : List Row) → All IsTrialRow rows → rows ≢ [] → length rows ≤ MAX_TRIAL_ROWS → AreReady rows
-ready rows are some few = record { storable = trial_storable trial_keeps rows are some few; bytes = trial_bytes rows are; small = small rows (trial_size trial_keeps rows are few) }
+ready rows are some few = record { storable = trial_storable trial_keeps rows are some few; small = small rows (trial_size trial_keeps rows are few) }
 
 module _ (number rows : ℕ) (some : 2 ≤ rows) (most : rows ≤ MAX_TRIAL_ROWS) where
   half_ready : (remainder : ℕ) → remainder < 2 → AreReady (half_rows number rows remainder)

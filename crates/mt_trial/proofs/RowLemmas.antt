@@ -1,12 +1,11 @@
 -- The rows of a trial fit its columns, and are of one month.
 use Rattle.std.proofs.Common.{◌≡◌, ◌≢◌, ℕ, zero, suc, ◌+◌, ◌/◌, ◌%◌, ◌^◌, ◌<◌, ◌≤◌, ◌==◌, arith, Bool, true, false, List, [], ◌∷◌, ◌++◌, length, map, refl, ap, sym, ◌∙◌, lit≤, get_or}
-use Rattle.std.specs.Prelude.{All, pos, filter, nat_le, if◌then◌else◌}
-use Rattle.std.specs.Fmt.{decimal}
+use Rattle.std.specs.Prelude.{All, pos, filter, nat_le, if◌then◌else◌, ◌&&◌}
+use Rattle.std.specs.Fmt.{digits}
 use Rattle.std.specs.Int.{w32, to_le_bytes}
 use Rattle.std.specs.List.{flat_map, list_all, range_with_len}
 use Rattle.std.proofs.Math.Nat.{zero-add}
-use Rattle.std.proofs.lemmas.Bool.{eq-eqb, eqb-true, le-leb, lt-ltb, ne_eqb}
-use Rattle.std.proofs.lemmas.Fmt.{length-decimal-le}
+use Rattle.std.proofs.lemmas.Bool.{eq-eqb, eqb-true, lt-ltb, ne_eqb}
 use Rattle.std.proofs.lemmas.List.Elements.{All-contains, All-map, filter-append}
 use Rattle.std.proofs.lemmas.List.FromFn.{get_or-range_with_len, length-range_with_len}
 use Rattle.std.proofs.lemmas.List.Sums.{AllPass-from_list_all}
@@ -20,6 +19,7 @@ use Rattle.mt_types.specs.declared.ty.Width.TheVariants.{W32, W64}
 use Rattle.mt_types.specs.declared.value.Value.{Value, out-Value}
 use Rattle.mt_types.specs.declared.value.Value.TheVariants.{Num, Text, outs-Num, outs-Text}
 use Rattle.mt_types.specs.declared.limits.TheConstants.{MAX_TEXT}
+use Rattle.mt_types.specs.Bytes.{is_byte}
 use Rattle.mt_types.specs.Fits.{fits_of, fits_step, num_at, text_at, is_unsigned}
 use Rattle.mt_table.specs.declared.definition.Table.{Table}
 use Rattle.mt_table.specs.declared.partition.PartExpr.{PartExpr}
@@ -31,6 +31,7 @@ use Rattle.mt_defs.proofs.Sorted.{All-sorted_rows}
 use Rattle.mt_trial.specs.declared.rows.TheConstants.{FIRST_DAY}
 use Rattle.mt_trial.specs.Rows.{half_places, half_rows, row_at, row_of, text_of, x_at}
 use Rattle.mt_trial.specs.Tables.{trial_columns, trial_partition}
+use Rattle.mt_trial.proofs.ItemLemmas.{below_pass}
 
 -- ---- one place more
 
@@ -68,10 +69,16 @@ number_fits : (ty : Ty) (level : Ty-F Ty) (size n : ℕ) → out-Ty ty ≡ level
 number_fits ty level size n is step small =
     fits_at ty level (Num (pos n)) is ∙ step (Num (pos n)) ∙ ap (num_at (is_unsigned size)) (outs-Num (pos n)) ∙ lt-ltb n (2 ^ size) small
 
+abbrev fits_text : List ℕ → Bool
+fits_text bytes = nat_le (length bytes) MAX_TEXT && list_all is_byte bytes
+
+text_passes : (k : ℕ) → k < 100 → fits_text (text_of k) ≡ true
+unfolding digits
+text_passes k small = below_pass (λ k. fits_text (text_of k)) 100 k refl small
+
 text_fits : (k : ℕ) → k < 100 → fits_of Str (Text (text_of k)) ≡ true
 text_fits k small =
-    let short : length (decimal k) ≤ 2 = length-decimal-le 2 k (lit≤ tt) small (omega (arith, small)) in
-    fits_at Str _ (Text (text_of k)) outs-Str ∙ ap (text_at (λ bytes. nat_le (length bytes) MAX_TEXT)) (outs-Text (text_of k)) ∙ le-leb (length (text_of k)) MAX_TEXT (omega (arith, short))
+    fits_at Str _ (Text (text_of k)) outs-Str ∙ ap (text_at fits_text) (outs-Text (text_of k)) ∙ text_passes k small
 
 pub row_fits : (x : ℕ) → RowFits trial_columns (row_of x)
 row_fits x =

@@ -21,10 +21,10 @@ use Rattle.mt_tokens.specs.Numbers.{number_of}
 use Rattle.std.proofs.lemmas.List.{append-nil}
 use Rattle.mt_table.specs.ColumnTypes.{is_state_at}
 use Rattle.mt_syntax.specs.Reading.{sentence_at, type_at, column_at, index_at, item_at, projection_at, element_at, expression_at, clause_at, more_clauses, engine_at, body_at, rest_at}
-use Rattle.mt_table.specs.Sentence.{columns_of}
-use Rattle.mt_table.specs.TypeTexts.{column_type_of, column_type_if}
-use Rattle.mt_table.specs.TextReading.{tokens_of, tokens_from}
-use Rattle.mt_table.proofs.TypeTextLemmas.{type_text_is}
+use Rattle.mt_table_text.specs.Sentence.{columns_of}
+use Rattle.mt_table_text.specs.TypeTexts.{column_type_of, column_type_if}
+use Rattle.mt_table_text.specs.TextReading.{tokens_of, tokens_from}
+use Rattle.mt_table_text.proofs.TypeTextLemmas.{type_text_is}
 use Rattle.mt_trial.specs.Tables.{trial_columns, trial_table_text}
 
 -- ---- the sentence

@@ -7,17 +7,18 @@ use Rattle.mt_types.specs.declared.ty.Ty.TheVariants.{outs-UInt, outs-Date}
 use Rattle.mt_types.specs.declared.ty.Width.TheVariants.{W32, W64}
 use Rattle.mt_types.specs.Steps.{◌>>=◌}
 use Rattle.mt_types.proofs.StepLemmas.{ok_one}
-use Rattle.mt_table.specs.declared.why.TableWhy.{TableWhy}
-use Rattle.mt_table.specs.declared.why.TableWhy.TheVariants.{BadKey, BadPartition, BadProjection, BadSkip, Codec, NoSuchColumn, TooMany}
+use Rattle.mt_table_text.specs.declared.why.TableWhy.{TableWhy}
+use Rattle.mt_table_text.specs.declared.why.TableWhy.TheVariants.{BadKey, BadPartition, BadProjection, BadSkip, Codec, NoSuchColumn, TooMany}
 use Rattle.mt_table.specs.Fields.{Fields}
 use Rattle.mt_table.specs.Kept.{keeps_rules}
-use Rattle.mt_table.specs.Rules.{all_are_there, are_few, fields_judged, fields_of, has_form, has_keys, is_index, is_partition, is_uncompressed}
-use Rattle.mt_table.specs.Sentence.{column_names}
-use Rattle.mt_table.specs.SettingTexts.{settings_of}
+use Rattle.mt_table_text.specs.Rules.{all_are_there, are_few, fields_judged, fields_of, has_form, has_keys, is_index, is_partition, is_uncompressed}
+use Rattle.mt_table_text.specs.Sentence.{column_names}
+use Rattle.mt_table_text.specs.SettingTexts.{settings_of}
 use Rattle.mt_table.specs.declared.definition.Table.{Table}
-use Rattle.mt_table.specs.Tables.{judged, table_if, table_of_fields, table_with}
-use Rattle.mt_table.specs.TextReading.{judged_sentence, table_reading}
-use Rattle.mt_table.proofs.JudgeLemmas.{begun, from_codecs, from_forms, from_indexes, from_keys, from_partition, from_settings, kept, set}
+use Rattle.mt_table.specs.Tables.{table_with}
+use Rattle.mt_table_text.specs.TextReading.{judged, judged_sentence, table_if, table_of_fields, table_reading}
+use Rattle.mt_table_text.specs.Judging.{from_codecs, from_forms, from_indexes, from_keys, from_partition, from_settings}
+use Rattle.mt_table_text.proofs.JudgeLemmas.{begun, kept, set}
 use Rattle.mt_trial.specs.Tables.{trial_columns, trial_fields, trial_partition, trial_settings, trial_table_text}
 use Rattle.mt_trial.specs.KeptRules.{trial_keeps}
 use Rattle.mt_trial.specs.TrialTable.{trial_table}

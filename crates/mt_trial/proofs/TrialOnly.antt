@@ -11,7 +11,6 @@ use Rattle.mt_command.specs.Status.{refused_by}
 use Rattle.mt_command.specs.Tables.{table_of}
 use Rattle.mt_command.specs.Targets.{within_limit}
 use Rattle.mt_command.specs.declared.status.Status.TheVariants.{BadTable}
-use Rattle.mt_written.specs.Texts.{HoldBytes}
 use Rattle.mt_headline.specs.Storable.{AreStorable}
 use Rattle.mt_merging.specs.Inputs.{all_rows, folder_of}
 use Rattle.mt_merging.specs.Merge.{merge_table_steps}
@@ -30,7 +29,6 @@ use Rattle.mt_trial.proofs.TableLemmas.{trial_table_read}
 -- rows of which a part of the table is written, in any order
 pub record AreReady (rows : List Row) : Type 0 where
   pub storable : AreStorable trial_table rows
-  pub bytes : HoldBytes rows
   pub small : within_limit (written_folder trial_table rows) ≡ Ok (written_folder trial_table rows)
 
 abbrev folder : List Row → List FileBytes
@@ -73,13 +71,13 @@ module _ (laws : PartLaws) (number rows : ℕ) where
     has_even : HasPart trial_table (codes "even") even both
     has_even =
         part_stays laws trial_table (codes "even") (codes "odd") even (folder odd) first refl refl
-        (part_published laws trial_table (half_rows number rows 0) (codes "even") (files_in []) ready_even.storable ready_even.bytes (free_by (codes "even") (files_in []) (none_stands (codes "even"))) sorted_even.small)
+        (part_published laws trial_table (half_rows number rows 0) (codes "even") (files_in []) ready_even.storable (free_by (codes "even") (files_in []) (none_stands (codes "even"))) sorted_even.small)
 
     has_odd : HasPart trial_table (codes "odd") odd both
-    has_odd = part_published laws trial_table (half_rows number rows 1) (codes "odd") first ready_odd.storable ready_odd.bytes (free_by (codes "odd") first odd_free) sorted_odd.small
+    has_odd = part_published laws trial_table (half_rows number rows 1) (codes "odd") first ready_odd.storable (free_by (codes "odd") first odd_free) sorted_odd.small
 
     has_merged : HasPart trial_table (codes "merged") merged all
-    has_merged = part_published laws trial_table (all_rows (even ∷ odd ∷ [])) (codes "merged") both ready_all.storable ready_all.bytes (free_by (codes "merged") both merged_free) ready_merged.small
+    has_merged = part_published laws trial_table (all_rows (even ∷ odd ∷ [])) (codes "merged") both ready_all.storable (free_by (codes "merged") both merged_free) ready_merged.small
 
     -- ---- the steps
 

@@ -1,10 +1,11 @@
 -- A trial is done, or ends from outside.
-use Rattle.std.proofs.Common.{◌≡◌, ◌⊎◌, inl, inr, ℕ, Bool, true, false, List, Option, Result, Ok, Err, refl, subst}
+use Rattle.std.proofs.Common.{◌≡◌, ◌⊎◌, inl, inr, ℕ, Bool, true, false, List, Option, Result, Ok, Err, refl, subst, arith}
 use Rattle.std.specs.Io.KnownBytes.{append_known}
+use Rattle.mt_shelf.specs.Causes.{Rose}
 use Rattle.mt_command.specs.Outcomes.{Returns, gives}
 use Rattle.mt_command.specs.Plans.{answer_of}
 use Rattle.mt_command.specs.Status.{is_outside}
-use Rattle.mt_command.specs.Steps.{Counts, Printed, StepCausedBy}
+use Rattle.mt_command.specs.Steps.{Counts, Printed, StepCausedBy, of_nothing}
 use Rattle.mt_command.specs.declared.status.Status.{Status}
 use Rattle.mt_command.specs.declared.status.Status.TheVariants.{Done, AtFault, BadWords, NoTable, NoPart, BadTable, BadQuery, Exists, NoRows, BadRows, ManyPartitions, MixedPartitions, TooMuch, SourceFault, ShelfFault, SinkFault, NoMemory}
 use Rattle.mt_trial.proofs.OnlyLemmas.{no_value, same_value}
@@ -20,6 +21,12 @@ ended_outside text status returned = inr (outside_by text status (is_outside sta
 
 pub not_done : {X : Type 0} (status : Status) (before now : Counts) → StepCausedBy (let r : Result (List ℕ) Status = Err status in r) before now → status ≡ Done → X
 not_done status before now cause is = absurd (subst (λ s. StepCausedBy (let r : Result (List ℕ) Status = Err s in r) before now) is cause)
+
+never_rose : {X : Type 0} → Rose 0 0 → X
+never_rose rose = absurd (omega (arith, rose))
+
+pub not_of_shelf : (status : Status) → StepCausedBy (let r : Result (List ℕ) Status = Err status in r) of_nothing of_nothing → ¬ (status ≡ ShelfFault)
+not_of_shelf status cause is = never_rose (subst (λ s. StepCausedBy (let r : Result (List ℕ) Status = Err s in r) of_nothing of_nothing) is cause).0
 
 -- ---- after the text was printed, or a prefix of it
 
@@ -46,6 +53,10 @@ print_unrefused text old new (Err ShelfFault) printed = absurd printed
 whole : (text : List ℕ) (old new : Option (List ℕ)) (result : Result Unit Status) → Printed text old new result → answer_of result ≡ Done → new ≡ append_known old text
 whole text old new (Ok done) printed is = printed
 whole text old new (Err status) printed is = absurd (subst (λ s. Printed text old new (let r : Result Unit Status = Err s in r)) is printed)
+
+pub print_not_of_shelf : (text : List ℕ) (old new : Option (List ℕ)) (result : Result Unit Status) → Printed text old new result → ¬ (answer_of result ≡ ShelfFault)
+print_not_of_shelf text old new (Ok done) printed is = cc
+print_not_of_shelf text old new (Err status) printed is = subst (λ s. Printed text old new (let r : Result Unit Status = Err s in r)) is printed
 
 pub print_whole : (text given : List ℕ) (old new : Option (List ℕ)) (result : Result Unit Status) → (let r : Result (List ℕ) Status = Ok given in r) ≡ Ok text → Printed given old new result → answer_of result ≡ Done → new ≡ append_known old text
 print_whole text given old new result same printed is = whole text old new result (subst (λ t. Printed t old new result) (same_value given text same) printed) is

@@ -5,7 +5,7 @@ use Rattle.std.proofs.lemmas.List.Elements.{All-weaker}
 use Rattle.mt_table.specs.declared.column.Column.{Column}
 use Rattle.mt_table.specs.Kept.{keeps_rules}
 use Rattle.mt_defs.specs.Rows.{Row}
-use Rattle.mt_sizes.specs.Sizes.{HaveWidths, IsFlat, RowHasWidths}
+use Rattle.mt_law_written.specs.Sizes.{HaveWidths, IsFlat, RowHasWidths}
 use Rattle.mt_trial.specs.declared.rows.TheConstants.{MAX_TRIAL_ROWS}
 use Rattle.mt_trial.specs.Tables.{trial_columns, trial_fields}
 use Rattle.mt_trial.proofs.FlatLemmas.{IsFlatColumn, group_flat, one_name, trial_flat}

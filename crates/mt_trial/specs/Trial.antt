@@ -10,7 +10,7 @@ use Rattle.mt_command.specs.Outcomes.{gives}
 use Rattle.mt_command.specs.Plans.{World}
 use Rattle.mt_command.specs.Status.{is_outside}
 use Rattle.mt_command.specs.declared.status.Status.{Status}
-use Rattle.mt_command.specs.declared.status.Status.TheVariants.{Done}
+use Rattle.mt_command.specs.declared.status.Status.TheVariants.{Done, ShelfFault}
 use Rattle.mt_trial.specs.Queries.{totals_query, groups_query, great_query}
 use Rattle.mt_trial.specs.Rows.{half_rows}
 use Rattle.mt_trial.specs.TrialTable.{trial_table}
@@ -36,9 +36,10 @@ answers_over rows =
 abbrev pub trial_text : (number rows : ℕ) → List ℕ
 trial_text number rows = answers_over (trial_rows number rows)
 
--- a run that prints this text. It looks at no file and no input, so whatever these are, it isn't refused, and the whole
--- text is printed where it is Done
+-- a run that prints this text. It looks at no file and no input, so whatever these are, it isn't refused, the whole
+-- text is printed where it is Done, and no shelf fails
 pub record PrintsTrial (number rows : ℕ) (old new : World) (status : Status) : Type 0 where
   pub unrefused : (status ≡ Done) ⊎ (is_outside status ≡ true)
   pub printed : status ≡ Done → new.written ≡ append_known old.written (trial_text number rows)
+  pub no_shelf : ¬ (status ≡ ShelfFault) × (new.shelf_faults ≡ old.shelf_faults)
   pub performed : PrintsTextOf (λ files. gives (Ok (trial_text number rows))) old new status

@@ -7,7 +7,8 @@ ghost use Rattle.mt_command.specs.Tables.{table_of};
 ghost use Rattle.mt_trial.specs.Tables.{trial_columns, trial_partition, trial_table_text};
 
 use mt_command::Status;
-use mt_table::{Table, TableError};
+use mt_table::Table;
+use mt_table_text::{TableError, read_table};
 use std::alloc::Global;
 
 /// The table's text.
@@ -26,7 +27,7 @@ pub(crate) fn trial_table(alloc: Global) -> Result<Table, Status>
     ensures partition { IfOk result (λ table. table.partition ≡ trial_partition) }
     ensures cause { StepCausedBy result of_nothing of_nothing }
 {
-    match Table::read(alloc, table_text().as_bytes()) {
+    match read_table(alloc, table_text().as_bytes()) {
         Ok(table) => Ok(table),
         Err(TableError::Bad(why)) => Err(Status::BadTable(why)),
         Err(TableError::NoMemory) => Err(Status::NoMemory),

@@ -1,8 +1,9 @@
 //! The program `mtpart`: the real input, outputs and folders, and the exit code.
 #![tactic(auto)]
 
+use mt_host::{DirShelf, StdSink, StdSource};
 use mt_run::{Status, run};
-use mt_shelf::{DirShelf, NoGate, StdSink, StdSource};
+use mt_shelf::NoGate;
 use std::env;
 use std::io::ErrorKind;
 use std::process::ExitCode;

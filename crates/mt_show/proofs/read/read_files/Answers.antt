@@ -1,4 +1,4 @@
-use Rattle.mt_check.specs.Listings.{listed_folder}
+use Rattle.mt_files.specs.Listings.{listed_folder}
 use Rattle.mt_check.proofs.PartLemmas.{as_many}
 use Rattle.mt_show.proofs.read.read_files.Goals as goal
 

@@ -1,7 +1,7 @@
 use Rattle.std.proofs.Common.{sym, ap, ◌∙◌, is_some}
 use Rattle.std.proofs.lemmas.Slice.Eq.{bytes_eq-Decides}
 use Rattle.mt_defs.specs.Compact.{compact_marks_name}
-use Rattle.mt_check.proofs.FileLemmas.{file_found, file_passed}
+use Rattle.mt_files.proofs.FileLemmas.{file_found, file_passed}
 use Rattle.mt_show.proofs.shape.is_compact.Goals as goal
 
 pub returns-then-eq : goal.returns-then-eq

@@ -1,7 +1,7 @@
 use Rattle.std.proofs.Common.{sym, subst}
 use Rattle.mt_table.specs.Stored.{no_projection}
-use Rattle.mt_check.specs.Definitions.{IsDefinition}
-use Rattle.mt_check.proofs.TableLemmas.{projections_checked}
+use Rattle.mt_files.specs.Definitions.{IsDefinition}
+use Rattle.mt_files.proofs.TableLemmas.{projections_checked}
 use Rattle.mt_show.proofs.shape.projection_size.Goals as goal
 
 pub read_definition-requires : goal.read_definition-requires
