@@ -7,13 +7,6 @@ use mt_types::List;
 use std::alloc::Global;
 use std::test::Fail;
 
-/// The table of the worked part.
-pub const TABLE: &str =
-    "CREATE TABLE t (k UInt64, v UInt64) ENGINE = MergeTree ORDER BY k SETTINGS index_granularity = 2, min_bytes_for_wide_part = 0";
-
-/// The input of the worked part.
-pub const INPUT: &str = "3\t30\n1\t10\n2\t20\n";
-
 /// Files by their paths.
 pub fn files_of(alloc: Global, files: &[(&str, &str)]) -> Result<List<FileBytes>, Fail>
     ensures paths { IfOk result (λ files. all_paths files ≡ true) }
@@ -33,14 +26,4 @@ pub fn words_of(alloc: Global, words: &[&str]) -> Result<Vec<String>, Fail> {
         all.push(String::from_str(alloc, word)?)?;
     }
     Ok(all)
-}
-
-/// The bytes of a file, if it is there.
-pub fn file_at<'a>(files: &'a [FileBytes], path: &str) -> Option<&'a [u8]> {
-    for file in files {
-        if file.name.as_slice() == path.as_bytes() {
-            return Some(file.bytes.as_slice());
-        }
-    }
-    None
 }
