@@ -1,4 +1,1 @@
-pub mod ShapeLemmas
 pub mod ShowLemmas
-pub mod SizeLemmas
-pub mod TextLemmas

@@ -18,11 +18,11 @@ use Rattle.mt_command.specs.Status.{Gives, is_outside}
 use Rattle.mt_command.specs.declared.status.Status.{Status}
 use Rattle.mt_command.specs.declared.status.Status.TheVariants.{AtFault}
 use Rattle.mt_command.proofs.PartLemmas.{checks_listed}
-use Rattle.mt_show.specs.declared.shape.Shape.{Shape}
-use Rattle.mt_show.specs.Shape.{shape_in}
+use Rattle.mt_shape.specs.declared.shape.Shape.{Shape}
+use Rattle.mt_shape.specs.Shape.{shape_in}
 use Rattle.mt_show.specs.Show.{folder_text, listed_text}
-use Rattle.mt_show.specs.Text.{show_text}
-use Rattle.mt_show.proofs.ShapeLemmas.{shape_same}
+use Rattle.mt_shape.specs.Text.{show_text}
+use Rattle.mt_shape.proofs.ShapeLemmas.{shape_same}
 
 -- ---- any step, and what follows it
 

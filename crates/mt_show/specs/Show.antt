@@ -9,8 +9,8 @@ use Rattle.mt_command.specs.Outcomes.{Outcomes, ◌>>=◌, gives, refused_by}
 use Rattle.mt_command.specs.Parts.{folder_at, listing_in, part_checks}
 use Rattle.mt_command.specs.Tables.{table_in}
 use Rattle.mt_command.specs.declared.status.Status.TheVariants.{AtFault}
-use Rattle.mt_show.specs.Shape.{shape_in}
-use Rattle.mt_show.specs.Text.{show_text}
+use Rattle.mt_shape.specs.Shape.{shape_in}
+use Rattle.mt_shape.specs.Text.{show_text}
 
 -- the text of a part's folder, and of what it stands for
 abbrev pub folder_text : Table → Folder → Accepted → List ℕ

@@ -12,14 +12,13 @@ ghost use Rattle.mt_command.specs.Outcomes.{Returns, refused_by};
 ghost use Rattle.mt_command.specs.Status.{is_outside};
 ghost use Rattle.mt_command.specs.Steps.{StepCausedBy, of_nothing, of_shelf};
 ghost use Rattle.mt_command.specs.declared.status.Status.TheVariants.{AtFault};
-ghost use Rattle.mt_show.specs.Shape.{shape_in};
-ghost use Rattle.mt_show.specs.Text as text;
+ghost use Rattle.mt_shape.specs.Shape.{shape_in};
+ghost use Rattle.mt_shape.specs.Text as text;
 
-use crate::shape::shape_of;
-use crate::text::show_text;
 use mt_check::{PartFiles, check_listed, read_part};
 use mt_command::{Status, at_fault, status_of_shelf};
 use mt_definition::Accepted;
+use mt_shape::{shape_of, show_text};
 use mt_shelf::{Entry, ReadError, Shelf};
 use mt_table::Table;
 use mt_types::{List, NoMemory};

@@ -1,0 +1,3 @@
+pub mod ShapeLemmas
+mod SizeLemmas
+mod TextLemmas

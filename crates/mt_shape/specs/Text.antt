@@ -1,0 +1,101 @@
+-- The text of `show`: docs/CLI.md, "show".
+use Rattle.std.specs.Prelude.{ℕ, ◌+◌, ◌-◌, Bool, if◌then◌else◌, List, [], ◌∷◌, ◌++◌, length, map, take, drop, codes, decimal}
+use Rattle.std.specs.List.{flat_map}
+use Rattle.mt_types.specs.Names.{type_name}
+use Rattle.mt_table.specs.declared.column.Column.{Column}
+use Rattle.mt_table.specs.declared.definition.Table.{Table}
+use Rattle.mt_table.specs.declared.projection.Projection.{Projection}
+use Rattle.mt_table.specs.declared.skip.Skip.{Skip}
+use Rattle.mt_table.specs.declared.skip.SkipKind.{SkipKind}
+use Rattle.mt_table.specs.declared.skip.SkipKind.TheVariants.{Minmax, Set}
+use Rattle.mt_defs.specs.Metadata.{column_at}
+use Rattle.mt_defs.specs.Projections.{projection_name}
+use Rattle.mt_defs.specs.Rows.{Row, key_of}
+use Rattle.mt_tsv.specs.Printing.{row_text}
+use Rattle.mt_definition.specs.declared.accepted.Accepted.{Accepted}
+use Rattle.mt_shape.specs.declared.key.Key.{Key}
+use Rattle.mt_shape.specs.declared.shape.Shape.{Shape}
+use Rattle.mt_shape.specs.declared.shape.Size.{Size}
+
+-- ---- the layout
+
+abbrev pub kind_line : (compact : Bool) → List ℕ
+kind_line compact = if compact then codes "kind Compact\n" else codes "kind Wide\n"
+
+-- how many there are of what a word names
+abbrev pub count_line : (word : List ℕ) → (count : ℕ) → List ℕ
+count_line word count = word ++ decimal count ++ codes "\n"
+
+-- ---- columns, skip indexes and projections
+
+abbrev pub column_line : Column → List ℕ
+column_line column = codes "column " ++ column.name ++ codes " " ++ type_name column.ty ++ codes "\n"
+
+-- the columns of these indexes, in this order
+abbrev pub column_lines : List Column → (order : List ℕ) → List ℕ
+column_lines columns order = flat_map (λ i. column_line (column_at columns i)) order
+
+-- what an index keeps; of a set the most rows of distinct values
+abbrev pub kind_text : SkipKind → List ℕ
+kind_text Minmax = codes "minmax "
+kind_text (Set max_rows) = codes "set(" ++ decimal max_rows ++ codes ") "
+
+abbrev pub skip_line : Skip → List ℕ
+skip_line skip = codes "index " ++ skip.name ++ codes " " ++ kind_text skip.kind ++ decimal skip.granularity ++ codes "\n"
+
+abbrev pub size_text : Size → List ℕ
+size_text size = decimal size.rows ++ codes " rows " ++ decimal size.granules ++ codes " granules\n"
+
+-- the line of a projection of a name
+abbrev pub named_line : (name : List ℕ) → Size → List ℕ
+named_line name size = codes "projection " ++ name ++ codes " " ++ size_text size
+
+abbrev pub projection_line : Projection → Size → List ℕ
+projection_line projection size = named_line (projection_name projection) size
+
+-- projections, each with its size
+abbrev pub projection_lines : List Projection → List Size → List ℕ
+projection_lines (projection ∷ projections) (size ∷ sizes) = projection_line projection size ++ projection_lines projections sizes
+projection_lines _ _ = []
+
+-- ---- granules
+
+-- the primary key of a table
+abbrev pub primary_key : Table → Key
+primary_key table = record { columns = map (column_at table.columns) (take table.primary table.sort); places = take table.primary table.sort }
+
+-- a tab, and then the fields of a row's key
+abbrev pub key_text : Key → Row → List ℕ
+key_text key row = codes "\t" ++ row_text key.columns (key_of key.places row)
+
+-- the same of the first of some rows
+abbrev pub first_key : Key → List Row → List ℕ
+first_key key rows = flat_map (key_text key) (take 1 rows)
+
+-- each granule, counted from this one: its number, how many rows it has, and the key of its first row
+abbrev pub granule_lines : Key → (granule : ℕ) → (granules : List ℕ) → List Row → List ℕ
+granule_lines key granule [] rows = []
+granule_lines key granule (count ∷ granules) rows =
+    codes "granule " ++ decimal granule ++ codes " " ++ decimal count ++ first_key key rows ++ granule_lines key (granule + 1) granules (drop count rows)
+
+-- the key of the last row
+abbrev pub last_line : Key → List Row → List ℕ
+last_line key rows = codes "last" ++ first_key key (drop (length rows - 1) rows)
+
+-- ---- the text
+
+-- the layout, and how much there is
+abbrev pub head_lines : (compact : Bool) → Accepted → List ℕ
+head_lines compact accepted = kind_line compact ++ count_line (codes "rows ") (length accepted.rows) ++ count_line (codes "granules ") (length accepted.granules)
+
+-- what is stored
+abbrev pub stored_lines : Table → Shape → List ℕ
+stored_lines table shape = column_lines table.columns shape.order ++ flat_map skip_line table.skips ++ projection_lines table.projections shape.projections
+
+-- the granules, and the last row
+abbrev pub row_lines : Key → Accepted → List ℕ
+row_lines key accepted = granule_lines key 0 accepted.granules accepted.rows ++ last_line key accepted.rows
+
+-- what show prints of an accepted part of this shape
+unfoldable pub show_text : Table → Shape → Accepted → List ℕ
+show_text table shape accepted = head_lines shape.compact accepted ++ stored_lines table shape ++ row_lines (primary_key table) accepted
