@@ -1,2 +1,1 @@
 pub mod CompactReading
-pub mod HeldRows

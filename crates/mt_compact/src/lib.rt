@@ -3,10 +3,8 @@
 //! `write_compact` gives exactly the writer's files, and `read_compact` the rows of any, or the first fault.
 #![tactic(auto)]
 
-mod law;
 mod reading;
 mod writing;
 
-pub use law::{compact_parts_are_read_exactly, compact_parts_have_one_list_of_rows};
 pub use reading::{read_column, read_compact};
 pub use writing::write_compact;

@@ -8,9 +8,9 @@ use Rattle.mt_table.specs.declared.limits.TheConstants.{MAX_COLUMNS, MAX_ROWS}
 use Rattle.mt_defs.specs.Folder.{Folder}
 use Rattle.mt_defs.specs.Part.{HasColumns, is_compact}
 use Rattle.mt_defs.specs.Rows.{Row, RowFits}
-use Rattle.mt_wide.specs.HeldRows as wide
+use Rattle.mt_law_read.specs.WideRows as wide
 use Rattle.mt_wide.specs.WideReading.{wide_reading}
-use Rattle.mt_compact.specs.HeldRows as compact
+use Rattle.mt_law_read.specs.CompactRows as compact
 use Rattle.mt_compact.specs.CompactReading.{compact_reading}
 use Rattle.mt_definition.specs.DataReading.{data_reading}
 use Rattle.mt_definition.proofs.DataLemmas.{of_layout}

@@ -16,12 +16,11 @@ ghost use Rattle.mt_law_checked.specs.Listed.{HasNames};
 ghost use Rattle.mt_law_checked.specs.Readable.{IsReadable};
 
 use mt_check::partitions_are_checked;
-use mt_compact::compact_parts_are_read_exactly;
+use mt_law_read::{compact_parts_are_read_exactly, wide_parts_are_read_exactly};
 use mt_law_written::definitions_are_stored;
 use mt_meta::{counts_are_read, listed_columns_are_read, only_lists_are_read};
 use mt_proj::projections_are_tested;
 use mt_skip::summaries_are_tested;
-use mt_wide::wide_parts_are_read_exactly;
 
 /// What each folder of a table stores can be read.
 pub fn definitions_are_readable()

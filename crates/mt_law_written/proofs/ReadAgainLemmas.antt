@@ -7,12 +7,12 @@ use Rattle.mt_table.specs.declared.limits.TheConstants.{MAX_COLUMNS, MAX_ROWS}
 use Rattle.mt_defs.specs.Folder.{Folder, folder_of}
 use Rattle.mt_defs.specs.Rows.{Row}
 use Rattle.mt_defs.specs.WrittenColumns.{compact_files, wide_files}
-use Rattle.mt_wide.specs.HeldRows as wide
+use Rattle.mt_law_read.specs.WideRows as wide
 use Rattle.mt_wide.specs.WideReading.{wide_reading}
-use Rattle.mt_wide.proofs.WideLawLemmas.{wide_exactly}
-use Rattle.mt_compact.specs.HeldRows as compact
+use Rattle.mt_law_read.proofs.WideLawLemmas.{wide_exactly}
+use Rattle.mt_law_read.specs.CompactRows as compact
 use Rattle.mt_compact.specs.CompactReading.{compact_reading}
-use Rattle.mt_compact.proofs.CompactLawLemmas.{compact_exactly}
+use Rattle.mt_law_read.proofs.CompactLawLemmas.{compact_exactly}
 use Rattle.mt_law_written.specs.Layouts.{AreLaidOut, HaveNames}
 use Rattle.mt_law_written.proofs.ListLemmas.{below_sum}
 use Rattle.mt_law_written.proofs.WideLemmas.{columns_hold, wide_held}

@@ -1,4 +1,3 @@
-pub mod HeldRows
 pub mod Names
 pub mod StreamFiles
 pub mod WideReading

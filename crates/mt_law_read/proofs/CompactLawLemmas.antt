@@ -37,7 +37,7 @@ use Rattle.mt_granules.proofs.PayloadsReadLemmas.{payloads_read}
 use Rattle.mt_granules.proofs.RowLemmas.{length-all_values, length-rows_of, sum-cons}
 use Rattle.mt_granules.proofs.StepLemmas.{blame_ok}
 use Rattle.mt_compact.specs.CompactReading.{column_reading, compact_reading, granule_reading, payload_reading, rows_reading, value_fault}
-use Rattle.mt_compact.specs.HeldRows.{HoldsRows}
+use Rattle.mt_law_read.specs.CompactRows.{HoldsRows}
 
 abbrev pub AreProfile : List Column → Type 0
 AreProfile = All (λ column. IsTrue (is_profile column.ty))

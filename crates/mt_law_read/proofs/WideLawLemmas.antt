@@ -28,12 +28,12 @@ use Rattle.mt_granules.proofs.IndexLemmas.{column_of_rows, cut_joined, list_all_
 use Rattle.mt_granules.proofs.OrderLemmas.{order_all, order_each}
 use Rattle.mt_granules.proofs.PayloadsHeldLemmas.{payloads_held}
 use Rattle.mt_granules.proofs.RowLemmas.{length-all_values, length-rows_of}
-use Rattle.mt_wide.specs.HeldRows.{HoldsRows}
+use Rattle.mt_law_read.specs.WideRows.{HoldsRows}
 use Rattle.mt_wide.specs.WideReading.{column_reading, first_stream, rows_reading, wide_granules, wide_reading}
 use Rattle.mt_wide.proofs.CountLemmas.{names_count}
 use Rattle.mt_wide.proofs.EncodedCountLemmas.{streams_some}
-use Rattle.mt_wide.proofs.ColumnLawLemmas.{ColumnIsHeld, column_held, column_is_read}
-use Rattle.mt_wide.proofs.StreamLawLemmas.{AreHeldGranules, first_read}
+use Rattle.mt_law_read.proofs.ColumnLawLemmas.{ColumnIsHeld, column_held, column_is_read}
+use Rattle.mt_law_read.proofs.StreamLawLemmas.{AreHeldGranules, first_read}
 
 abbrev AreProfile : List Column → Type 0
 AreProfile = All (λ column. IsTrue (is_profile column.ty))

@@ -33,7 +33,7 @@ use Rattle.mt_granules.proofs.StepLemmas.{blame_ok}
 use Rattle.mt_wide.specs.WideReading.{column_reading, granule_reading, payloads_at, stream_reading, value_fault}
 use Rattle.mt_wide.proofs.CountLemmas.{names_count}
 use Rattle.mt_wide.proofs.EncodedCountLemmas.{encoded_count}
-use Rattle.mt_wide.proofs.StreamLawLemmas.{AreHeldGranules, stream_held, stream_read}
+use Rattle.mt_law_read.proofs.StreamLawLemmas.{AreHeldGranules, stream_held, stream_read}
 
 -- ---- the substreams of a column, one after another
 

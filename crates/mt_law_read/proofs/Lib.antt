@@ -1,0 +1,4 @@
+pub mod StreamLawLemmas
+pub mod ColumnLawLemmas
+pub mod WideLawLemmas
+pub mod CompactLawLemmas

@@ -1,5 +1,0 @@
-use Rattle.mt_wide.proofs.WideLawLemmas.{wide_exactly}
-use Rattle.mt_wide.proofs.law.wide_parts_are_read_exactly.Goals as goal
-
-pub returns : goal.returns
-returns c = wide_exactly

@@ -1,5 +1,0 @@
-use Rattle.mt_wide.proofs.WideLawLemmas.{one_list}
-use Rattle.mt_wide.proofs.law.wide_parts_have_one_list_of_rows.Goals as goal
-
-pub returns : goal.returns
-returns c = one_list
