@@ -24,8 +24,8 @@ fn hash_of(row: &Row) -> u64 {
 fn different_arrays_have_different_hashes(rt: HostRuntime) -> Result<(), Fail> {
     let alloc = rt.alloc();
     let mut hashes = Vec::new(alloc);
-    for number in 0..4_000u32 {
-        hashes.push(hash_of(&row_of(alloc, number as i128)?))?;
+    for number in 0..4_000i128 {
+        hashes.push(hash_of(&row_of(alloc, number)?))?;
     }
     hashes.sort()?;
     let mut before = None;

@@ -1,7 +1,5 @@
 //! Each command once, over a table that has all that one may have, in both layouts.
 
-ghost use Rattle.std.specs.Prelude.{◌<◌};
-
 use crate::objects::{files_of, words_of};
 use mt_run::run;
 use mt_shelf::{NoGate, SureShelf, SureSink, SureSource};
@@ -91,9 +89,7 @@ fn printed<R: Threads + Sync>(
     words: &[&str],
     most: usize,
     shelf: &mut SureShelf,
-) -> Result<List<u8>, Fail>
-    requires { 0 < most }
-{
+) -> Result<List<u8>, Fail> {
     let words = words_of(alloc, words)?;
     let mut input = SureSource::new(List::of_bytes(alloc, INPUT.as_bytes())?, most);
     let mut output = SureSink::new(alloc, most);
@@ -122,25 +118,16 @@ fn joined(alloc: Global, pieces: &[&str]) -> Result<List<u8>, Fail> {
     Ok(text)
 }
 
-/// Whether each call prints what it should, where a read and a write move so many bytes at most.
-fn all_print<R: Threads + Sync>(rt: &R, alloc: Global, most: usize) -> Result<bool, Fail>
-    requires { 0 < most }
-{
-    let files = files_of(alloc, &[("c.sql", COMPACT), ("w.sql", WIDE)])?;
-    let mut shelf = SureShelf::new(alloc, files, most);
-    for (words, wanted) in CALLS {
-        let found = printed(rt, alloc, words, most, &mut shelf)?;
-        if found.as_slice() != joined(alloc, wanted)?.as_slice() {
-            return Ok(false);
-        }
-    }
-    Ok(true)
-}
-
 #[test]
 fn each_command_is_done(rt: HostRuntime) -> Result<(), Fail> {
     let alloc = rt.alloc();
-    assert!(rt; all_print(&rt, alloc, 1)?);
-    assert!(rt; all_print(&rt, alloc, 65536)?);
+    for most in [1usize, 65536] {
+        let files = files_of(alloc, &[("c.sql", COMPACT), ("w.sql", WIDE)])?;
+        let mut shelf = SureShelf::new(alloc, files, most);
+        for (words, wanted) in CALLS {
+            let found = printed(&rt, alloc, words, most, &mut shelf)?;
+            assert_eq!(rt; found.as_slice(), joined(alloc, wanted)?.as_slice());
+        }
+    }
     Ok(())
 }
