@@ -3,7 +3,5 @@ pub mod BlockLemmas
 pub mod HeaderLemmas
 pub mod LoopLemmas
 pub mod BytesLemmas
-pub mod TakingLemmas
-pub mod OneFrameLemmas
 pub mod LawLemmas
 pub mod WrittenLemmas

@@ -14,10 +14,9 @@ abbrev pub GivesPayload : List ℕ → Result ℕ FrameWhy → Result (Block × 
 GivesPayload bytes (Ok payload) reading = (block : Block) × (payload ≡ length block.payload) × (reading ≡ Ok (block, drop (HEADER_BYTES + payload) bytes))
 GivesPayload bytes (Err why) reading = reading ≡ Err why
 
--- a fault is the reading's, out of memory aside; no shelf is asked
+-- a fault is the reading's, out of memory aside
 abbrev pub FailsAs : FrameError → Result (List Block) (ℕ × FrameWhy) → Type 0
 FailsAs (error.At offset why) reading = reading ≡ Err (offset, why)
-FailsAs error.Shelf reading = ⊥
 FailsAs error.NoMemory reading = Unit {0}
 
 -- the frames are those that the file is read as

@@ -1,10 +1,8 @@
 //! Why no frame stands at an offset.
 
 ghost use Rattle.std.specs.Prelude.{◌≡◌};
-ghost use Rattle.mt_frame.specs.CallErrors.{of_call};
 ghost use Rattle.mt_frame.specs.declared.fault.FrameError.TheVariants as error;
 
-use mt_shelf::CallError;
 use mt_types::NoMemory;
 use std::error::Error;
 use std::fmt;
@@ -27,8 +25,6 @@ pub enum FrameWhy {
 pub enum FrameError {
     /// No frame stands at this offset of the file, in bytes.
     At { offset: u64, why: FrameWhy },
-    /// The shelf failed, and counted a fault.
-    Shelf,
     /// Memory was refused.
     NoMemory,
 }
@@ -50,7 +46,6 @@ impl fmt::Display for FrameError {
     fn fmt<W: fmt::Write>(&self, f: &mut fmt::Formatter<W>) -> fmt::Result {
         match self {
             FrameError::At { offset, why } => write!(f, "at {offset}: {why}"),
-            FrameError::Shelf => write!(f, "the shelf failed"),
             FrameError::NoMemory => write!(f, "no memory"),
         }
     }
@@ -63,16 +58,5 @@ impl From<NoMemory> for FrameError {
 
     fn from(_error: NoMemory) -> FrameError {
         FrameError::NoMemory
-    }
-}
-
-impl From<CallError> for FrameError {
-    ghost from_gives = { λ e r. r ≡ of_call e };
-
-    fn from(error: CallError) -> FrameError {
-        match error {
-            CallError::Failed => FrameError::Shelf,
-            CallError::NoMemory => FrameError::NoMemory,
-        }
     }
 }

@@ -17,7 +17,7 @@ const PAYLOAD_SIZE_OFFSET: usize = 21;
 
 /// The length of the payload of a frame with this header, where `left` bytes of the file remain from
 /// the frame's offset on.
-pub(crate) fn payload_len(header: &[u8], left: u64) -> Result<u64, FrameWhy>
+pub fn payload_len(header: &[u8], left: u64) -> Result<u64, FrameWhy>
     requires header { length header.now ≡ HEADER_BYTES }
     requires long { HEADER_BYTES ≤ left }
     ensures gives { (bytes : Seq ℕ) → take HEADER_BYTES bytes ≡ header.now → length bytes ≡ left

@@ -11,7 +11,7 @@ use mt_defs::{Frame, HEADER_BYTES, MAX_PAYLOAD};
 use mt_types::List;
 use std::alloc::Global;
 
-/// The frames of a whole file, or the first offset at which none stands. It never returns `Shelf`.
+/// The frames of a whole file, or the first offset at which none stands.
 pub fn frames_of(alloc: Global, file: &[u8]) -> Result<Frames, FrameError>
     ensures reads { GivesFrames result (frames_reading file.now) }
     ensures found { IfOk result (λ frames. AreFramesOf frames file.now) }

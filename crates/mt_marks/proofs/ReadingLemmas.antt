@@ -3,8 +3,8 @@ use Rattle.std.proofs.Common.{◌≡◌, ℕ, zero, suc, ◌*◌, ◌<◌, ◌�
 use Rattle.std.specs.Prelude.{Option, Some, None, Result, Ok, Err, option_map, if◌then◌else◌, ◌==◌, nat_le}
 use Rattle.std.proofs.lemmas.Bool.{lt-leb, le-leb}
 use Rattle.std.proofs.lemmas.List.{take_at, drop_at, length-map}
-use Rattle.mt_shelf.specs.declared.fault.Why.{Why}
-use Rattle.mt_shelf.specs.declared.fault.Why.TheVariants as why
+use Rattle.mt_fault.specs.declared.fault.Why.{Why}
+use Rattle.mt_fault.specs.declared.fault.Why.TheVariants as why
 use Rattle.mt_defs.specs.declared.mark.Mark.{Mark}
 use Rattle.mt_frame.specs.declared.frames.Frames.{Frames}
 use Rattle.mt_types.specs.Steps.{◌>>=◌, require, ok_or}

@@ -1,6 +1,6 @@
 -- What the readers of marks give.
 use Rattle.std.specs.Prelude.{◌≡◌, ℕ, Option, Some, None, Result, Ok, Err}
-use Rattle.mt_shelf.specs.declared.fault.Why.{Why}
+use Rattle.mt_fault.specs.declared.fault.Why.{Why}
 use Rattle.mt_marks.specs.declared.marks.Marks.{Marks}
 use Rattle.mt_marks.specs.declared.fault.MarksError.{MarksError}
 use Rattle.mt_marks.specs.declared.fault.MarksError.TheVariants.{At, NoMemory}

@@ -9,8 +9,8 @@ use crate::fault::MarksError;
 use crate::marks::Marks;
 use crate::rules::{Former, check_mark};
 use mt_defs::Mark;
+use mt_fault::Why;
 use mt_frame::Frames;
-use mt_shelf::Why;
 
 /// Whether the marks keep the rules, or the first that is broken, with its entry.
 pub(crate) fn check_marks(marks: &Marks, frames: &Frames) -> Result<(), MarksError>

@@ -3,7 +3,7 @@
 ghost use Rattle.std.specs.Prelude.{◌≡◌};
 ghost use Rattle.mt_marks.specs.declared.fault.MarksError.TheVariants as error;
 
-use mt_shelf::Why;
+use mt_fault::Why;
 use mt_types::NoMemory;
 use std::error::Error;
 use std::fmt;

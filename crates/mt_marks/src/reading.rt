@@ -9,8 +9,8 @@ use crate::entries::check_marks;
 use crate::fault::MarksError;
 use crate::marks::{MAX_PER_GRANULE, Marks};
 use crate::raw::raw_marks;
+use mt_fault::Why;
 use mt_frame::Frames;
-use mt_shelf::Why;
 use std::alloc::Global;
 
 /// The marks of a `.mrk2` file: one for each granule of the data file that has these frames. `At` names

@@ -5,8 +5,8 @@ ghost use Rattle.mt_marks.specs.MarkReading.{payload_len, mark_reading};
 
 use crate::position::resolve;
 use mt_defs::{HEADER_BYTES, Mark};
+use mt_fault::Why;
 use mt_frame::Frames;
-use mt_shelf::Why;
 
 /// A mark that keeps the rules, and its position.
 #[derive(Clone, Copy)]

@@ -8,7 +8,7 @@ use Rattle.std.specs.FinMap.{get, insert, get-insert, get-empty}
 use Rattle.mt_shelf.specs.Bytes.{AreBytes, HasBytes, AllHoldBytes}
 use Rattle.mt_shelf.specs.Files.{Files}
 use Rattle.mt_shelf.specs.Held.{files_in, with_files}
-use Rattle.mt_shelf.specs.declared.file.FileBytes.{FileBytes}
+use Rattle.mt_fault.specs.declared.file.FileBytes.{FileBytes}
 
 -- the numbers of a slice
 pub are_bytes : (bytes : List ℕ) → ((i : ℕ) → Fits w8 (get_or bytes i 0)) → AreBytes bytes

@@ -15,7 +15,7 @@ use Rattle.std.specs.declared.cmp.Ordering.{Ordering}
 use Rattle.std.specs.declared.cmp.Ordering.TheVariants.{Less, Equal, Greater}
 use Rattle.mt_shelf.specs.Files.{Files, is_file_path}
 use Rattle.mt_shelf.specs.Held.{pair_of, files_in, IsFirst, names_in, all_paths, AllDiffer}
-use Rattle.mt_shelf.specs.declared.file.FileBytes.{FileBytes}
+use Rattle.mt_fault.specs.declared.file.FileBytes.{FileBytes}
 
 -- what a path has in a list
 abbrev pub at_path : List ℕ → List FileBytes → Option (List ℕ)

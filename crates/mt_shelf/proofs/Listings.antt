@@ -23,7 +23,7 @@ use Rattle.std.specs.declared.cmp.Ordering.{Ordering}
 use Rattle.std.specs.declared.cmp.Ordering.TheVariants.{Less, Equal, Greater}
 use Rattle.mt_shelf.specs.Held.{by_order, with_entry, with_entry_if, with_entry_of, names_in, files_in, pair_of}
 use Rattle.mt_shelf.specs.declared.file.Entry.{Entry}
-use Rattle.mt_shelf.specs.declared.file.FileBytes.{FileBytes}
+use Rattle.mt_fault.specs.declared.file.FileBytes.{FileBytes}
 
 pub any-names : (p : List ℕ → Bool) (held : List FileBytes) → list_any p (names_in held) ≡ list_any (λ f. p f.name) held
 any-names p [] = refl

@@ -12,7 +12,7 @@ use Rattle.std.specs.FinMap.{insert}
 use Rattle.mt_shelf.specs.Paths.{names_of, onto_first, is_name, is_relative, is_path, joined_path, name_below}
 use Rattle.mt_shelf.specs.Files.{Files, gained_files, is_file_path, is_file_name}
 use Rattle.mt_shelf.specs.Held.{all_paths, put_of, draft_in, with_files, is_put, HasName}
-use Rattle.mt_shelf.specs.declared.file.FileBytes.{FileBytes}
+use Rattle.mt_fault.specs.declared.file.FileBytes.{FileBytes}
 
 pub below_joined : (target name : List ℕ) → name_below target (joined_path target name) ≡ Some name
 below_joined [] name = refl

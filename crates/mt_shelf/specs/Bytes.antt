@@ -2,7 +2,7 @@
 use Rattle.std.specs.Prelude.{◌≡◌, ◌<◌, ℕ, List, All, Some}
 use Rattle.std.specs.FinMap.{get}
 use Rattle.mt_shelf.specs.Files.{Files}
-use Rattle.mt_shelf.specs.declared.file.FileBytes.{FileBytes}
+use Rattle.mt_fault.specs.declared.file.FileBytes.{FileBytes}
 
 -- each number is a byte
 abbrev pub AreBytes : List ℕ → Type 0

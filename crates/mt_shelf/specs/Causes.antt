@@ -2,6 +2,10 @@
 use Rattle.std.specs.Prelude.{◌≡◌, ℕ, ◌+◌, ◌-◌, ◌^◌, ◌≤◌, min, max, Result, OnOk, OnErr, IsErrOf}
 use Rattle.mt_shelf.specs.declared.causes.CallError.{CallError}
 use Rattle.mt_shelf.specs.declared.causes.CallError.TheVariants.{Failed, NoMemory}
+use Rattle.mt_shelf.specs.declared.error.ReadError.{ReadError}
+use Rattle.mt_shelf.specs.declared.error.ReadError.TheVariants as read
+use Rattle.mt_fault.specs.declared.error.FileError.{FileError}
+use Rattle.mt_fault.specs.declared.error.FileError.TheVariants as file
 
 -- the count has risen, or stands at its last value
 abbrev pub Rose : ℕ → ℕ → Type 0
@@ -23,3 +27,8 @@ pub record HasCause {T : Type 0} (before now : ℕ) (result : Result T CallError
   pub failed : IsErrOf result Failed → Rose before now
   pub memory : IsErrOf result NoMemory → now ≡ before
   pub kept : OnOk result (now ≡ before)
+
+-- why files in memory weren't read, as the error of a reader that asks a shelf too
+abbrev pub read_error : FileError → ReadError
+read_error (file.AtFault fault) = read.AtFault fault
+read_error file.NoMemory = read.NoMemory

@@ -10,7 +10,7 @@ use Rattle.mt_shelf.specs.Paths.{name_below, is_relative}
 use Rattle.mt_shelf.specs.Files.{Files, Draft, is_file_path}
 use Rattle.std.specs.declared.cmp.Ordering.{Ordering}
 use Rattle.std.specs.declared.cmp.Ordering.TheVariants.{Less, Equal, Greater}
-use Rattle.mt_shelf.specs.declared.file.FileBytes.{FileBytes}
+use Rattle.mt_fault.specs.declared.file.FileBytes.{FileBytes}
 use Rattle.mt_shelf.specs.declared.file.Entry.{Entry}
 
 -- the name and the bytes

@@ -10,7 +10,7 @@ use Rattle.std.proofs.lemmas.Cmp.{nat_list_cmp_total}
 use Rattle.std.specs.declared.cmp.Ordering.TheVariants.{Less, Equal, Greater}
 use Rattle.mt_shelf.specs.Held.{by_order, files_in, names_in, all_paths}
 use Rattle.mt_shelf.specs.Files.{HasPaths, is_file_path}
-use Rattle.mt_shelf.specs.declared.file.FileBytes.{FileBytes}
+use Rattle.mt_fault.specs.declared.file.FileBytes.{FileBytes}
 
 abbrev Pair : Type 0
 Pair = List ℕ × List ℕ

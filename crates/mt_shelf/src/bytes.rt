@@ -2,7 +2,7 @@
 ghost use Rattle.std.specs.Prelude.{IfOk, ◌≡◌, ◌<◌, ◌≤◌, ◌+◌, ◌-◌, length, take, drop};
 ghost use Rattle.mt_shelf.specs.Bytes.{AreBytes, AllHoldBytes};
 
-use crate::FileBytes;
+use mt_fault::FileBytes;
 use mt_types::NoMemory;
 use std::alloc::Global;
 

@@ -3,8 +3,9 @@ ghost use Rattle.std.specs.Prelude.{◌≡◌, IfOk, OnOk};
 ghost use Rattle.mt_shelf.specs.Files.{entries_below};
 ghost use Rattle.mt_shelf.specs.Held.{pair_of, files_in, with_entry, with_entry_of};
 
+use crate::Entry;
 use crate::paths::name_below;
-use crate::{Entry, FileBytes};
+use mt_fault::FileBytes;
 use mt_types::{List, NoMemory};
 use std::alloc::Global;
 use std::cmp::Ordering;

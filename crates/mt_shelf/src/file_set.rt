@@ -6,7 +6,8 @@ ghost use Rattle.mt_shelf.specs.Held.{files_in, all_paths, AllDiffer};
 ghost use Rattle.mt_shelf.specs.declared.file_set.PutError.TheVariants.{NotAPath};
 
 use crate::held::set_file;
-use crate::{FileBytes, is_path};
+use crate::is_path;
+use mt_fault::FileBytes;
 use mt_types::{List, NoMemory};
 use std::alloc::Global;
 use std::error::Error;

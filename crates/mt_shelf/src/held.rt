@@ -7,8 +7,8 @@ ghost use Rattle.mt_shelf.specs.Paths.{is_at_or_below};
 ghost use Rattle.mt_shelf.specs.Files.{is_file_path, stands};
 ghost use Rattle.mt_shelf.specs.Held.{files_in, all_paths, AllDiffer, with_files, IsFirst};
 
-use crate::FileBytes;
 use crate::paths::is_at_or_below;
+use mt_fault::FileBytes;
 use mt_types::NoMemory;
 
 /// The index of the first file of a path.

@@ -7,8 +7,8 @@
 mod bytes;
 mod causes;
 mod entries;
+mod error;
 mod failures;
-mod fault;
 mod file;
 mod file_set;
 mod gate;
@@ -24,8 +24,8 @@ mod sure_shelf;
 mod writing;
 
 pub use causes::{CallError, Failed};
-pub use fault::{Fault, ReadError, Why};
-pub use file::{Entry, FileBytes};
+pub use error::ReadError;
+pub use file::Entry;
 pub use file_set::{FileSet, PutError};
 pub use gate::{Gate, NoGate};
 pub use mem_shelf::MemShelf;

@@ -4,7 +4,8 @@ ghost use Rattle.mt_shelf.specs.Held.{files_in, all_paths, AllDiffer};
 ghost use Rattle.mt_shelf.specs.State.{files_of};
 
 use crate::failures::Failures;
-use crate::{CallError, Entry, FileBytes, Shelf, SureShelf};
+use crate::{CallError, Entry, Shelf, SureShelf};
+use mt_fault::FileBytes;
 use mt_types::List;
 use std::alloc::Global;
 

@@ -11,7 +11,8 @@ use crate::bytes::{copy_bytes, copy_some, know_files, rest_from};
 use crate::entries::entries_below;
 use crate::held::{position_of, set_files, stands};
 use crate::paths::joined_path;
-use crate::{CallError, Entry, FileBytes, Shelf};
+use crate::{CallError, Entry, Shelf};
+use mt_fault::FileBytes;
 use mt_types::{List, NoMemory};
 use std::alloc::Global;
 

@@ -13,7 +13,8 @@ ghost use Rattle.mt_shelf.specs.Streams.{GrowsByPrefix};
 
 use crate::bytes::rest_from;
 use crate::paths::is_file_name;
-use crate::{CallError, FileBytes, Shelf, Sink};
+use crate::{CallError, Shelf, Sink};
+use mt_fault::FileBytes;
 
 /// Writes all bytes. After an error the first of them are written.
 pub fn write_all<K: Sink>(sink: &mut K, bytes: &[u8]) -> Result<(), CallError>

@@ -1,6 +1,7 @@
 //! Calls that mean the same over every shelf, each printed with what it gave.
 
-use mt_shelf::{CallError, FileBytes, Shelf, have_names, is_path, read_file, store};
+use mt_fault::FileBytes;
+use mt_shelf::{CallError, Shelf, have_names, is_path, read_file, store};
 use mt_types::List;
 use std::io;
 

@@ -1,7 +1,7 @@
 use Rattle.std.proofs.Common.{◌-◌, List, ◌∙◌, sym, ap, arith}
 use Rattle.mt_shelf.specs.Files.{entries_below}
 use Rattle.mt_shelf.specs.Held.{files_in, with_entry_of, pair_of}
-use Rattle.mt_shelf.specs.declared.file.FileBytes.{FileBytes}
+use Rattle.mt_fault.specs.declared.file.FileBytes.{FileBytes}
 use Rattle.mt_shelf.proofs.Listings.{entries_below-nil, listed_from}
 use Rattle.std.proofs.Math.Seq.{drop-length}
 use Rattle.mt_shelf.proofs.entries.entries_below.Goals as goal

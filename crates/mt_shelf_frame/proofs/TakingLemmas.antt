@@ -7,7 +7,7 @@ use Rattle.std.proofs.lemmas.List.{drop-drop}
 use Rattle.mt_shelf.specs.Causes.{grown_count}
 use Rattle.mt_shelf.specs.Files.{Files}
 use Rattle.mt_shelf.specs.State.{State, after_read, ReadsUpTo}
-use Rattle.mt_frame.specs.Taking.{KnownBytes}
+use Rattle.mt_shelf_frame.specs.Taking.{KnownBytes}
 
 pub grown_twice : (t a b : ℕ) → grown_count (grown_count t a) b ≡ grown_count t (a + b)
 grown_twice t a b = omega arith

@@ -1,8 +1,8 @@
 use Rattle.std.proofs.Common.{◌≡◌, ◌∙◌, ◌+◌, ap, arith, subst, take, drop}
 use Rattle.mt_shelf.specs.State.{State, files_of, after_read}
-use Rattle.mt_frame.specs.Taking.{KnownBytes}
-use Rattle.mt_frame.proofs.TakingLemmas.{read_twice, known_so, known_both, filled}
-use Rattle.mt_frame.proofs.one_frame.fill.Goals as goal
+use Rattle.mt_shelf_frame.specs.Taking.{KnownBytes}
+use Rattle.mt_shelf_frame.proofs.TakingLemmas.{read_twice, known_so, known_both, filled}
+use Rattle.mt_shelf_frame.proofs.one_frame.fill.Goals as goal
 
 pub loop-done-preserved : goal.loop-done-preserved
 loop-done-preserved g c =

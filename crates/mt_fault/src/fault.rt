@@ -84,26 +84,3 @@ impl fmt::Display for Fault {
 }
 
 impl Error for Fault {}
-
-/// Why a part wasn't read.
-#[derive(Debug, Drop)]
-pub enum ReadError {
-    /// The part's first fault.
-    AtFault(Fault),
-    /// The shelf failed, and counted a fault.
-    Shelf,
-    /// Memory was refused.
-    NoMemory,
-}
-
-impl fmt::Display for ReadError {
-    fn fmt<W: fmt::Write>(&self, f: &mut fmt::Formatter<W>) -> fmt::Result {
-        match self {
-            ReadError::AtFault(fault) => write!(f, "{fault}"),
-            ReadError::Shelf => write!(f, "the shelf failed"),
-            ReadError::NoMemory => write!(f, "no memory"),
-        }
-    }
-}
-
-impl Error for ReadError {}

@@ -9,7 +9,7 @@ use Rattle.mt_frame.specs.FrameReading.{frame_reading, u32_at}
 use Rattle.mt_frame.proofs.BlockLemmas.{header_facts}
 use Rattle.mt_frame.specs.declared.fault.FrameWhy.{FrameWhy}
 use Rattle.mt_frame.specs.Results.{GivesPayload}
-use Rattle.mt_frame.specs.Taking.{IsFrameAt, frame_len}
+use Rattle.mt_shelf_frame.specs.Taking.{IsFrameAt, frame_len}
 
 -- a first's payload stands after the header
 pub payload_there : (first : List ℕ) (c : Block) (rest : List ℕ) → frame_reading first ≡ Ok (c, rest) → take (length c.payload) (drop 25 first) ≡ c.payload

@@ -1,7 +1,7 @@
 use Rattle.std.proofs.Common.{◌≡◌, ◌≤◌, ◌-◌, length, take, drop}
 use Rattle.mt_shelf.specs.State.{files_of, after_read}
-use Rattle.mt_frame.specs.Taking.{KnownBytes}
-use Rattle.mt_frame.proofs.one_frame.fill.Given as goal
+use Rattle.mt_shelf_frame.specs.Taking.{KnownBytes}
+use Rattle.mt_shelf_frame.proofs.one_frame.fill.Given as goal
 
 abbrev pub invariant-loop-done : goal.invariant-loop-done
 invariant-loop-done g l = record {

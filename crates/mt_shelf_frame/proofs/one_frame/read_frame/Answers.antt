@@ -2,11 +2,11 @@ use Rattle.std.proofs.Common.{◌≡◌, ◌∙◌, ◌+◌, ◌-◌, ap, arith,
 use Rattle.std.specs.Prelude.{Ok}
 use Rattle.std.proofs.lemmas.List.{length-drop}
 use Rattle.mt_shelf.specs.State.{State, files_of, after_read}
-use Rattle.mt_frame.specs.Taking.{KnownBytes}
+use Rattle.mt_shelf_frame.specs.Taking.{KnownBytes}
 use Rattle.mt_frame.proofs.HeaderLemmas.{is_short}
-use Rattle.mt_frame.proofs.TakingLemmas.{read_twice, read_at_most, known_so, known_both, reads_on, reads_within}
-use Rattle.mt_frame.proofs.OneFrameLemmas.{reading_of, whole_frame, frame_taken}
-use Rattle.mt_frame.proofs.one_frame.read_frame.Goals as goal
+use Rattle.mt_shelf_frame.proofs.TakingLemmas.{read_twice, read_at_most, known_so, known_both, reads_on, reads_within}
+use Rattle.mt_shelf_frame.proofs.OneFrameLemmas.{reading_of, whole_frame, frame_taken}
+use Rattle.mt_shelf_frame.proofs.one_frame.read_frame.Goals as goal
 
 pub returns-then-left-clause-reads : goal.returns-then-left-clause-reads
 returns-then-left-clause-reads g c =

@@ -5,11 +5,11 @@ ghost use Rattle.mt_shelf.specs.Causes.{HasCause};
 ghost use Rattle.mt_shelf.specs.Paths.{is_path};
 ghost use Rattle.mt_shelf.specs.State.{files_of, after_read, ReadsUpTo};
 ghost use Rattle.mt_frame.specs.FrameReading.{frame_reading};
-ghost use Rattle.mt_frame.specs.Taking.{KnownBytes, GivesFrame, HasFrameCause, IsAfter, frame_len};
+ghost use Rattle.mt_shelf_frame.specs.Taking.{KnownBytes, GivesFrame, HasFrameCause, IsAfter, frame_len};
 
-use crate::fault::{FrameError, FrameWhy};
-use crate::header::payload_len;
+use crate::error::ReadFrameError;
 use mt_defs::{HEADER_BYTES, MAX_PAYLOAD};
+use mt_frame::{FrameWhy, payload_len};
 use mt_shelf::{CallError, Shelf};
 use mt_types::List;
 use std::alloc::Global;
@@ -23,7 +23,7 @@ pub fn read_frame<F: Shelf>(
     size: u64,
     at: u64,
     into: &mut List<u8>,
-) -> Result<u64, FrameError>
+) -> Result<u64, ReadFrameError>
     requires path { IsTrue (is_path path.now) }
     requires at { at < size }
     requires size { KnownBytes (files_of (F.state shelf.old)) path.now (λ bytes. length bytes ≡ size) }
@@ -42,7 +42,7 @@ pub fn read_frame<F: Shelf>(
     *into = List::new(alloc);
     let left = size - at;
     if left < HEADER_BYTES as u64 {
-        return Err(FrameError::At {
+        return Err(ReadFrameError::At {
             offset: at,
             why: FrameWhy::Cut,
         });
@@ -50,7 +50,7 @@ pub fn read_frame<F: Shelf>(
     let mut header = [0u8; HEADER_BYTES as usize];
     fill(shelf, path, at, &mut header)?;
     match payload_len(&header, left) {
-        Err(why) => Err(FrameError::At { offset: at, why }),
+        Err(why) => Err(ReadFrameError::At { offset: at, why }),
         Ok(payload) => {
             let bytes = read_bytes(alloc, shelf, path, at + HEADER_BYTES as u64, payload)?;
             *into = bytes;
