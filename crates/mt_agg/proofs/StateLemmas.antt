@@ -1,105 +1,76 @@
--- States as values of their types, and the items of integers and dates.
-use Rattle.std.proofs.Common.{◌≡◌, ℕ, suc, ◌+◌, ◌-◌, ◌/◌, ◌%◌, ◌^◌, ◌<◌, ℤ, pos, negsuc, Bool, true, false, List, [], ◌∷◌, take, get_or, add_comm, add-one, refl, ap, sym, ◌∙◌, arith}
-use Rattle.std.specs.Prelude.{Option, Some, None}
+-- States as values of their types.
+use Rattle.std.proofs.Common.{◌≡◌, ℕ, ◌+◌, ◌/◌, ◌%◌, ◌^◌, ℤ, Bool, true, false, List, [], ◌∷◌, take, get_or, add_comm, add-one, Bor, refl, ap, sym, ◌∙◌, subst, arith}
+use Rattle.std.specs.Prelude.{Option, Some, None, IsSome, option_copied}
 use Rattle.std.specs.Int.{w64, w128, to_le_bytes, cast_unsigned}
-use Rattle.std.proofs.lemmas.Bool.{ltb-true}
 use Rattle.mt_types.specs.declared.ty.Agg.{Agg}
 use Rattle.mt_types.specs.declared.ty.Agg.TheVariants.{Sum, Min, Max}
 use Rattle.mt_types.specs.declared.ty.Width.{Width}
-use Rattle.mt_types.specs.declared.ty.Width.TheVariants.{W8, W16, W32, W64}
-use Rattle.mt_types.specs.declared.ty.Ty.{Ty, map-Ty, out-Ty}
+use Rattle.mt_types.specs.declared.ty.Width.TheVariants.{W8, W16, W32, W64, W128}
+use Rattle.mt_types.specs.declared.ty.Ty.{Ty, out-Ty}
 use Rattle.mt_types.specs.declared.ty.Ty.TheOpen.{Ty-F}
-use Rattle.mt_types.specs.declared.ty.Ty.TheVariants.{CountState, outs-UInt, outs-Int, outs-Date, outs-CountState, State as StateOf, outs-State as outs-StateOf}
-use Rattle.mt_types.specs.declared.ty.Ty.TheFolds.{fold_out-Ty}
+use Rattle.mt_types.specs.declared.ty.Ty.TheVariants.{CountState, outs-CountState, State as StateOf, outs-State as outs-StateOf}
 use Rattle.mt_types.specs.declared.value.AggState.{AggState}
 use Rattle.mt_types.specs.declared.value.AggState.TheVariants as state
 use Rattle.mt_types.specs.declared.value.Value.{Value}
 use Rattle.mt_types.specs.declared.value.Value.TheVariants.{Num, outs-Num, State, outs-State}
 use Rattle.mt_types.specs.Leb128.{leb128}
-use Rattle.mt_types.specs.Fits.{state_at, fits_of, fits_step, is_state_of, is_count, is_least_of, is_unsigned, is_signed, bits}
-use Rattle.mt_types.specs.Items.{state_at as state_of_level, item_bytes, item_step, held, state_bytes, whole, width}
+use Rattle.mt_types.specs.Fits.{state_at, fits_of, is_state_of, is_count, is_least_of}
+use Rattle.mt_types.specs.Items.{state_at as state_of_level, item_bytes, held, state_bytes}
+use Rattle.mt_types.specs.Numbers.{bits_in, is_argument_at, is_argument_type, is_narrow, number_size, number_size_at, width_size}
 use Rattle.mt_types.specs.Profile.{Kind, Whole, Day, Stored, kind_of, state_kind, is_known, is_profile}
 use Rattle.mt_types.proofs.Levels.{kind-State}
-use Rattle.mt_types.proofs.KindLemmas.{IsNumber, Known, unsigned, signed, day, text, fixed, optional, nested, stored, counted, outside, known, least_argument, greatest_argument}
-use Rattle.std.specs.Prelude.{IsSome, option_copied}
-use Rattle.std.proofs.Common.{Bor, subst}
-use Rattle.mt_agg.specs.States.{state_type, is_number_type, is_number_at, number_size, number_size_at, width_size}
+use Rattle.mt_types.proofs.KindLemmas.{IsNumber, known, least_argument, greatest_argument}
+use Rattle.mt_types.proofs.NumberLemmas.{argument_known, argument_number, fits_at, item_at, number_item}
+use Rattle.mt_agg.specs.States.{state_type}
 
--- which values a type of this level has
-pub fits_at : (t : Ty) (level : Ty-F Ty) → out-Ty t ≡ level → fits_of t ≡ fits_step (map-Ty Ty (Value → Bool) fits_of level)
-fits_at t level is = fold_out-Ty (Value → Bool) fits_step t ∙ ap (λ l. fits_step (map-Ty Ty (Value → Bool) fits_of l)) is
+-- ---- what min and max have gathered
 
--- the items of a type of this level
-pub item_at : (t : Ty) (level : Ty-F Ty) → out-Ty t ≡ level → item_bytes t ≡ item_step (map-Ty Ty (Value → List ℕ) item_bytes level)
-item_at t level is = fold_out-Ty (Value → List ℕ) item_step t ∙ ap (λ l. item_step (map-Ty Ty (Value → List ℕ) item_bytes l)) is
+-- the low bytes of 64 bits are those of 128
+low_bytes : (w : Width) → is_narrow w ≡ true → (n : ℕ) → take (width_size w) (to_le_bytes w64 (n % 2 ^ 64)) ≡ take (width_size w) (to_le_bytes w128 n)
+low_bytes W8 is n = let one : n % 2 ^ 64 % 256 ≡ n % 256 = omega arith in rw one refl
+low_bytes W16 is n =
+    let one : n % 2 ^ 64 % 256 ≡ n % 256 = omega arith in
+    let two : n % 2 ^ 64 / 256 % 256 ≡ n / 256 % 256 = omega arith in
+    rw (one, two) refl
+low_bytes W32 is n =
+    let one : n % 2 ^ 64 % 256 ≡ n % 256 = omega arith in
+    let two : n % 2 ^ 64 / 256 % 256 ≡ n / 256 % 256 = omega arith in
+    let three : n % 2 ^ 64 / 65536 % 256 ≡ n / 65536 % 256 = omega arith in
+    let four : n % 2 ^ 64 / 16777216 % 256 ≡ n / 16777216 % 256 = omega arith in
+    rw (one, two, three, four) refl
+low_bytes W64 is n =
+    let one : n % 2 ^ 64 % 256 ≡ n % 256 = omega arith in
+    let two : n % 2 ^ 64 / 256 % 256 ≡ n / 256 % 256 = omega arith in
+    let three : n % 2 ^ 64 / 65536 % 256 ≡ n / 65536 % 256 = omega arith in
+    let four : n % 2 ^ 64 / 16777216 % 256 ≡ n / 16777216 % 256 = omega arith in
+    let five : n % 2 ^ 64 / 4294967296 % 256 ≡ n / 4294967296 % 256 = omega arith in
+    let six : n % 2 ^ 64 / 1099511627776 % 256 ≡ n / 1099511627776 % 256 = omega arith in
+    let seven : n % 2 ^ 64 / 281474976710656 % 256 ≡ n / 281474976710656 % 256 = omega arith in
+    let eight : n % 2 ^ 64 / 72057594037927936 % 256 ≡ n / 72057594037927936 % 256 = omega arith in
+    rw (one, two, three, four, five, six, seven, eight) refl
+low_bytes W128 is n = cc
 
--- ---- numbers
+low_level : (level : Ty-F Ty) (n : ℕ) → is_argument_at level ≡ true → take (number_size_at level) (to_le_bytes w64 (n % 2 ^ 64)) ≡ take (number_size_at level) (to_le_bytes w128 n)
+low_level (Ty-F.UInt w) n is = low_bytes w is n
+low_level (Ty-F.Int w) n is = low_bytes w is n
+low_level Ty-F.Date n is = low_bytes W16 refl n
+low_level _ n is = cc
 
--- the first low bytes of a number are those of its width
-unsigned_bytes : (w : Width) (n : ℤ) → is_unsigned (bits w) n ≡ true → whole (width w) n ≡ take (width_size w) (to_le_bytes w64 (cast_unsigned w128 n % 2 ^ 64))
-unsigned_bytes W8 (pos m) fits = let small : m < 2 ^ 8 = ltb-true m (2 ^ 8) fits in let same : m % 2 ^ 64 ≡ m = omega arith in rw same refl
-unsigned_bytes W16 (pos m) fits = let small : m < 2 ^ 16 = ltb-true m (2 ^ 16) fits in let same : m % 2 ^ 64 ≡ m = omega arith in rw same refl
-unsigned_bytes W32 (pos m) fits = let small : m < 2 ^ 32 = ltb-true m (2 ^ 32) fits in let same : m % 2 ^ 64 ≡ m = omega arith in rw same refl
-unsigned_bytes W64 (pos m) fits = let small : m < 2 ^ 64 = ltb-true m (2 ^ 64) fits in let same : m % 2 ^ 64 ≡ m = omega arith in rw same refl
-unsigned_bytes w (negsuc m) fits = cc
-
--- and so they are of a signed number
-signed_bytes : (w : Width) (n : ℤ) → is_signed (bits w) n ≡ true → whole (width w) n ≡ take (width_size w) (to_le_bytes w64 (cast_unsigned w128 n % 2 ^ 64))
-signed_bytes W8 (pos m) fits = let small : m < 2 ^ 7 = ltb-true m (2 ^ 7) fits in let same : m % 2 ^ 64 ≡ m = omega arith in rw same refl
-signed_bytes W16 (pos m) fits = let small : m < 2 ^ 15 = ltb-true m (2 ^ 15) fits in let same : m % 2 ^ 64 ≡ m = omega arith in rw same refl
-signed_bytes W32 (pos m) fits = let small : m < 2 ^ 31 = ltb-true m (2 ^ 31) fits in let same : m % 2 ^ 64 ≡ m = omega arith in rw same refl
-signed_bytes W64 (pos m) fits = let small : m < 2 ^ 63 = ltb-true m (2 ^ 63) fits in let same : m % 2 ^ 64 ≡ m = omega arith in rw same refl
-signed_bytes W8 (negsuc m) fits =
-    let small : m < 2 ^ 7 = ltb-true m (2 ^ 7) fits in
-    let same : (2 ^ 128 - suc m) % 2 ^ 64 ≡ 2 ^ 64 - suc m = omega arith in
-    let low : (2 ^ 8 - suc m) % 256 ≡ (2 ^ 64 - suc m) % 256 = omega arith in
-    rw (same, low) refl
-signed_bytes W16 (negsuc m) fits =
-    let small : m < 2 ^ 15 = ltb-true m (2 ^ 15) fits in
-    let same : (2 ^ 128 - suc m) % 2 ^ 64 ≡ 2 ^ 64 - suc m = omega arith in
-    let low : (2 ^ 16 - suc m) % 256 ≡ (2 ^ 64 - suc m) % 256 = omega arith in
-    let next : (2 ^ 16 - suc m) / 256 % 256 ≡ (2 ^ 64 - suc m) / 256 % 256 = omega arith in
-    rw (same, low, next) refl
-signed_bytes W32 (negsuc m) fits =
-    let small : m < 2 ^ 31 = ltb-true m (2 ^ 31) fits in
-    let same : (2 ^ 128 - suc m) % 2 ^ 64 ≡ 2 ^ 64 - suc m = omega arith in
-    let one : (2 ^ 32 - suc m) % 256 ≡ (2 ^ 64 - suc m) % 256 = omega arith in
-    let two : (2 ^ 32 - suc m) / 256 % 256 ≡ (2 ^ 64 - suc m) / 256 % 256 = omega arith in
-    let three : (2 ^ 32 - suc m) / 65536 % 256 ≡ (2 ^ 64 - suc m) / 65536 % 256 = omega arith in
-    let four : (2 ^ 32 - suc m) / 16777216 % 256 ≡ (2 ^ 64 - suc m) / 16777216 % 256 = omega arith in
-    rw (same, one, two, three, four) refl
-signed_bytes W64 (negsuc m) fits =
-    let small : m < 2 ^ 63 = ltb-true m (2 ^ 63) fits in
-    let same : (2 ^ 128 - suc m) % 2 ^ 64 ≡ 2 ^ 64 - suc m = omega arith in
-    rw same refl
-
--- ---- items of integers and dates
-
-number_level : (level : Ty-F Ty) (n : ℤ) → is_number_at level ≡ true → fits_step (map-Ty Ty (Value → Bool) fits_of level) (Num n) ≡ true
-    → item_step (map-Ty Ty (Value → List ℕ) item_bytes level) (Num n) ≡ take (number_size_at level) (to_le_bytes w64 (cast_unsigned w128 n % 2 ^ 64))
-number_level (Ty-F.UInt w) n is fits = rw (outs-Num n) (unsigned_bytes w n (rw (outs-Num n) at fits))
-number_level (Ty-F.Int w) n is fits = rw (outs-Num n) (signed_bytes w n (rw (outs-Num n) at fits))
-number_level Ty-F.Date n is fits = rw (outs-Num n) (unsigned_bytes W16 n (rw (outs-Num n) at fits))
-number_level (Ty-F.FixedString size) n is fits = cc
-number_level Ty-F.Str n is fits = cc
-number_level (Ty-F.Nullable t) n is fits = cc
-number_level (Ty-F.Array t) n is fits = cc
-number_level (Ty-F.State agg t) n is fits = cc
-number_level Ty-F.CountState n is fits = cc
-
--- the item of a number is the first of its low bytes
-pub number_item : (t : Ty) (n : ℤ) → is_number_type t ≡ true → fits_of t (Num n) ≡ true → item_bytes t (Num n) ≡ take (number_size t) (to_le_bytes w64 (cast_unsigned w128 n % 2 ^ 64))
-number_item t n is fits =
-    ap (λ f. f (Num n)) (item_at t (out-Ty t) refl) ∙ number_level (out-Ty t) n is (ap (λ f. f (Num n)) (sym (fits_at t (out-Ty t) refl)) ∙ fits)
+-- the item of a number of a type that min and max are over is the first of its low bytes
+argument_item : (t : Ty) (n : ℤ) → is_argument_type t ≡ true → fits_of t (Num n) ≡ true → item_bytes t (Num n) ≡ take (number_size t) (to_le_bytes w64 (cast_unsigned w128 n % 2 ^ 64))
+argument_item t n is fits =
+    number_item t (Num n) (argument_number t is) fits
+    ∙ ap (λ m. take (number_size t) (to_le_bytes w128 m)) (ap bits_in (outs-Num n))
+    ∙ sym (low_level (out-Ty t) (cast_unsigned w128 n) is)
 
 -- what a state of min or max that has a number is stored as
-pub held_number : (t : Ty) (held_one : Option ℤ) (n : ℤ) (low size : ℕ) (eight : List ℕ) → is_number_type t ≡ true → is_least_of (fits_of t) held_one ≡ true → held_one ≡ Some n
+pub held_number : (t : Ty) (held_one : Option ℤ) (n : ℤ) (low size : ℕ) (eight : List ℕ) → is_argument_type t ≡ true → is_least_of (fits_of t) held_one ≡ true → held_one ≡ Some n
     → low ≡ cast_unsigned w128 n % 2 ^ 64 → eight ≡ to_le_bytes w64 low → size ≡ number_size t
     → take (1 + size) (1 ∷ (get_or eight 0 0 ∷ (get_or eight 1 0 ∷ (get_or eight 2 0 ∷ (get_or eight 3 0 ∷ (get_or eight 4 0 ∷ (get_or eight 5 0 ∷ (get_or eight 6 0 ∷ (get_or eight 7 0 ∷ []))))))))) ≡ held (item_bytes t) held_one
 held_number t held_one n low size eight is fits some l e s =
     let fit : fits_of t (Num n) ≡ true = ap (is_least_of (fits_of t)) (sym some) ∙ fits in
     let one : take (1 + size) (1 ∷ to_le_bytes w64 low) ≡ 1 ∷ take size (to_le_bytes w64 low) = ap (λ k. take k (1 ∷ to_le_bytes w64 low)) (add_comm 1 size ∙ add-one size) in
-    rw e (one ∙ rw (l, s, some) (ap (λ bs. 1 ∷ bs) (sym (number_item t n is fit))))
+    rw e (one ∙ rw (l, s, some) (ap (λ bs. 1 ∷ bs) (sym (argument_item t n is fit))))
 
 -- ---- states as values
 
@@ -131,7 +102,7 @@ sum_stored (state.Greatest n) argument other is fits = cc
 pub record IsHeld (s : AggState) (argument : Option Ty) (n : Option ℤ) : Type 0 where
   pub ty : Ty
   pub is : argument ≡ Some ty
-  pub number : (t : Ty) → Some t ≡ argument → is_profile (state_type s argument) ≡ true → is_number_type t ≡ true
+  pub argued : (t : Ty) → Some t ≡ argument → is_profile (state_type s argument) ≡ true → is_argument_type t ≡ true
   pub fits : (t : Ty) → Some t ≡ argument → is_least_of (fits_of t) n ≡ true
   pub stored : (t : Ty) → Some t ≡ argument → item_bytes (state_type s argument) (State s) ≡ held (item_bytes t) n
 
@@ -147,28 +118,15 @@ stored_kind Sum _ is = cc
 stored_kind Min _ is = cc
 stored_kind Max _ is = cc
 
--- the types of a number's kind
-pub number_known : (t : Ty) → Known t → IsNumber (kind_of t) → is_number_type t ≡ true
-number_known t (unsigned w is k) number = ap is_number_type is ∙ ap is_number_at (outs-UInt w)
-number_known t (signed w is k) number = ap is_number_type is ∙ ap is_number_at (outs-Int w)
-number_known t (day is k) number = ap is_number_type is ∙ ap is_number_at outs-Date
-number_known t (text is k) number = absurd (subst IsNumber k number)
-number_known t (fixed n is low high k) number = absurd (subst IsNumber k number)
-number_known t (optional inner is scalar k) number = absurd (subst IsNumber k number)
-number_known t (nested inner depth is e k) number = absurd (subst IsNumber k number)
-number_known t (stored agg inner is e k) number = absurd (subst IsNumber k number)
-number_known t (counted is k) number = absurd (subst IsNumber k number)
-number_known t (outside k) number = absurd (subst IsNumber k number)
-
 -- the arguments of min and max
-number_argument : (t : Ty) (agg : Agg) → ((k : Kind) → state_kind agg k ≡ Stored → IsNumber k) → is_known (state_kind agg (kind_of t)) ≡ true → is_number_type t ≡ true
-number_argument t agg argument is = number_known t (known t) (argument (kind_of t) (stored_kind agg (kind_of t) is))
+number_argument : (t : Ty) (agg : Agg) → ((k : Kind) → state_kind agg k ≡ Stored → IsNumber k) → is_known (state_kind agg (kind_of t)) ≡ true → is_argument_type t ≡ true
+number_argument t agg argument is = argument_known t (known t) (argument (kind_of t) (stored_kind agg (kind_of t) is))
 
 least_is : (n : Option ℤ) (u : Ty) → fits_of (StateOf Min u) (State (state.Least n)) ≡ true → IsHeld (state.Least n) (Some u) n
 least_is n u fits = record {
   ty = u;
   is = refl;
-  number = λ t e profile. ap is_number_type (same_argument t u e) ∙ number_argument u Min least_argument (sym (ap is_known (kind-State Min u)) ∙ profile);
+  argued = λ t e profile. ap is_argument_type (same_argument t u e) ∙ number_argument u Min least_argument (sym (ap is_known (kind-State Min u)) ∙ profile);
   fits = λ t e. ap (λ t. is_least_of (fits_of t) n) (same_argument t u e) ∙ sym (fits_state Min u (state.Least n)) ∙ fits;
   stored = λ t e. item_state Min u (state.Least n) ∙ ap (λ t. held (item_bytes t) n) (sym (same_argument t u e));
 }
@@ -177,7 +135,7 @@ greatest_is : (n : Option ℤ) (u : Ty) → fits_of (StateOf Max u) (State (stat
 greatest_is n u fits = record {
   ty = u;
   is = refl;
-  number = λ t e profile. ap is_number_type (same_argument t u e) ∙ number_argument u Max greatest_argument (sym (ap is_known (kind-State Max u)) ∙ profile);
+  argued = λ t e profile. ap is_argument_type (same_argument t u e) ∙ number_argument u Max greatest_argument (sym (ap is_known (kind-State Max u)) ∙ profile);
   fits = λ t e. ap (λ t. is_least_of (fits_of t) n) (same_argument t u e) ∙ sym (fits_state Max u (state.Greatest n)) ∙ fits;
   stored = λ t e. item_state Max u (state.Greatest n) ∙ ap (λ t. held (item_bytes t) n) (sym (same_argument t u e));
 }

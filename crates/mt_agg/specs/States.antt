@@ -3,8 +3,6 @@
 use Rattle.std.specs.Prelude.{ℕ, ◌+◌, ◌%◌, ◌^◌, ℤ, pos, Bool, true, false, if◌then◌else◌, Option, Some, None, unwrap_or}
 use Rattle.std.specs.Int.{w64, w128, cast_signed, cast_unsigned}
 use Rattle.mt_types.specs.declared.ty.Agg.TheVariants.{Sum, Min, Max}
-use Rattle.mt_types.specs.declared.ty.Width.{Width}
-use Rattle.mt_types.specs.declared.ty.Width.TheVariants.{W8, W16, W32, W64}
 use Rattle.mt_types.specs.declared.ty.Ty.{Ty, out-Ty}
 use Rattle.mt_types.specs.declared.ty.Ty.TheOpen.{Ty-F}
 use Rattle.mt_types.specs.declared.ty.Ty.TheVariants.{State, CountState}
@@ -44,32 +42,3 @@ finished argument (state.Count rows) = pos rows
 finished argument (state.Sum sum) = if is_signed_argument argument then cast_signed w64 sum else pos sum
 finished argument (state.Least least) = unwrap_or least (pos 0)
 finished argument (state.Greatest greatest) = unwrap_or greatest (pos 0)
-
--- ---- integers and dates, which min and max are over
-
-abbrev pub is_number_at : {X : Type 0} → Ty-F X → Bool
-is_number_at (Ty-F.UInt width) = true
-is_number_at (Ty-F.Int width) = true
-is_number_at Ty-F.Date = true
-is_number_at _ = false
-
--- a type of integers or dates
-abbrev pub is_number_type : Ty → Bool
-is_number_type ty = is_number_at (out-Ty ty)
-
--- the bytes of an integer
-abbrev pub width_size : Width → ℕ
-width_size W8 = 1
-width_size W16 = 2
-width_size W32 = 4
-width_size W64 = 8
-
-abbrev pub number_size_at : {X : Type 0} → Ty-F X → ℕ
-number_size_at (Ty-F.UInt width) = width_size width
-number_size_at (Ty-F.Int width) = width_size width
-number_size_at Ty-F.Date = 2
-number_size_at _ = 0
-
--- the bytes of an item of integers or dates
-abbrev pub number_size : Ty → ℕ
-number_size ty = number_size_at (out-Ty ty)

@@ -11,4 +11,3 @@ mod state;
 
 pub use folding::Folding;
 pub use law::merged_states_are_folds;
-pub use number::number_size;

@@ -5,10 +5,10 @@ ghost use Rattle.std.specs.Option.{option_copied};
 ghost use Rattle.mt_types.specs.Fits.{fits_of, is_least_of};
 ghost use Rattle.mt_types.specs.Items.{held, item_bytes};
 ghost use Rattle.mt_types.specs.Leb128.{leb128};
-ghost use Rattle.mt_agg.specs.States as defined;
+ghost use Rattle.mt_types.specs.Numbers.{is_argument_type};
 
 use crate::join::low_bits;
-use mt_types::{List, NoMemory, Ty, Width, varint_put};
+use mt_types::{List, NoMemory, Ty, number_size, varint_put};
 
 /// Appends the shortest encoding of a count.
 pub fn put_count(rows: u64, out: &mut List<u8>) -> Result<(), NoMemory>
@@ -31,9 +31,9 @@ pub fn argument_of(arg: Option<&Ty>) -> &Ty
     }
 }
 
-/// Appends byte 0 for nothing, or byte 1 and the number's item in a type of integers or dates.
+/// Appends byte 0 for nothing, or byte 1 and the number's item.
 pub fn put_held(ty: &Ty, number: Option<i128>, out: &mut List<u8>) -> Result<(), NoMemory>
-    requires number { IsTrue (defined.is_number_type ty.now) }
+    requires argument { IsTrue (is_argument_type ty.now) }
     requires fits { IsTrue (is_least_of (fits_of ty.now) number) }
     ensures ok { OnOk result (out.new ≡ out.old ++ held (item_bytes ty.now) number) }
     ensures err { OnErr result (out.new ≡ out.old) }
@@ -43,28 +43,4 @@ pub fn put_held(ty: &Ty, number: Option<i128>, out: &mut List<u8>) -> Result<(),
     };
     let [a, b, c, d, e, f, g, h] = low_bits(number).to_le_bytes();
     out.append(&[1, a, b, c, d, e, f, g, h][..1 + number_size(ty)])
-}
-
-/// The bytes of an item of integers or dates.
-pub fn number_size(ty: &Ty) -> usize
-    requires { IsTrue (defined.is_number_type ty.now) }
-    ensures { result ≡ defined.number_size ty.now }
-{
-    match ty {
-        Ty::UInt(width) => width_size(*width),
-        Ty::Int(width) => width_size(*width),
-        Ty::Date => 2,
-        _ => unreachable!(),
-    }
-}
-
-fn width_size(width: Width) -> usize
-    ensures { result ≡ defined.width_size width }
-{
-    match width {
-        Width::W8 => 1,
-        Width::W16 => 2,
-        Width::W32 => 4,
-        Width::W64 => 8,
-    }
 }

@@ -30,6 +30,7 @@ level_of_type apart (Ty-F.Int w) = refl
 level_of_type apart (Ty-F.FixedString n) = refl
 level_of_type apart Ty-F.Str = refl
 level_of_type apart Ty-F.Date = refl
+level_of_type apart Ty-F.Moment = refl
 level_of_type apart (Ty-F.Nullable t) = ap (λ u. Ty-F.Nullable u) t.1
 level_of_type apart (Ty-F.Array t) = ap (λ u. Ty-F.Array u) t.1
 level_of_type apart (Ty-F.State agg t) = ap (λ u. Ty-F.State agg u) t.1
@@ -60,6 +61,7 @@ column_single apart t (Ty-F.Int w) is single = column_at apart t (Ty-F.Int w) is
 column_single apart t (Ty-F.FixedString n) is single = column_at apart t (Ty-F.FixedString n) is
 column_single apart t Ty-F.Str is single = column_at apart t Ty-F.Str is
 column_single apart t Ty-F.Date is single = column_at apart t Ty-F.Date is
+column_single apart t Ty-F.Moment is single = column_at apart t Ty-F.Moment is
 column_single apart t (Ty-F.State agg u) is single = column_at apart t (Ty-F.State agg u) is
 column_single apart t Ty-F.CountState is single = column_at apart t Ty-F.CountState is
 

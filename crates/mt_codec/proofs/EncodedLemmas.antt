@@ -22,9 +22,9 @@ use Rattle.mt_defs.specs.Lists.{Pointwise}
 use Rattle.mt_defs.specs.Encoding.{Encodes, EncodesAs, EncodesNullable, EncodesArray, EncodesItems, Encoding, IsItemFor, encoding_step, null_byte, size_bytes}
 use Rattle.mt_defs.specs.WrittenStreams.{written_streams, or_default, arrays_of, elements_at}
 use Rattle.mt_defs.proofs.Encoders.{EncodesAs_out}
-use Rattle.mt_agg.proofs.StateLemmas.{fits_at}
+use Rattle.mt_types.proofs.NumberLemmas.{fits_at}
 use Rattle.mt_codec.specs.Runs.{fits_or_null}
-use Rattle.mt_codec.specs.StreamOrder.{array_levels}
+use Rattle.mt_defs.specs.FileNames.{array_levels}
 use Rattle.mt_codec.proofs.WrittenLemmas.{IsSingleLevel, single_at, written_Nullable, written_Array, default_fits_too, array_inside, nullable_fit, array_fit, nullable_level}
 
 -- what substreams of a type of this level say
@@ -49,6 +49,7 @@ items_fit t (v ∷ values) fit = let p = and_parts _ _ fit in and_from _ _ (defa
 array_value : (f : Value → Bool) (v : Value) (level : Value-F Value) → out-Value v ≡ level → list_at (λ items. nat_le (length items) MAX_ELEMENTS && list_all f items) level ≡ true → v ≡ Items (elements_at level)
 array_value f v (Value-F.List items) is fit = sym (roll-out-Value v) ∙ ap roll-Value (is ∙ sym (outs-Items items)) ∙ roll-out-Value (Items items)
 array_value f v (Value-F.Num n) is fit = cc
+array_value f v (Value-F.Huge n) is fit = cc
 array_value f v (Value-F.Text bytes) is fit = cc
 array_value f v Value-F.Null is fit = cc
 array_value f v (Value-F.State s) is fit = cc
@@ -82,6 +83,7 @@ single_encodes t level is single = at_level level is single
     at_level (Ty-F.FixedString n) is single = encodes_at t (Ty-F.FixedString n) is ∙ same (Ty-F.FixedString n) is
     at_level Ty-F.Str is single = encodes_at t Ty-F.Str is ∙ same Ty-F.Str is
     at_level Ty-F.Date is single = encodes_at t Ty-F.Date is ∙ same Ty-F.Date is
+    at_level Ty-F.Moment is single = encodes_at t Ty-F.Moment is ∙ same Ty-F.Moment is
     at_level (Ty-F.State agg u) is single = encodes_at t (Ty-F.State agg u) is ∙ same (Ty-F.State agg u) is
     at_level Ty-F.CountState is single = encodes_at t Ty-F.CountState is ∙ same Ty-F.CountState is
 
@@ -115,6 +117,7 @@ encoded_within depth t (Ty-F.Int w) is few profile values fit = single_encoded t
 encoded_within depth t (Ty-F.FixedString n) is few profile values fit = single_encoded t (Ty-F.FixedString n) is tt values
 encoded_within depth t Ty-F.Str is few profile values fit = single_encoded t Ty-F.Str is tt values
 encoded_within depth t Ty-F.Date is few profile values fit = single_encoded t Ty-F.Date is tt values
+encoded_within depth t Ty-F.Moment is few profile values fit = single_encoded t Ty-F.Moment is tt values
 encoded_within depth t (Ty-F.State agg u) is few profile values fit = single_encoded t (Ty-F.State agg u) is tt values
 encoded_within depth t Ty-F.CountState is few profile values fit = single_encoded t Ty-F.CountState is tt values
 encoded_within depth t (Ty-F.Nullable u) is few profile values fit =

@@ -202,6 +202,7 @@ bytes_alone (byte ∷ bytes) = ap (λ (bs : List ℕ). byte ∷ bs) (bytes_alone
 null_value : (v : Value) (level : Value-F Value) → out-Value v ≡ level → is_null_at level ≡ true → v ≡ Null
 null_value v Value-F.Null is e = sym (roll-out-Value v) ∙ ap roll-Value (is ∙ sym outs-Null) ∙ roll-out-Value Null
 null_value v (Value-F.Num n) is e = cc
+null_value v (Value-F.Huge n) is e = cc
 null_value v (Value-F.Text t) is e = cc
 null_value v (Value-F.List xs) is e = cc
 null_value v (Value-F.State s) is e = cc

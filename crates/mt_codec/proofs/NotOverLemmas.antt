@@ -1,7 +1,7 @@
 -- Where substreams follow each other, no fault is that bytes are left.
 use Rattle.std.proofs.Common.{◌≡◌, ◌≢◌, ℕ, zero, suc, ◌+◌, ◌-◌, ◌*◌, ◌≤◌, Bool, true, false, List, [], ◌∷◌, length, take, drop, sum, Result, Ok, Err, refl, ap, sym, ◌∙◌, subst, arith, Some, None}
 use Rattle.std.specs.Prelude.{◌==◌, ℤ, pos, nat_le, nat_lt, not, if◌then◌else◌}
-use Rattle.std.specs.Int.{Width as Bits, w16, w64, byte_len, from_le_bytes, cast_signed}
+use Rattle.std.specs.Int.{Width as Bits, w16, w32, w64, byte_len, from_le_bytes, cast_signed}
 use Rattle.mt_types.specs.declared.limits.TheConstants.{MAX_TEXT, MAX_ELEMENTS}
 use Rattle.mt_types.specs.declared.ty.Agg.{Agg}
 use Rattle.mt_types.specs.declared.ty.Agg.TheVariants.{Sum, Min, Max}
@@ -10,7 +10,8 @@ use Rattle.mt_types.specs.declared.ty.Ty.TheOpen.{Ty-F}
 use Rattle.mt_types.specs.declared.ty.Ty.TheVariants.{Nullable, Array, outs-Nullable, outs-Array}
 use Rattle.mt_types.specs.declared.value.AggState.TheVariants as state
 use Rattle.mt_types.specs.declared.value.Value.{Value}
-use Rattle.mt_types.specs.declared.value.Value.TheVariants.{Num, Text, State}
+use Rattle.mt_types.specs.declared.value.Value.TheVariants.{Text, State}
+use Rattle.mt_types.specs.Fits.{number_value}
 use Rattle.mt_types.specs.Items.{width}
 use Rattle.mt_types.specs.Profile.{is_profile}
 use Rattle.mt_types.specs.Steps.{◌>>=◌, require, at}
@@ -19,7 +20,7 @@ use Rattle.mt_item.specs.declared.fault.CodecWhy.{CodecWhy}
 use Rattle.mt_item.specs.declared.fault.CodecWhy.TheVariants.{Short, Over, Length, NullByte, HasByte, TooLong}
 use Rattle.mt_item.specs.ItemReading.{First, read_as, bytes_front, whole_front, with_low, later_front, leb128_front, text_front, number_front, held_front, state_front, item_front, item_front_at}
 use Rattle.mt_codec.specs.ColumnReading.{Read, Column, items_from, after_items, stream_from, null_front, size_front, nullable_from, array_from, nulled, arrays_from, column_from, front_reading, bytes_left}
-use Rattle.mt_codec.specs.StreamOrder.{array_levels}
+use Rattle.mt_defs.specs.FileNames.{array_levels}
 use Rattle.mt_codec.proofs.WrittenLemmas.{IsSingleLevel, nullable_level, array_inside}
 use Rattle.mt_codec.proofs.ColumnLemmas.{column_Nullable, column_Array, column_single}
 
@@ -99,6 +100,7 @@ number_only : (level : Ty-F Ty) (bytes : List ℕ) → FailsOnly IsOther (number
 number_only (Ty-F.UInt w) bytes = as_only (λ n. pos n) (whole_front (width w) bytes) (whole_only (width w) bytes)
 number_only (Ty-F.Int w) bytes = as_only (cast_signed (width w)) (whole_front (width w) bytes) (whole_only (width w) bytes)
 number_only Ty-F.Date bytes = as_only (λ n. pos n) (whole_front w16 bytes) (whole_only w16 bytes)
+number_only Ty-F.Moment bytes = as_only (λ n. pos n) (whole_front w32 bytes) (whole_only w32 bytes)
 number_only (Ty-F.FixedString size) bytes = short_other
 number_only Ty-F.Str bytes = short_other
 number_only (Ty-F.Nullable u) bytes = short_other
@@ -118,8 +120,8 @@ state_only Sum level bytes = as_only (λ n. state.Sum n) (whole_front w64 bytes)
 state_only Min level bytes = as_only (λ n. state.Least n) (held_front (number_front level) bytes) (held_only (number_front level) (number_only level) bytes)
 state_only Max level bytes = as_only (λ n. state.Greatest n) (held_front (number_front level) bytes) (held_only (number_front level) (number_only level) bytes)
 
-num_only : (level : Ty-F Ty) (bytes : List ℕ) → FailsOnly IsOther (read_as (λ n. Num n) (number_front level bytes))
-num_only level bytes = as_only (λ n. Num n) (number_front level bytes) (number_only level bytes)
+num_only : (level : Ty-F Ty) (bytes : List ℕ) → FailsOnly IsOther (read_as number_value (number_front level bytes))
+num_only level bytes = as_only number_value (number_front level bytes) (number_only level bytes)
 
 item_at_only : (level : Ty-F Ty) (bytes : List ℕ) → FailsOnly IsOther (item_front_at level bytes)
 item_at_only (Ty-F.FixedString size) bytes = as_only (λ text. Text text) (bytes_front size bytes) (bytes_only size bytes)
@@ -129,6 +131,7 @@ item_at_only Ty-F.CountState bytes = as_only (λ n. State (state.Count n)) (leb1
 item_at_only (Ty-F.UInt w) bytes = num_only (Ty-F.UInt w) bytes
 item_at_only (Ty-F.Int w) bytes = num_only (Ty-F.Int w) bytes
 item_at_only Ty-F.Date bytes = num_only Ty-F.Date bytes
+item_at_only Ty-F.Moment bytes = num_only Ty-F.Moment bytes
 item_at_only (Ty-F.Nullable u) bytes = num_only (Ty-F.Nullable u) bytes
 item_at_only (Ty-F.Array u) bytes = num_only (Ty-F.Array u) bytes
 
@@ -203,6 +206,7 @@ column_only depth t (Ty-F.Int w) is few profile = single_only t (Ty-F.Int w) is 
 column_only depth t (Ty-F.FixedString n) is few profile = single_only t (Ty-F.FixedString n) is tt
 column_only depth t Ty-F.Str is few profile = single_only t Ty-F.Str is tt
 column_only depth t Ty-F.Date is few profile = single_only t Ty-F.Date is tt
+column_only depth t Ty-F.Moment is few profile = single_only t Ty-F.Moment is tt
 column_only depth t (Ty-F.State agg u) is few profile = single_only t (Ty-F.State agg u) is tt
 column_only depth t Ty-F.CountState is few profile = single_only t Ty-F.CountState is tt
 column_only depth t (Ty-F.Nullable u) is few profile =

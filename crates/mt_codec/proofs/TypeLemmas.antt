@@ -15,14 +15,15 @@ use Rattle.mt_types.specs.Steps.{◌>>=◌}
 use Rattle.mt_types.proofs.Levels.{same_level}
 use Rattle.mt_types.proofs.StepLemmas.{ok_then, ok_pair, ok_one}
 use Rattle.mt_defs.specs.Encoding.{Encodes, EncodesAs, EncodesItems, EncodesNullable, EncodesArray, Encoding, is_null}
-use Rattle.mt_agg.proofs.StateLemmas.{fits_at}
+use Rattle.mt_types.proofs.NumberLemmas.{fits_at}
 use Rattle.mt_item.proofs.LengthLemmas.{Small}
 use Rattle.mt_item.specs.ItemReading.{item_front}
 use Rattle.mt_item.specs.ItemTypes.{has_items_at}
 use Rattle.mt_item.proofs.ItemLemmas.{item_exact}
 use Rattle.mt_codec.specs.declared.stream.Stream.{Stream}
 use Rattle.mt_codec.specs.ColumnReading.{Read, Column, column_from, stream_from, nullable_from, array_from, decode_reading, front_reading, bytes_left}
-use Rattle.mt_codec.specs.StreamOrder.{order_step, streams_from, streams_of, array_levels}
+use Rattle.mt_defs.specs.FileNames.{array_levels}
+use Rattle.mt_codec.specs.StreamOrder.{order_step, streams_from, streams_of}
 use Rattle.mt_codec.proofs.WrittenLemmas.{IsSingleLevel, single_at, nullable_level, nullable_inside, array_inside, level_items}
 use Rattle.mt_codec.proofs.EncodedLemmas.{encodes_at, single_encodes}
 use Rattle.mt_codec.proofs.ColumnLemmas.{column_Nullable, column_Array, column_single}
@@ -45,6 +46,7 @@ single_streams t (Ty-F.Int w) is single depth = ap (λ (s : List Stream). length
 single_streams t (Ty-F.FixedString n) is single depth = ap (λ (s : List Stream). length s) (order_at t (Ty-F.FixedString n) depth is)
 single_streams t Ty-F.Str is single depth = ap (λ (s : List Stream). length s) (order_at t Ty-F.Str depth is)
 single_streams t Ty-F.Date is single depth = ap (λ (s : List Stream). length s) (order_at t Ty-F.Date depth is)
+single_streams t Ty-F.Moment is single depth = ap (λ (s : List Stream). length s) (order_at t Ty-F.Moment depth is)
 single_streams t (Ty-F.State agg u) is single depth = ap (λ (s : List Stream). length s) (order_at t (Ty-F.State agg u) depth is)
 single_streams t Ty-F.CountState is single depth = ap (λ (s : List Stream). length s) (order_at t Ty-F.CountState depth is)
 
@@ -104,6 +106,7 @@ read_within apart depth t (Ty-F.Int w) is few profile = single_read apart t (Ty-
 read_within apart depth t (Ty-F.FixedString n) is few profile = single_read apart t (Ty-F.FixedString n) profile is tt
 read_within apart depth t Ty-F.Str is few profile = single_read apart t Ty-F.Str profile is tt
 read_within apart depth t Ty-F.Date is few profile = single_read apart t Ty-F.Date profile is tt
+read_within apart depth t Ty-F.Moment is few profile = single_read apart t Ty-F.Moment profile is tt
 read_within apart depth t (Ty-F.State agg u) is few profile = single_read apart t (Ty-F.State agg u) profile is tt
 read_within apart depth t Ty-F.CountState is few profile = single_read apart t Ty-F.CountState profile is tt
 read_within apart depth t (Ty-F.Nullable u) is few profile =

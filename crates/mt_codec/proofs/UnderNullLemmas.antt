@@ -17,7 +17,7 @@ use Rattle.mt_types.proofs.Levels.{same_level}
 use Rattle.mt_defs.specs.Lists.{Pointwise}
 use Rattle.mt_defs.specs.Encoding.{Encoding, Encodes, EncodesAs, EncodesNullable, EncodesArray, IsItemFor, is_null, null_byte, size_bytes}
 use Rattle.mt_codec.specs.UnderNull.{Alike, AgreeUnder, AlikeNullable, AlikeArray, DifferUnderNull, alike_step}
-use Rattle.mt_codec.specs.StreamOrder.{array_levels}
+use Rattle.mt_defs.specs.FileNames.{array_levels}
 use Rattle.mt_codec.proofs.WrittenLemmas.{IsSingleLevel, array_inside}
 use Rattle.mt_codec.proofs.EncodedLemmas.{encodes_at, single_encodes}
 
@@ -28,6 +28,7 @@ step_natural X type_of alike (Ty-F.Int w) = refl
 step_natural X type_of alike (Ty-F.FixedString n) = refl
 step_natural X type_of alike Ty-F.Str = refl
 step_natural X type_of alike Ty-F.Date = refl
+step_natural X type_of alike Ty-F.Moment = refl
 step_natural X type_of alike (Ty-F.Nullable u) = refl
 step_natural X type_of alike (Ty-F.Array u) = refl
 step_natural X type_of alike (Ty-F.State agg u) = refl
@@ -50,6 +51,7 @@ single_same t (Ty-F.Int w) is single = alike_at t (Ty-F.Int w) is
 single_same t (Ty-F.FixedString n) is single = alike_at t (Ty-F.FixedString n) is
 single_same t Ty-F.Str is single = alike_at t Ty-F.Str is
 single_same t Ty-F.Date is single = alike_at t Ty-F.Date is
+single_same t Ty-F.Moment is single = alike_at t Ty-F.Moment is
 single_same t (Ty-F.State agg u) is single = alike_at t (Ty-F.State agg u) is
 single_same t Ty-F.CountState is single = alike_at t Ty-F.CountState is
 
@@ -125,6 +127,7 @@ alike_within depth t (Ty-F.Int w) is few profile = single_alike t (Ty-F.Int w) i
 alike_within depth t (Ty-F.FixedString n) is few profile = single_alike t (Ty-F.FixedString n) is tt
 alike_within depth t Ty-F.Str is few profile = single_alike t Ty-F.Str is tt
 alike_within depth t Ty-F.Date is few profile = single_alike t Ty-F.Date is tt
+alike_within depth t Ty-F.Moment is few profile = single_alike t Ty-F.Moment is tt
 alike_within depth t (Ty-F.State agg u) is few profile = single_alike t (Ty-F.State agg u) is tt
 alike_within depth t Ty-F.CountState is few profile = single_alike t Ty-F.CountState is tt
 alike_within depth t (Ty-F.Nullable u) is few profile = subst AreAlike (sym (same_level t (Nullable u) (is ∙ sym (outs-Nullable u)))) (nullable_alike u)

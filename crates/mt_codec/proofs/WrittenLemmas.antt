@@ -8,25 +8,27 @@ use Rattle.std.proofs.lemmas.List.Folds.{flat_map-map, list_all-append}
 use Rattle.std.proofs.lemmas.Bool.{and_parts, and_from, or_right}
 use Rattle.mt_types.specs.declared.limits.TheConstants.{MAX_TEXT, MAX_ELEMENTS, MAX_ARRAY_DEPTH}
 use Rattle.mt_types.specs.Bytes.{is_byte}
+use Rattle.mt_types.specs.declared.ty.Width.{Width}
+use Rattle.mt_types.specs.declared.ty.Width.TheVariants.{W8, W16, W32, W64, W128}
 use Rattle.mt_types.specs.declared.ty.Ty.{Ty, map-Ty, out-Ty, roll-Ty}
 use Rattle.mt_types.specs.declared.ty.Ty.TheOpen.{Ty-F}
-use Rattle.mt_types.specs.declared.ty.Ty.TheVariants.{Nullable, Array, outs-UInt, outs-Int, outs-Date, outs-Str, outs-FixedString, outs-Nullable, outs-Array}
+use Rattle.mt_types.specs.declared.ty.Ty.TheVariants.{Nullable, Array, outs-UInt, outs-Int, outs-Date, outs-Moment, outs-Str, outs-FixedString, outs-Nullable, outs-Array}
 use Rattle.mt_types.specs.declared.ty.Ty.TheFolds.{fold-Ty, fold_out-Ty, fold-roll-Ty, ind-Ty}
 use Rattle.mt_types.specs.declared.value.AggState.{AggState}
 use Rattle.mt_types.specs.declared.value.Value.{Value, out-Value}
 use Rattle.mt_types.specs.declared.value.Value.TheOpen.{Value-F}
 use Rattle.mt_types.specs.Defaults.{default_of}
-use Rattle.mt_types.specs.Fits.{fits_of, fits_step, bits, is_unsigned, is_signed, num_at, text_at, list_at, state_at, is_state_of, is_count}
+use Rattle.mt_types.specs.Fits.{fits_of, fits_step, bits, natural_at, is_unsigned, is_signed, num_at, text_at, list_at, state_at, is_state_of, is_count}
 use Rattle.mt_types.specs.Items.{item_bytes}
-use Rattle.mt_types.specs.Profile.{Kind, Whole, Day, Bytes, Optional, Nested, Stored, Unknown, kind_of, optional_kind, array_kind, is_known, is_profile}
+use Rattle.mt_types.specs.Profile.{Kind, Whole, Day, Plain, Optional, Nested, Stored, Unknown, kind_of, optional_kind, array_kind, is_known, is_profile}
 use Rattle.mt_types.proofs.DefaultLemmas.{default_fits}
 use Rattle.mt_types.proofs.Levels.{same_level, kind-Nullable, kind-Array}
-use Rattle.mt_types.proofs.KindLemmas.{IsScalar, Known, unsigned, signed, day, text, fixed, optional, nested, stored, counted, outside, known}
+use Rattle.mt_types.proofs.KindLemmas.{IsScalar, Known, unsigned, signed, day, moment, text, fixed, optional, nested, stored, counted, outside, known}
+use Rattle.mt_types.proofs.NumberLemmas.{fits_at}
 use Rattle.mt_defs.specs.Encoding.{is_null, is_null_at, null_byte, size_bytes}
 use Rattle.mt_defs.specs.WrittenStreams.{Encoder, encoder_step, streams_step, written_streams, or_default, arrays_of, elements_at}
-use Rattle.mt_agg.proofs.StateLemmas.{fits_at}
 use Rattle.mt_item.specs.ItemTypes.{has_items, has_items_at}
-use Rattle.mt_codec.specs.StreamOrder.{array_levels, levels_of_kind}
+use Rattle.mt_defs.specs.FileNames.{array_levels, levels_of_kind}
 use Rattle.mt_codec.specs.Runs.{null_item, size_item, written_item, fits_or_null}
 
 -- an encoder is of its own type
@@ -45,6 +47,7 @@ level_of_type (Ty-F.Int w) = refl
 level_of_type (Ty-F.FixedString n) = refl
 level_of_type Ty-F.Str = refl
 level_of_type Ty-F.Date = refl
+level_of_type Ty-F.Moment = refl
 level_of_type (Ty-F.Nullable t) = ap (λ u. Ty-F.Nullable u) t.1
 level_of_type (Ty-F.Array t) = ap (λ u. Ty-F.Array u) t.1
 level_of_type (Ty-F.State agg t) = ap (λ u. Ty-F.State agg u) t.1
@@ -84,13 +87,27 @@ pub record IsSingle (t : Ty) : Type 0 where
 
 num_not_null : (test : ℤ → Bool) (l : Value-F Value) → num_at test l ≡ true → is_null_at l ≡ false
 num_not_null test (Value-F.Num n) e = refl
+num_not_null test (Value-F.Huge n) e = refl
 num_not_null test (Value-F.Text bytes) e = refl
 num_not_null test Value-F.Null e = cc
 num_not_null test (Value-F.List items) e = refl
 num_not_null test (Value-F.State s) e = refl
 
+natural_not_null : (w : Width) (l : Value-F Value) → natural_at w l ≡ true → is_null_at l ≡ false
+natural_not_null w (Value-F.Num n) e = refl
+natural_not_null w (Value-F.Huge n) e = refl
+natural_not_null w (Value-F.Text bytes) e = refl
+natural_not_null W8 Value-F.Null e = cc
+natural_not_null W16 Value-F.Null e = cc
+natural_not_null W32 Value-F.Null e = cc
+natural_not_null W64 Value-F.Null e = cc
+natural_not_null W128 Value-F.Null e = cc
+natural_not_null w (Value-F.List items) e = refl
+natural_not_null w (Value-F.State s) e = refl
+
 text_not_null : (test : List ℕ → Bool) (l : Value-F Value) → text_at test l ≡ true → is_null_at l ≡ false
 text_not_null test (Value-F.Num n) e = refl
+text_not_null test (Value-F.Huge n) e = refl
 text_not_null test (Value-F.Text bytes) e = refl
 text_not_null test Value-F.Null e = cc
 text_not_null test (Value-F.List items) e = refl
@@ -98,6 +115,7 @@ text_not_null test (Value-F.State s) e = refl
 
 state_not_null : (test : AggState → Bool) (l : Value-F Value) → state_at test l ≡ true → is_null_at l ≡ false
 state_not_null test (Value-F.Num n) e = refl
+state_not_null test (Value-F.Huge n) e = refl
 state_not_null test (Value-F.Text bytes) e = refl
 state_not_null test Value-F.Null e = cc
 state_not_null test (Value-F.List items) e = refl
@@ -117,17 +135,19 @@ single_written t (Ty-F.Int w) is single values = written_at t (Ty-F.Int w) value
 single_written t (Ty-F.FixedString n) is single values = written_at t (Ty-F.FixedString n) values is
 single_written t Ty-F.Str is single values = written_at t Ty-F.Str values is
 single_written t Ty-F.Date is single values = written_at t Ty-F.Date values is
+single_written t Ty-F.Moment is single values = written_at t Ty-F.Moment values is
 single_written t (Ty-F.State agg u) is single values = written_at t (Ty-F.State agg u) values is
 single_written t Ty-F.CountState is single values = written_at t Ty-F.CountState values is
 
 single_not_null : (level : Ty-F Ty) → IsSingleLevel level → (v : Value) → fits_step (map-Ty Ty (Value → Bool) fits_of level) v ≡ true → is_null v ≡ false
 single_not_null (Ty-F.Nullable u) single v fits = absurd single
 single_not_null (Ty-F.Array u) single v fits = absurd single
-single_not_null (Ty-F.UInt w) single v fits = num_not_null (is_unsigned (bits w)) (out-Value v) fits
+single_not_null (Ty-F.UInt w) single v fits = natural_not_null w (out-Value v) fits
 single_not_null (Ty-F.Int w) single v fits = num_not_null (is_signed (bits w)) (out-Value v) fits
 single_not_null (Ty-F.FixedString n) single v fits = text_not_null (λ bytes. length bytes == n && list_all is_byte bytes) (out-Value v) fits
 single_not_null Ty-F.Str single v fits = text_not_null (λ bytes. nat_le (length bytes) MAX_TEXT && list_all is_byte bytes) (out-Value v) fits
 single_not_null Ty-F.Date single v fits = num_not_null (is_unsigned 16) (out-Value v) fits
+single_not_null Ty-F.Moment single v fits = num_not_null (is_unsigned 32) (out-Value v) fits
 single_not_null (Ty-F.State agg u) single v fits = state_not_null (is_state_of agg (fits_of u)) (out-Value v) fits
 single_not_null Ty-F.CountState single v fits = state_not_null is_count (out-Value v) fits
 
@@ -145,6 +165,7 @@ level_single t not_nullable not_array (Ty-F.Int w) is = tt
 level_single t not_nullable not_array (Ty-F.FixedString n) is = tt
 level_single t not_nullable not_array Ty-F.Str is = tt
 level_single t not_nullable not_array Ty-F.Date is = tt
+level_single t not_nullable not_array Ty-F.Moment is = tt
 level_single t not_nullable not_array (Ty-F.State agg u) is = tt
 level_single t not_nullable not_array Ty-F.CountState is = tt
 
@@ -157,6 +178,7 @@ scalar_level : (t : Ty) → Known t → IsScalar (kind_of t) → IsSingleLevel (
 scalar_level t (unsigned w is k) scalar = subst IsSingleLevel (sym (ap out-Ty is ∙ outs-UInt w)) tt
 scalar_level t (signed w is k) scalar = subst IsSingleLevel (sym (ap out-Ty is ∙ outs-Int w)) tt
 scalar_level t (day is k) scalar = subst IsSingleLevel (sym (ap out-Ty is ∙ outs-Date)) tt
+scalar_level t (moment is k) scalar = subst IsSingleLevel (sym (ap out-Ty is ∙ outs-Moment)) tt
 scalar_level t (text is k) scalar = subst IsSingleLevel (sym (ap out-Ty is ∙ outs-Str)) tt
 scalar_level t (fixed n is low high k) scalar = subst IsSingleLevel (sym (ap out-Ty is ∙ outs-FixedString n)) tt
 scalar_level t (optional inner is s k) scalar = absurd (subst IsScalar k scalar)
@@ -168,7 +190,7 @@ scalar_level t (outside k) scalar = absurd (subst IsScalar k scalar)
 optional_scalar : (k : Kind) → is_known (optional_kind k) ≡ true → IsScalar k
 optional_scalar Whole e = tt
 optional_scalar Day e = tt
-optional_scalar Bytes e = tt
+optional_scalar Plain e = tt
 optional_scalar Optional e = cc
 optional_scalar (Nested depth) e = cc
 optional_scalar Stored e = cc
@@ -190,6 +212,7 @@ level_items t (Ty-F.Int w) profile single = refl
 level_items t (Ty-F.FixedString n) profile single = refl
 level_items t Ty-F.Str profile single = refl
 level_items t Ty-F.Date profile single = refl
+level_items t Ty-F.Moment profile single = refl
 level_items t (Ty-F.State agg u) profile single = profile
 level_items t Ty-F.CountState profile single = refl
 
@@ -199,7 +222,7 @@ single_items t profile not_nullable not_array = level_items t (out-Ty t) profile
 scalar_known : (k : Kind) → IsScalar k → is_known k ≡ true
 scalar_known Whole scalar = refl
 scalar_known Day scalar = refl
-scalar_known Bytes scalar = refl
+scalar_known Plain scalar = refl
 scalar_known Optional scalar = absurd scalar
 scalar_known (Nested depth) scalar = absurd scalar
 scalar_known Stored scalar = absurd scalar
@@ -216,7 +239,7 @@ nullable_items t profile = level_items t (out-Ty t) (nullable_inside t profile) 
 array_of_kind : (k : Kind) → is_known (array_kind k) ≡ true → (is_known k ≡ true) × (levels_of_kind (array_kind k) ≡ suc (levels_of_kind k))
 array_of_kind Whole e = (refl, refl)
 array_of_kind Day e = (refl, refl)
-array_of_kind Bytes e = (refl, refl)
+array_of_kind Plain e = (refl, refl)
 array_of_kind Optional e = (refl, refl)
 array_of_kind (Nested depth) e = at_test (nat_lt depth MAX_ARRAY_DEPTH) e
   where
@@ -258,6 +281,7 @@ nullable_written t single values =
 array_elements_fit : (f : Value → Bool) (l : Value-F Value) → list_at (λ items. nat_le (length items) MAX_ELEMENTS && list_all f items) l ≡ true → list_all f (elements_at l) ≡ true
 array_elements_fit f (Value-F.List items) fit = (and_parts _ _ fit).1
 array_elements_fit f (Value-F.Num n) fit = cc
+array_elements_fit f (Value-F.Huge n) fit = cc
 array_elements_fit f (Value-F.Text bytes) fit = cc
 array_elements_fit f Value-F.Null fit = cc
 array_elements_fit f (Value-F.State s) fit = cc

@@ -4,7 +4,6 @@ use Rattle.std.specs.Prelude.{ℕ, ◌+◌, List, [], ◌∷◌}
 use Rattle.mt_types.specs.declared.ty.Ty.{Ty}
 use Rattle.mt_types.specs.declared.ty.Ty.TheOpen.{Ty-F}
 use Rattle.mt_types.specs.declared.ty.Ty.TheFolds.{fold-Ty}
-use Rattle.mt_types.specs.Profile.{Kind, Nested, kind_of}
 use Rattle.mt_codec.specs.declared.stream.Stream.{Stream}
 use Rattle.mt_codec.specs.declared.stream.Stream.TheVariants.{Sizes, Nulls, Items}
 
@@ -21,13 +20,3 @@ streams_from = fold-Ty (ℕ → List Stream) order_step
 -- the substreams of a type
 abbrev pub streams_of : Ty → List Stream
 streams_of ty = streams_from ty 0
-
--- ---- how deep the arrays of a type are
-
-abbrev pub levels_of_kind : Kind → ℕ
-levels_of_kind (Nested depth) = depth
-levels_of_kind _ = 0
-
--- how many arrays a type has inside each other
-abbrev pub array_levels : Ty → ℕ
-array_levels ty = levels_of_kind (kind_of ty)

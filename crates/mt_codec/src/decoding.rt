@@ -13,7 +13,7 @@ ghost use Rattle.mt_codec.specs.declared.fault.CodecError.TheVariants.{At};
 ghost use Rattle.mt_codec.specs.ColumnReading.{column_from, decode_reading, front_reading, nullable_from, stream_from};
 ghost use Rattle.mt_codec.specs.Cursor.{GivesColumn, is_apart, lists};
 ghost use Rattle.mt_codec.specs.Results.{AreFirstValues, AreValues, Gives, GivesFront, Returns, bytes_of};
-ghost use Rattle.mt_codec.specs.StreamOrder.{array_levels};
+ghost use Rattle.mt_defs.specs.FileNames.{array_levels};
 ghost use Rattle.mt_codec.specs.StreamOrder as defined;
 
 use crate::arrays::{arrays_from, read_sizes, sum_of};

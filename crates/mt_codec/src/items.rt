@@ -9,9 +9,8 @@ ghost use Rattle.mt_codec.specs.Cursor.{GivesColumn, GivesItems, is_apart, item_
 
 use crate::fault::CodecError;
 use crate::streams::Streams;
-use mt_agg::number_size;
 use mt_item::{CodecWhy, ItemError, read_item};
-use mt_types::{Agg, List, Ty, Value};
+use mt_types::{Agg, List, Ty, Value, number_size};
 use std::alloc::Global;
 
 /// The values of the next substream, so many, and the substreams behind it.
@@ -82,7 +81,7 @@ fn least_size(ty: &Ty) -> usize
     ensures { 1 ≤ result }
 {
     match ty {
-        Ty::UInt(_) | Ty::Int(_) | Ty::Date => number_size(ty).max(1),
+        Ty::UInt(_) | Ty::Int(_) | Ty::Date | Ty::Moment => number_size(ty).max(1),
         Ty::FixedString(size) => (*size as usize).max(1),
         Ty::State(Agg::Sum, _) => 8,
         _ => 1,

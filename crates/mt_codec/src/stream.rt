@@ -3,7 +3,8 @@
 ghost use Rattle.std.specs.Prelude.{◌≡◌, ◌+◌, ◌≤◌, ◌++◌, IfOk, IsTrue, OnOk};
 ghost use Rattle.mt_types.specs.declared.limits.TheConstants.{MAX_ARRAY_DEPTH};
 ghost use Rattle.mt_types.specs.Profile.{is_profile};
-ghost use Rattle.mt_codec.specs.StreamOrder.{array_levels, streams_from};
+ghost use Rattle.mt_defs.specs.FileNames.{array_levels};
+ghost use Rattle.mt_codec.specs.StreamOrder.{streams_from};
 ghost use Rattle.mt_codec.specs.StreamOrder as defined;
 
 use mt_types::{List, NoMemory, Ty};

@@ -74,6 +74,18 @@ as_exact {A} {B} f read fits item fits' item' image exact = record {
       ap (read_as f) (same ∙ exact.complete u.0 rest u.2) ∙ ap (λ (x : B). let r : First B = Ok (x, rest) in r) (sym u.1);
 }
 
+-- reading as one thing and then as another is one step
+pub read_twice : {A B C : Type 0} (f : B → C) (g : A → B) (read : First A) → read_as f (read_as g read) ≡ read_as (λ x. f (g x)) read
+read_twice f g (Ok first) = refl
+read_twice f g (Err why) = refl
+
+-- a reader that reads the same is exact too
+pub reads_alike : {A : Type 0} (read read' : List ℕ → First A) (fits : A → Bool) (item : A → List ℕ) → ((bytes : List ℕ) → read bytes ≡ read' bytes) → IsExact read' fits item → IsExact read fits item
+reads_alike {A} read read' fits item same exact = record {
+  sound = λ bytes v rest small e. exact.sound bytes v rest small (sym (same bytes) ∙ e);
+  complete = λ v rest fit. same (item v ++ rest) ∙ exact.complete v rest fit;
+}
+
 -- ---- runs of bytes
 
 pub small_taken : (n : ℕ) (bytes : List ℕ) → Small bytes → Small (take n bytes)

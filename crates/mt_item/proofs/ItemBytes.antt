@@ -3,7 +3,7 @@ use Rattle.std.proofs.Common.{◌≡◌, ℕ, ℤ, zero, suc, ◌+◌, ◌/◌, 
 use Rattle.std.proofs.Math.Nat.{mod-lt}
 use Rattle.std.specs.Prelude.{Option, Some, None, ◌&&◌, ◌==◌, nat_le, nat_lt}
 use Rattle.std.specs.List.{flat_map, list_all}
-use Rattle.std.specs.Int.{Width as Bits, w16, w64, byte_at, byte_len, cast_unsigned, bytes_low_first, to_le_bytes}
+use Rattle.std.specs.Int.{Width as Bits, w16, w32, w64, byte_at, byte_len, cast_unsigned, bytes_low_first, to_le_bytes}
 use Rattle.std.proofs.lemmas.Bool.{cases_Bool, cases_lt, and_parts, ltb-true, lt-ltb}
 use Rattle.std.proofs.lemmas.List.Elements.{All-nil, All-cons, All-append}
 use Rattle.mt_types.specs.Bytes.{is_byte}
@@ -41,6 +41,7 @@ number_bytes bits n = low_bytes 0 (byte_len bits) n
 
 whole_bytes : (bits : Bits) (level : Value-F Value) → AreBytes (whole_at bits level)
 whole_bytes bits (Value-F.Num n) = number_bytes bits (cast_unsigned bits n)
+whole_bytes bits (Value-F.Huge n) = number_bytes bits n
 whole_bytes bits (Value-F.Text bytes) = All-nil IsByte
 whole_bytes bits Value-F.Null = All-nil IsByte
 whole_bytes bits (Value-F.List items) = All-nil IsByte
@@ -74,6 +75,7 @@ all_small (byte ∷ bytes) e =
 
 fixed_bytes : (size : ℕ) (level : Value-F Value) → passes_text (λ bytes. length bytes == size && list_all is_byte bytes) level ≡ true → AreBytes (fixed_at level)
 fixed_bytes size (Value-F.Num n) fits = cc
+fixed_bytes size (Value-F.Huge n) fits = cc
 fixed_bytes size (Value-F.Text bytes) fits = all_small bytes (and_parts (length bytes == size) (list_all is_byte bytes) fits).1
 fixed_bytes size Value-F.Null fits = cc
 fixed_bytes size (Value-F.List items) fits = cc
@@ -81,6 +83,7 @@ fixed_bytes size (Value-F.State s) fits = cc
 
 text_bytes : (level : Value-F Value) → passes_text (λ bytes. nat_le (length bytes) MAX_TEXT && list_all is_byte bytes) level ≡ true → AreBytes (text_at level)
 text_bytes (Value-F.Num n) fits = cc
+text_bytes (Value-F.Huge n) fits = cc
 text_bytes (Value-F.Text bytes) fits =
     All-append IsByte (leb128 (length bytes)) bytes (length_bytes (length bytes)) (all_small bytes (and_parts (nat_le (length bytes) MAX_TEXT) (list_all is_byte bytes) fits).1)
 text_bytes Value-F.Null fits = cc
@@ -104,6 +107,7 @@ module _ (argument : Value → List ℕ) (passes : Value → Bool) (are : (n : �
 
   state_level : (a : Agg) (level : Value-F Value) → passes_state (is_state_of a passes) level ≡ true → AreBytes (state_at argument level)
   state_level a (Value-F.Num n) fits = All-nil IsByte
+  state_level a (Value-F.Huge n) fits = All-nil IsByte
   state_level a (Value-F.Text bytes) fits = All-nil IsByte
   state_level a Value-F.Null fits = All-nil IsByte
   state_level a (Value-F.List items) fits = All-nil IsByte
@@ -117,6 +121,7 @@ count_bytes (Greatest n) fits = cc
 
 count_level : (level : Value-F Value) → passes_state is_count level ≡ true → AreBytes (state_at (λ _. []) level)
 count_level (Value-F.Num n) fits = All-nil IsByte
+count_level (Value-F.Huge n) fits = All-nil IsByte
 count_level (Value-F.Text bytes) fits = All-nil IsByte
 count_level Value-F.Null fits = All-nil IsByte
 count_level (Value-F.List items) fits = All-nil IsByte
@@ -140,6 +145,7 @@ item_level (Ty-F.Int w) v fits = whole_bytes (width w) (out-Value v)
 item_level (Ty-F.FixedString n) v fits = fixed_bytes n (out-Value v) fits
 item_level Ty-F.Str v fits = text_bytes (out-Value v) fits
 item_level Ty-F.Date v fits = whole_bytes w16 (out-Value v)
+item_level Ty-F.Moment v fits = whole_bytes w32 (out-Value v)
 item_level (Ty-F.Nullable t) v fits = All-nil IsByte
 item_level (Ty-F.Array t) v fits = All-nil IsByte
 item_level (Ty-F.State a t) v fits = state_level (item_bytes t.0) (fits_of t.0) (λ n. t.1 (Num n)) a (out-Value v) fits

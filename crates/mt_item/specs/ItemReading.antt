@@ -1,6 +1,6 @@
 -- The item that some bytes begin with: docs/FORMAT.md, "Types and values" and "Substreams".
 use Rattle.std.specs.Prelude.{ℕ, zero, suc, ◌+◌, ◌-◌, ◌*◌, nat_lt, nat_le, ◌==◌, not, if◌then◌else◌, ℤ, pos, List, [], ◌∷◌, length, take, drop, Option, Some, None, Result, Ok, Err}
-use Rattle.std.specs.Int.{Width as Bits, w16, w64, byte_len, from_le_bytes, cast_signed}
+use Rattle.std.specs.Int.{Width as Bits, w16, w32, w64, byte_len, from_le_bytes, cast_signed}
 use Rattle.mt_types.specs.declared.limits.TheConstants.{MAX_TEXT}
 use Rattle.mt_types.specs.declared.ty.Agg.{Agg}
 use Rattle.mt_types.specs.declared.ty.Agg.TheVariants.{Sum, Min, Max}
@@ -9,7 +9,8 @@ use Rattle.mt_types.specs.declared.ty.Ty.TheOpen.{Ty-F}
 use Rattle.mt_types.specs.declared.value.AggState.{AggState}
 use Rattle.mt_types.specs.declared.value.AggState.TheVariants as state
 use Rattle.mt_types.specs.declared.value.Value.{Value}
-use Rattle.mt_types.specs.declared.value.Value.TheVariants.{Num, Text, State}
+use Rattle.mt_types.specs.declared.value.Value.TheVariants.{Text, State}
+use Rattle.mt_types.specs.Fits.{number_value}
 use Rattle.mt_types.specs.Items.{width}
 use Rattle.mt_types.specs.Steps.{◌>>=◌, require}
 use Rattle.mt_item.specs.declared.fault.CodecWhy.{CodecWhy}
@@ -59,11 +60,12 @@ text_front bytes = do
 
 -- ---- values
 
--- an integer or a day; no other type has numbers
+-- an integer, a day or a second; no other type has numbers
 abbrev pub number_front : Ty-F Ty → List ℕ → First ℤ
 number_front (Ty-F.UInt w) bytes = read_as (λ n. pos n) (whole_front (width w) bytes)
 number_front (Ty-F.Int w) bytes = read_as (cast_signed (width w)) (whole_front (width w) bytes)
 number_front Ty-F.Date bytes = read_as (λ n. pos n) (whole_front w16 bytes)
+number_front Ty-F.Moment bytes = read_as (λ n. pos n) (whole_front w32 bytes)
 number_front _ bytes = Err Short
 
 -- what min and max have gathered: byte 0 for nothing, or byte 1 and a number
@@ -85,7 +87,7 @@ item_front_at (Ty-F.FixedString size) bytes = read_as (λ text. Text text) (byte
 item_front_at Ty-F.Str bytes = read_as (λ text. Text text) (text_front bytes)
 item_front_at (Ty-F.State agg argument) bytes = read_as (λ s. State s) (state_front agg (out-Ty argument) bytes)
 item_front_at Ty-F.CountState bytes = read_as (λ n. State (state.Count n)) (leb128_front bytes)
-item_front_at level bytes = read_as (λ n. Num n) (number_front level bytes)
+item_front_at level bytes = read_as number_value (number_front level bytes)
 
 -- the value whose item the bytes begin with, and the bytes that follow it; or what is wrong
 abbrev pub item_front : Ty → List ℕ → First Value

@@ -11,7 +11,7 @@ has_items_at ty (Ty-F.Array inner) = false
 has_items_at ty (Ty-F.State agg argument) = is_profile ty
 has_items_at ty _ = true
 
--- a type with one substream: an integer, a date, a text, or a state over an argument that it may have
+-- a type with one substream: an integer, a date, a point in time, a text, or a state over an argument that it may have
 abbrev pub has_items : Ty → Bool
 has_items ty = has_items_at ty (out-Ty ty)
 
@@ -21,8 +21,9 @@ is_scalar_at (Ty-F.Int width) = true
 is_scalar_at (Ty-F.FixedString size) = true
 is_scalar_at Ty-F.Str = true
 is_scalar_at Ty-F.Date = true
+is_scalar_at Ty-F.Moment = true
 is_scalar_at _ = false
 
--- an integer type, FixedString, String or Date: a type that a key's columns may have
+-- an integer type, FixedString, String, Date or DateTime('UTC'): a type that a key's columns may have
 abbrev pub is_scalar : Ty → Bool
 is_scalar ty = is_scalar_at (out-Ty ty)

@@ -1,4 +1,4 @@
-//! The bytes of one value: items of integers, dates, texts and states.
+//! The bytes of one value: items of integers, dates, points in time, texts and states.
 //!
 //! A value that fits is written (`put_item`), and any bytes are read (`read_item`): the one value whose
 //! item they begin with, or the first thing that is wrong.

@@ -2,7 +2,7 @@
 
 ghost use Rattle.std.specs.Prelude.{IsTrue};
 ghost use Rattle.mt_types.specs.declared.ty.Ty.TheVariants.{CountState, FixedString, State, Str};
-ghost use Rattle.mt_agg.specs.States.{is_number_type};
+ghost use Rattle.mt_types.specs.Numbers.{is_argument_type, is_number_type};
 ghost use Rattle.mt_item.specs.ItemReading.{item_front};
 ghost use Rattle.mt_item.specs.ItemTypes.{has_items};
 ghost use Rattle.mt_item.specs.Results.{GivesFirstItem, GivesItem};
@@ -48,7 +48,7 @@ fn number_item<'a>(ty: &Ty, bytes: &'a [u8]) -> Result<(Value, &'a [u8]), ItemEr
     ensures { GivesItem result (item_front ty.now bytes.now) }
 {
     match read_number(ty, bytes) {
-        Some((number, rest)) => Ok((Value::Num(number), rest)),
+        Some(read) => Ok(read),
         None => Err(ItemError::Bad(CodecWhy::Short)),
     }
 }
@@ -72,7 +72,7 @@ fn text_item<'a>(alloc: Global, bytes: &'a [u8]) -> Result<(Value, &'a [u8]), It
 }
 
 fn state_item<'a>(agg: Agg, argument: &Ty, bytes: &'a [u8]) -> Result<(Value, &'a [u8]), ItemError>
-    requires { IsTrue (is_number_type argument.now) }
+    requires { IsTrue (is_argument_type argument.now) }
     ensures { GivesItem result (item_front (State agg argument.now) bytes.now) }
 {
     match read_state(agg, argument, bytes) {

@@ -3,13 +3,13 @@
 ghost use Rattle.std.specs.Prelude.{IsTrue, Some};
 ghost use Rattle.std.specs.Int.{w64};
 ghost use Rattle.mt_types.specs.declared.ty.Ty.{out-Ty};
-ghost use Rattle.mt_agg.specs.States.{is_number_type};
 ghost use Rattle.mt_types.specs.declared.value.AggState.TheVariants.{Sum};
+ghost use Rattle.mt_types.specs.Numbers.{is_argument_type};
 ghost use Rattle.mt_item.specs.ItemReading.{held_front, number_front, read_as, state_front, whole_front};
 ghost use Rattle.mt_item.specs.Results.{GivesRead};
 
 use crate::fault::CodecWhy;
-use crate::number::{read_number, read_u64};
+use crate::number::{read_argument, read_u64};
 use mt_types::{Agg, AggState, Ty};
 
 /// The state of an aggregate over an argument at the start, and what follows it.
@@ -18,7 +18,7 @@ pub(crate) fn read_state<'a>(
     argument: &Ty,
     bytes: &'a [u8],
 ) -> Result<(AggState, &'a [u8]), CodecWhy>
-    requires { IsTrue (is_number_type argument.now) }
+    requires { IsTrue (is_argument_type argument.now) }
     ensures { GivesRead result (state_front agg (out-Ty argument.now) bytes.now) }
 {
     match agg {
@@ -45,7 +45,7 @@ fn read_sum(bytes: &[u8]) -> Result<(AggState, &[u8]), CodecWhy>
 
 /// Nothing or a number, as min and max have gathered it.
 fn read_held<'a>(ty: &Ty, bytes: &'a [u8]) -> Result<(Option<i128>, &'a [u8]), CodecWhy>
-    requires { IsTrue (is_number_type ty.now) }
+    requires { IsTrue (is_argument_type ty.now) }
     ensures { GivesRead result (held_front (number_front (out-Ty ty.now)) bytes.now) }
 {
     let Some((first, rest)) = bytes.split_first() else {
@@ -61,10 +61,10 @@ fn read_held<'a>(ty: &Ty, bytes: &'a [u8]) -> Result<(Option<i128>, &'a [u8]), C
 }
 
 fn read_some<'a>(ty: &Ty, bytes: &'a [u8]) -> Result<(Option<i128>, &'a [u8]), CodecWhy>
-    requires { IsTrue (is_number_type ty.now) }
+    requires { IsTrue (is_argument_type ty.now) }
     ensures { GivesRead result (read_as (λ n. Some n) (number_front (out-Ty ty.now) bytes.now)) }
 {
-    match read_number(ty, bytes) {
+    match read_argument(ty, bytes) {
         Some((number, rest)) => Ok((Some(number), rest)),
         None => Err(CodecWhy::Short),
     }

@@ -55,6 +55,7 @@ or_default_null d value is = ap (or_default d) is ∙ ap (λ (l : Value-F Value)
 pub or_default_value : (d value : Value) (level : Value-F Value) → out-Value value ≡ level → (value ≡ Null → ⊥) → or_default d value ≡ value
 or_default_value d value Value-F.Null is not_null = absurd (not_null (sym (roll-out-Value value) ∙ ap roll-Value (is ∙ sym outs-Null) ∙ roll-out-Value Null))
 or_default_value d value (Value-F.Num n) is not_null = ap (λ (l : Value-F Value). if is_null_at l then d else value) is
+or_default_value d value (Value-F.Huge n) is not_null = ap (λ (l : Value-F Value). if is_null_at l then d else value) is
 or_default_value d value (Value-F.Text bytes) is not_null = ap (λ (l : Value-F Value). if is_null_at l then d else value) is
 or_default_value d value (Value-F.List elements) is not_null = ap (λ (l : Value-F Value). if is_null_at l then d else value) is
 or_default_value d value (Value-F.State state) is not_null = ap (λ (l : Value-F Value). if is_null_at l then d else value) is
@@ -66,6 +67,7 @@ elements_of_list value elements is = ap elements_at (ap out-Value is ∙ outs-It
 pub elements_of_other : (value : Value) (level : Value-F Value) → out-Value value ≡ level → ((elements : List Value) → value ≡ Items elements → ⊥) → elements_at (out-Value value) ≡ []
 elements_of_other value (Value-F.List elements) is not_list = absurd (not_list elements (sym (roll-out-Value value) ∙ ap roll-Value (is ∙ sym (outs-Items elements)) ∙ roll-out-Value (Items elements)))
 elements_of_other value (Value-F.Num n) is not_list = ap elements_at is
+elements_of_other value (Value-F.Huge n) is not_list = ap elements_at is
 elements_of_other value (Value-F.Text bytes) is not_list = ap elements_at is
 elements_of_other value Value-F.Null is not_list = ap elements_at is
 elements_of_other value (Value-F.State state) is not_list = ap elements_at is

@@ -101,6 +101,7 @@ additive_level (Ty-F.Int w) = additive_single _ (Ty-F.Int w) (out-roll-Ty (Ty-F.
 additive_level (Ty-F.FixedString n) = additive_single _ (Ty-F.FixedString n) (out-roll-Ty (Ty-F.FixedString n)) tt
 additive_level Ty-F.Str = additive_single _ Ty-F.Str (out-roll-Ty Ty-F.Str) tt
 additive_level Ty-F.Date = additive_single _ Ty-F.Date (out-roll-Ty Ty-F.Date) tt
+additive_level Ty-F.Moment = additive_single _ Ty-F.Moment (out-roll-Ty Ty-F.Moment) tt
 additive_level (Ty-F.Nullable b) = subst IsAdditive (same_level (Nullable b.0) (roll-Ty (Ty-F.Nullable b.0)) (outs-Nullable b.0 ∙ sym (out-roll-Ty (Ty-F.Nullable b.0)))) (additive_Nullable b.0 b.1)
 additive_level (Ty-F.Array b) = subst IsAdditive (same_level (Array b.0) (roll-Ty (Ty-F.Array b.0)) (outs-Array b.0 ∙ sym (out-roll-Ty (Ty-F.Array b.0)))) (additive_Array b.0 b.1)
 additive_level (Ty-F.State agg b) = additive_single _ (Ty-F.State agg b.0) (out-roll-Ty (Ty-F.State agg b.0)) tt

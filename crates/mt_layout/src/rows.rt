@@ -96,6 +96,7 @@ fn default_size(ty: &Ty) -> u64
         Ty::UInt(_) => item_size(ty, &Value::Num(0)),
         Ty::Int(_) => item_size(ty, &Value::Num(0)),
         Ty::Date => item_size(ty, &Value::Num(0)),
+        Ty::Moment => item_size(ty, &Value::Num(0)),
         Ty::FixedString(size) => u64::from(*size),
         Ty::Str => 1,
         Ty::Nullable(inner) => default_size(inner.get()).saturating_add(NULL_BYTES),

@@ -26,7 +26,7 @@ use Rattle.mt_skip.specs.Gathering.{is_same}
 use Rattle.mt_skip.specs.Items.{AllFit}
 use Rattle.mt_skip.proofs.DistinctLemmas.{distinct_fit}
 use Rattle.mt_skip.proofs.ExtremeLemmas.{minmax_is}
-use Rattle.mt_skip.proofs.PermutationLemmas.{any_at, any_distinct, any_permuted, contains_from, filter_short}
+use Rattle.mt_skip.proofs.PermutationLemmas.{any_at, any_distinct, any_permuted, contains_from, distinct_fewer}
 
 -- ---- the writer's entries
 
@@ -72,17 +72,13 @@ one_count m n x y low high e =
     let front : u64_bytes m ≡ u64_bytes n = sym (take-append_seam (u64_bytes m) x) ∙ ap (take 8) e ∙ take-append_seam (u64_bytes n) y in
     sym (from_le_bytes-to_le_bytes_8 m low) ∙ ap (from_le_bytes w64) front ∙ from_le_bytes-to_le_bytes_8 n high
 
-distinct_short : (values : List Value) → length (distinct_values values) ≤ length values
-distinct_short [] = omega arith
-distinct_short (v ∷ vs) = let rest = distinct_short vs in let less = filter_short (λ w. not (is_same v w)) (distinct_values vs) in omega (arith, rest, less)
-
 lacking_listed : (ty : Ty) (values listed : List Value) (lacking : Value) → has_items ty ≡ true → AllFit ty values → AllFit ty listed → length values < 2 ^ 64 → length listed < 2 ^ 64 → Contains values lacking → (Contains listed lacking → ⊥)
     → ListsDistinct ty values (set_bytes ty listed) → ⊥
 lacking_listed ty values listed lacking items fits listed_fits few listed_few among lacks lists =
     let others : List Value = lists.0 in
     let distinct = distinct_values values in
     let long = length_permutation distinct others lists.1 in
-    let short = distinct_short values in
+    let short = distinct_fewer values in
     let others_fit : AllFit ty others = All-permutation (λ v. fits_of ty v ≡ true) distinct others lists.1 (distinct_fit ty values fits) in
     let count : length listed ≡ length others = one_count (length listed) (length others) (flat_map (item_bytes ty) listed) (flat_map (item_bytes ty) others) listed_few (omega (arith, long, short, few)) lists.2 in
     let behind : flat_map (item_bytes ty) listed ≡ flat_map (item_bytes ty) others =

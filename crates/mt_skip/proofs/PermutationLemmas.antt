@@ -1,16 +1,20 @@
 -- Values that are listed once each, and all of the others, are these in another order.
 use Rattle.std.proofs.Common.{◌≡◌, ℕ, zero, suc, ◌<◌, ◌≤◌, ◌↔◌, Bool, true, false, cond, not, ◌&&◌, ◌||◌, List, [], ◌∷◌, ◌++◌, length, map, refl, ap, sym, ◌∙◌, subst, inl, inr, arith, get_or}
-use Rattle.std.specs.Prelude.{filter, nat_le, IsTrue, IsPermutation, Contains}
+use Rattle.std.specs.Bool.{Decides}
+use Rattle.std.specs.Prelude.{◌≢◌, filter, nat_le, AllPairs, IsTrue, IsPermutation, Contains}
 use Rattle.std.specs.List.{list_any, list_all, flat_map, IsDistinct, AllByRecursion}
 use Rattle.std.proofs.lemmas.Bool.{cases_Bool, leb-true, le-leb}
+use Rattle.std.proofs.lemmas.List.{length-map}
 use Rattle.std.proofs.lemmas.List.Concat.{flat_map-cons}
 use Rattle.std.proofs.lemmas.List.Folds.{list_any-append}
 use Rattle.std.proofs.lemmas.List.Sorted.{IsPermutation-refl, IsPermutation-cons, IsPermutation-trans, IsPermutation-middle, IsPermutation-sym, length_permutation, Contains-permutation}
+use Rattle.std.proofs.lemmas.Map.Made.{AllPairs-from_IsDistinct, IsDistinct-from_AllPairs}
 use Rattle.std.proofs.lemmas.Map.Keys.{IsDistinct-cons, IsDistinct-head, IsDistinct-tail, IsDistinct-IsPermutation}
 use Rattle.mt_types.specs.declared.value.Value.{Value}
 use Rattle.mt_defs.specs.Lists.{insertions, orders_of}
 use Rattle.mt_defs.specs.SkipIndexes.{distinct_values}
-use Rattle.mt_skip.specs.Gathering.{is_same, has_each}
+use Rattle.mt_skip.specs.declared.seen.Seen.{Seen}
+use Rattle.mt_skip.specs.Gathering.{is_same, has_each, values_in}
 use Rattle.mt_skip.proofs.DistinctLemmas.{same_values, one_value, keeps, drops, not_both, any_map}
 
 abbrev is_other : Value → Value → Bool
@@ -91,6 +95,27 @@ distinct_from_length (x ∷ xs) long =
     let rest = distinct_from_length xs (omega (arith, long, short)) in
     let same : length (filter (is_other x) (distinct_values xs)) ≡ length (filter (is_other x) xs) = ap (λ l. length (filter (is_other x) l)) (distinct_already xs rest) in
     IsDistinct-cons is_same x xs (full x xs (omega (arith, long, same))) rest
+
+-- there are no more distinct values than values
+pub distinct_fewer : (values : List Value) → length (distinct_values values) ≤ length values
+distinct_fewer [] = omega arith
+distinct_fewer (v ∷ vs) = let rest = distinct_fewer vs in let less = filter_short (is_other v) (distinct_values vs) in omega (arith, rest, less)
+
+-- the same value is an equal one
+pub same_decides : (a b : Value) → Decides (is_same a b) (a ≡ b)
+same_decides a b = (one_value a b, λ e. subst (λ c. is_same a c ≡ true) e (same_values.refl a))
+
+-- as many distinct values as there are, exactly where no value is listed twice
+pub as_many : (values : List Value) (count : ℕ) → count ≡ length (distinct_values values) → IsTrue (nat_le (length values) count) ↔ AllPairs (λ a b. a ≢ b) values
+as_many values count is = (
+  λ e. AllPairs-from_IsDistinct same_decides values (distinct_from_length values (let le = leb-true (length values) count e in omega (arith, le, is))),
+  λ differ.
+      let same : distinct_values values ≡ values = distinct_already values (IsDistinct-from_AllPairs same_decides values differ) in
+      le-leb (length values) count (let long = ap length same in omega (arith, long, is)),
+)
+
+pub as_long : (keys : List Seen) (values : List Value) → values_in keys ≡ distinct_values values → IsTrue (nat_le (length values) (length keys)) ↔ AllPairs (λ a b. a ≢ b) values
+as_long keys values is = as_many values (length keys) (sym (length-map keys (λ (key : Seen). key.value.now)) ∙ ap length is)
 
 -- ---- among
 

@@ -19,3 +19,4 @@ pub use law::{
     entries_without_a_value_disagree, summaries_are_tested, written_entries_agree,
     written_entry_agrees,
 };
+pub use listed::{are_distinct, read_items};

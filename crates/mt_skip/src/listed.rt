@@ -1,12 +1,17 @@
-//! The values that a set entry lists.
+//! The values that an entry lists.
 
-ghost use Rattle.std.specs.Prelude.{◌≡◌, ◌++◌, IfOk, IfSome, IsTrue, option_map};
+ghost use Rattle.std.specs.Prelude.{◌≡◌, ◌≢◌, ◌++◌, ◌↔◌, AllPairs, IfOk, IfSome, IsTrue, option_map};
 ghost use Rattle.mt_types.specs.Fits.{fits_of};
 ghost use Rattle.mt_types.specs.Items.{item_bytes};
 ghost use Rattle.mt_item.specs.ItemTypes.{has_items};
 ghost use Rattle.mt_item.specs.Results.{IsFirst};
+ghost use Rattle.mt_defs.specs.SkipIndexes.{distinct_values};
+ghost use Rattle.mt_skip.specs.Gathering.{values_in};
 ghost use Rattle.mt_skip.specs.Items.{ReadsItems};
 
+use crate::distinct::distinct_of;
+use crate::seen::Seen;
+use indexmap::IndexSet;
 use mt_item::{ItemError, read_item};
 use mt_types::{NoMemory, Ty, Value};
 use std::alloc::Global;
@@ -53,4 +58,23 @@ fn next_item<'a>(
         Err(ItemError::Bad(_)) => Ok(None),
         Err(ItemError::NoMemory) => Err(NoMemory),
     }
+}
+
+/// Whether no value is listed twice.
+pub fn are_distinct(alloc: Global, values: &[Value]) -> Result<bool, NoMemory>
+    ensures { IfOk result (λ distinct. IsTrue distinct ↔ AllPairs (λ a b. a ≢ b) values.now) }
+{
+    match distinct_of(alloc, 0, values)? {
+        Some(distinct) => Ok(is_as_long(&distinct, values)),
+        None => Ok(false),
+    }
+}
+
+/// Whether there are as many distinct values as there are values.
+#[tactic(auto, using(crate::proofs::PermutationLemmas::as_long))]
+fn is_as_long<'a>(distinct: &IndexSet<Seen<'a>>, values: &[Value]) -> bool
+    requires { values_in distinct.now.keys ≡ distinct_values values.now }
+    ensures { IsTrue result ↔ AllPairs (λ a b. a ≢ b) values.now }
+{
+    values.len() <= distinct.len()
 }

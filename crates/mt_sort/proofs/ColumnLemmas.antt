@@ -1,15 +1,17 @@
 -- Rows by the rank of one column: they rise with it, and tie in it where one value has it.
 use Rattle.std.proofs.Common.{◌≡◌, ℕ, ◌<◌, Bool, true, false, cond, List, [], ◌∷◌, refl, ap, sym, ◌∙◌}
+use Rattle.std.specs.Prelude.{◌||◌}
+use Rattle.std.specs.List.{AllByRecursion, list_any}
 use Rattle.std.specs.Cmp.{ranked}
 use Rattle.std.specs.Ordering.{ordering_then, ordering_reverse, nat_cmp}
 use Rattle.std.specs.declared.cmp.Ordering.{Ordering}
 use Rattle.std.specs.declared.cmp.Ordering.TheVariants.{Less, Equal, Greater}
 use Rattle.std.proofs.lemmas.Cmp.{nat_cmp_total}
-use Rattle.mt_types.specs.declared.value.Value.{Value}
+use Rattle.mt_types.specs.declared.value.Value.{Value, out-Value}
 use Rattle.mt_types.specs.Order.{values_cmp}
 use Rattle.mt_defs.specs.Rows.{Row, cell, key_of, key_cmp}
 use Rattle.mt_sort.specs.declared.rank.Scale.{Scale}
-use Rattle.mt_sort.specs.Ranks.{is_decided, value_rank}
+use Rattle.mt_sort.specs.Ranks.{is_decided, value_rank, huge_at, has_huge}
 use Rattle.mt_sort.proofs.OrderLemmas.{key_cmp_total}
 use Rattle.mt_sort.proofs.RankLemmas.{values_rise, values_tie}
 
@@ -36,8 +38,8 @@ module _ (scale : Scale) (column : ℕ) (others : List ℕ) where
       (key_cmp_total (column ∷ others)).antisymm a b ∙ ap ordering_reverse (rows_rise b a turned)
 
   -- where the rank leaves one value, the other columns decide
-  pub rows_tie : (a b : Row) → is_decided scale (rank_in a) ≡ true → rank_in a ≡ rank_in b → key_cmp (column ∷ others) a b ≡ key_cmp others a b
-  rows_tie a b d e = ap (λ o. ordering_then o (values_cmp (key_of others a) (key_of others b))) (values_tie scale (cell a column) (cell b column) d e)
+  pub rows_tie : (a b : Row) → huge_at (out-Value (cell a column)) ≡ false → huge_at (out-Value (cell b column)) ≡ false → is_decided scale (rank_in a) ≡ true → rank_in a ≡ rank_in b → key_cmp (column ∷ others) a b ≡ key_cmp others a b
+  rows_tie a b p q d e = ap (λ o. ordering_then o (values_cmp (key_of others a) (key_of others b))) (values_tie scale (cell a column) (cell b column) p q d e)
 
 -- ---- the key
 
@@ -47,3 +49,23 @@ left_cmp true true a b same tie = tie refl
 left_cmp true false a b same tie = cc
 left_cmp false true a b same tie = cc
 left_cmp false false a b same tie = refl
+
+-- ---- rows without a Huge
+
+neither : (p q : Bool) → (p || q) ≡ false → (p ≡ false) × (q ≡ false)
+neither true q e = cc
+neither false q e = (refl, e)
+
+pub none_of : {X : Type 0} (test : X → Bool) (xs : List X) → list_any test xs ≡ false → AllByRecursion (λ x. test x ≡ false) xs
+none_of test [] e = tt
+none_of test (x ∷ xs) e = let parts = neither (test x) (list_any test xs) e in (parts.0, none_of test xs parts.1)
+
+-- no column of the key has a Huge
+abbrev pub NoHuge : List ℕ → Row → Type 0
+NoHuge key row = AllByRecursion (λ column. huge_at (out-Value (cell row column)) ≡ false) key
+
+pub no_huges : (key : List ℕ) (rows : List Row) → list_any (has_huge key) rows ≡ false → AllByRecursion (NoHuge key) rows
+no_huges key [] e = tt
+no_huges key (row ∷ rows) e =
+    let parts = neither (has_huge key row) (list_any (has_huge key) rows) e in
+    (none_of (λ column. huge_at (out-Value (cell row column))) key parts.0, no_huges key rows parts.1)

@@ -2,7 +2,7 @@
 use Rattle.std.proofs.Common.{◌≡◌, ℕ, zero, suc, ◌+◌, ◌-◌, ◌*◌, ◌^◌, ◌<◌, ◌≤◌, true, false, cond, ℤ, pos, negsuc, List, [], ◌∷◌, refl, ap, sym, ◌∙◌, subst, arith, inl, inr}
 use Rattle.std.specs.Prelude.{nat_lt, ◌<ℤ◌}
 use Rattle.std.specs.declared.cmp.Ordering.{Ordering}
-use Rattle.std.specs.declared.cmp.Ordering.TheVariants.{Less, Equal}
+use Rattle.std.specs.declared.cmp.Ordering.TheVariants.{Less, Equal, Greater}
 use Rattle.std.specs.Ordering.{ordering_then, nat_cmp, int_cmp}
 use Rattle.std.specs.Cmp.{int_cmp_is, nat_cmp_is}
 use Rattle.std.specs.Cmp.Lexicographic.{slice_cmp}
@@ -17,7 +17,7 @@ use Rattle.mt_types.specs.Fits.{Level}
 use Rattle.mt_types.specs.Order.{value_cmp, cmp_step, rank, same_kind_cmp}
 use Rattle.mt_sort.specs.declared.rank.Scale.{Scale}
 use Rattle.mt_sort.specs.declared.rank.Scale.TheVariants.{Numbers, Texts}
-use Rattle.mt_sort.specs.Ranks.{top_rank, number_rank, prefix_rank, level_rank, value_rank, is_decided}
+use Rattle.mt_sort.specs.Ranks.{top_rank, number_rank, prefix_rank, level_rank, value_rank, is_decided, huge_at}
 
 -- ---- numbers
 
@@ -112,6 +112,7 @@ texts_rise (suc n) (x ∷ xs) (y ∷ ys) h =
 
 level_bound : (scale : Scale) (l : Level) → level_rank scale l ≤ top_rank
 level_bound (Numbers origin) (Value-F.Num a) = number_bound origin a
+level_bound (Numbers origin) (Value-F.Huge a) = number_bound origin (pos a)
 level_bound Texts (Value-F.Num a) = omega arith
 level_bound Texts (Value-F.Text bytes) = let b = prefix_bound 8 bytes in omega (arith, b)
 level_bound _ _ = omega arith
@@ -126,9 +127,17 @@ none_above scale l m e h = let b = level_bound scale m in absurd (omega (arith, 
 
 levels_rise : (scale : Scale) (l m : Level) → level_rank scale l < level_rank scale m → level_cmp l m ≡ Less
 levels_rise (Numbers origin) (Value-F.Num a) (Value-F.Num b) h = numbers_rise origin a b h
+levels_rise (Numbers origin) (Value-F.Num a) (Value-F.Huge b) h = ap (λ o. ordering_then o Less) (numbers_rise origin a (pos b) h)
+levels_rise (Numbers origin) (Value-F.Huge a) (Value-F.Num b) h = ap (λ o. ordering_then o Greater) (numbers_rise origin (pos a) b h)
+levels_rise (Numbers origin) (Value-F.Huge a) (Value-F.Huge b) h = let less : a < b = omega (arith, h) in sym (nat_cmp_is a b Less less)
 levels_rise Texts (Value-F.Num a) (Value-F.Num b) h = absurd (omega (arith, h))
+levels_rise Texts (Value-F.Num a) (Value-F.Huge b) h = absurd (omega (arith, h))
+levels_rise Texts (Value-F.Huge a) (Value-F.Num b) h = absurd (omega (arith, h))
+levels_rise Texts (Value-F.Huge a) (Value-F.Huge b) h = absurd (omega (arith, h))
 levels_rise scale (Value-F.Num a) m h = refl
+levels_rise scale (Value-F.Huge a) m h = refl
 levels_rise Texts (Value-F.Text a) (Value-F.Num b) h = absurd (omega (arith, h))
+levels_rise Texts (Value-F.Text a) (Value-F.Huge b) h = absurd (omega (arith, h))
 levels_rise Texts (Value-F.Text a) (Value-F.Text b) h = texts_rise 8 a b h
 levels_rise Texts (Value-F.Text a) m h = refl
 levels_rise (Numbers origin) (Value-F.Text a) m h = none_above (Numbers origin) (Value-F.Text a) m refl h
@@ -155,13 +164,15 @@ same_numbers origin (pos a) (negsuc b) low high e = absurd (omega (arith, low, h
 same_numbers origin (negsuc a) (pos b) low high e = absurd (omega (arith, low, high, e))
 same_numbers origin (negsuc a) (negsuc b) low high e = ap negsuc (omega (arith, low, high, e))
 
-levels_tie : (origin : ℕ) (l m : Level) → (0 < level_rank (Numbers origin) l) × (level_rank (Numbers origin) l < top_rank) → level_rank (Numbers origin) l ≡ level_rank (Numbers origin) m → level_cmp l m ≡ Equal
-levels_tie origin (Value-F.Num a) (Value-F.Num b) h e = sym (int_cmp_is a b Equal (same_numbers origin a b h.0 h.1 e))
-levels_tie origin (Value-F.Num a) m h e = let low = h.1 in absurd (omega (arith, low, e))
-levels_tie origin l m h e = let low = h.1 in absurd (omega (arith, low))
+levels_tie : (origin : ℕ) (l m : Level) → huge_at l ≡ false → huge_at m ≡ false → (0 < level_rank (Numbers origin) l) × (level_rank (Numbers origin) l < top_rank) → level_rank (Numbers origin) l ≡ level_rank (Numbers origin) m → level_cmp l m ≡ Equal
+levels_tie origin (Value-F.Huge a) m p q h e = cc
+levels_tie origin (Value-F.Num a) (Value-F.Huge b) p q h e = cc
+levels_tie origin (Value-F.Num a) (Value-F.Num b) p q h e = sym (int_cmp_is a b Equal (same_numbers origin a b h.0 h.1 e))
+levels_tie origin (Value-F.Num a) m p q h e = let low = h.1 in absurd (omega (arith, low, e))
+levels_tie origin l m p q h e = let low = h.1 in absurd (omega (arith, low))
 
--- values of such a rank are one
-pub values_tie : (scale : Scale) (v w : Value) → is_decided scale (value_rank scale v) ≡ true → value_rank scale v ≡ value_rank scale w → value_cmp v w ≡ Equal
-values_tie (Numbers origin) v w d e =
-    ap (λ (f : Value → Ordering). f w) (fold_out-Value (Value → Ordering) cmp_step v) ∙ levels_tie origin (out-Value v) (out-Value w) (inside origin (value_rank (Numbers origin) v) d) e
-values_tie Texts v w d e = cc
+-- values of such a rank are one, where none is a Huge
+pub values_tie : (scale : Scale) (v w : Value) → huge_at (out-Value v) ≡ false → huge_at (out-Value w) ≡ false → is_decided scale (value_rank scale v) ≡ true → value_rank scale v ≡ value_rank scale w → value_cmp v w ≡ Equal
+values_tie (Numbers origin) v w p q d e =
+    ap (λ (f : Value → Ordering). f w) (fold_out-Value (Value → Ordering) cmp_step v) ∙ levels_tie origin (out-Value v) (out-Value w) p q (inside origin (value_rank (Numbers origin) v) d) e
+values_tie Texts v w p q d e = cc

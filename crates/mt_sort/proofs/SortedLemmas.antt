@@ -1,5 +1,6 @@
 -- What `sorted_by` keeps: the elements, what is seen of each, and a list that is in order.
 use Rattle.std.proofs.Common.{◌≡◌, Bool, true, false, cond, not, ◌&&◌, List, [], ◌∷◌, map, refl, ap, sym, ◌∙◌}
+use Rattle.std.specs.List.{AllByRecursion}
 use Rattle.std.specs.List.Sorted.{IsPermutation}
 use Rattle.std.specs.Ordering.{is_gt}
 use Rattle.std.specs.declared.cmp.Ordering.{Ordering}
@@ -41,16 +42,28 @@ module _ {X : Type 0} (R : X → X → Ordering) where
       let here : x ∷ y ∷ ys ≡ placed_by R x (y ∷ ys) = ap (λ b. cond b (y ∷ placed_by R x ys) (x ∷ y ∷ ys)) (sym (first_not_above above (is_in_order R (y ∷ ys)) e)) in
       here ∙ ap (placed_by R x) rest
 
-  module _ (S : X → X → Ordering) (same : (x y : X) → R x y ≡ S x y) where
-    placed_same : (x : X) (ys : List X) → placed_by R x ys ≡ placed_by S x ys
-    placed_same x [] = refl
-    placed_same x (y ∷ ys) =
-        ap (λ o. cond (is_gt o) (y ∷ placed_by R x ys) (x ∷ y ∷ ys)) (same x y) ∙ ap (λ l. cond (is_gt (S x y)) (y ∷ l) (x ∷ y ∷ ys)) (placed_same x ys)
+  module _ (S : X → X → Ordering) (P : X → Type 0) (same : (x y : X) → P x → P y → R x y ≡ S x y) where
+    placed_all : (x : X) (ys : List X) → P x → AllByRecursion P ys → AllByRecursion P (placed_by R x ys)
+    placed_all x [] p all = (p, tt)
+    placed_all x (y ∷ ys) p all =
+        elim (is_gt (R x y)) as (λ b. AllByRecursion P (cond b (y ∷ placed_by R x ys) (x ∷ y ∷ ys))) [
+          | true ↦ (all.0, placed_all x ys p all.1)
+          | false ↦ (p, all)
+        ]
 
-    -- orders that agree sort alike
-    pub sorted_same : (xs : List X) → sorted_by R xs ≡ sorted_by S xs
-    sorted_same [] = refl
-    sorted_same (x ∷ xs) = placed_same x (sorted_by R xs) ∙ ap (placed_by S x) (sorted_same xs)
+    sorted_all : (xs : List X) → AllByRecursion P xs → AllByRecursion P (sorted_by R xs)
+    sorted_all [] all = tt
+    sorted_all (x ∷ xs) all = placed_all x (sorted_by R xs) all.0 (sorted_all xs all.1)
+
+    placed_same : (x : X) (ys : List X) → P x → AllByRecursion P ys → placed_by R x ys ≡ placed_by S x ys
+    placed_same x [] p all = refl
+    placed_same x (y ∷ ys) p all =
+        ap (λ o. cond (is_gt o) (y ∷ placed_by R x ys) (x ∷ y ∷ ys)) (same x y p all.0) ∙ ap (λ l. cond (is_gt (S x y)) (y ∷ l) (x ∷ y ∷ ys)) (placed_same x ys p all.1)
+
+    -- orders that agree on all elements sort them alike
+    pub sorted_same : (xs : List X) → AllByRecursion P xs → sorted_by R xs ≡ sorted_by S xs
+    sorted_same [] all = refl
+    sorted_same (x ∷ xs) all = placed_same x (sorted_by R xs) all.0 (sorted_all xs all.1) ∙ ap (placed_by S x) (sorted_same xs all.1)
 
 module _ {X Y : Type 0} (f : X → Y) (R : Y → Y → Ordering) where
   map_placed : (x : X) (ys : List X) → map f (placed_by (λ a b. R (f a) (f b)) x ys) ≡ placed_by R (f x) (map f ys)

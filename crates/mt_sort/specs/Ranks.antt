@@ -1,8 +1,10 @@
 -- The rank of a value: a number that never falls along the order on values.
-use Rattle.std.specs.Prelude.{ℕ, zero, suc, ◌+◌, ◌-◌, ◌*◌, ◌^◌, min, nat_lt, Bool, false, ◌&&◌, ℤ, pos, negsuc, List, [], ◌∷◌, if◌then◌else◌}
+use Rattle.std.specs.Prelude.{ℕ, zero, suc, ◌+◌, ◌-◌, ◌*◌, ◌^◌, min, nat_lt, Bool, true, false, ◌&&◌, ℤ, pos, negsuc, List, [], ◌∷◌, if◌then◌else◌}
 use Rattle.mt_types.specs.declared.value.Value.{Value, out-Value}
 use Rattle.mt_types.specs.declared.value.Value.TheOpen.{Value-F}
+use Rattle.std.specs.List.{list_any}
 use Rattle.mt_types.specs.Fits.{Level}
+use Rattle.mt_defs.specs.Rows.{Row, cell}
 use Rattle.mt_sort.specs.declared.rank.Scale.{Scale}
 use Rattle.mt_sort.specs.declared.rank.Scale.TheVariants.{Numbers, Texts}
 
@@ -28,7 +30,9 @@ text_rank bytes = prefix_rank 8 bytes
 -- the rank of one level of a value
 abbrev pub level_rank : Scale → Level → ℕ
 level_rank (Numbers origin) (Value-F.Num n) = number_rank origin n
+level_rank (Numbers origin) (Value-F.Huge n) = number_rank origin (pos n)
 level_rank Texts (Value-F.Num n) = 0
+level_rank Texts (Value-F.Huge n) = 0
 level_rank Texts (Value-F.Text bytes) = text_rank bytes
 level_rank _ _ = top_rank
 
@@ -36,7 +40,16 @@ level_rank _ _ = top_rank
 abbrev pub value_rank : Scale → Value → ℕ
 value_rank scale value = level_rank scale (out-Value value)
 
--- whether only one value has this rank: a number that neither end has cut off
+-- whether only one value that is no Huge has this rank: a number that neither end has cut off
 abbrev pub is_decided : Scale → ℕ → Bool
 is_decided (Numbers origin) rank = nat_lt 0 rank && nat_lt rank top_rank
 is_decided Texts rank = false
+
+-- a Huge, which ties in rank with a Num of the same number
+abbrev pub huge_at : Level → Bool
+huge_at (Value-F.Huge n) = true
+huge_at _ = false
+
+-- whether a row has a Huge in one of these columns
+abbrev pub has_huge : List ℕ → Row → Bool
+has_huge columns row = list_any (λ column. huge_at (out-Value (cell row column))) columns

@@ -4,6 +4,7 @@
 #![tactic(auto)]
 
 mod compare;
+mod huge;
 mod law;
 mod one_rank;
 mod rank;

@@ -1,8 +1,10 @@
 //! Rows in the order of one column, each beside the rank of its value there.
 
-ghost use Rattle.std.specs.Prelude.{◌≡◌, [], ◌∷◌, map, IfOk};
+ghost use Rattle.std.specs.Prelude.{◌≡◌, [], ◌∷◌, map, IfOk, false};
+ghost use Rattle.std.specs.List.{list_any};
 ghost use Rattle.mt_types.specs.Order.{values_cmp};
 ghost use Rattle.mt_defs.specs.Sorting.{sorted_rows};
+ghost use Rattle.mt_sort.specs.Ranks.{has_huge};
 ghost use Rattle.mt_sort.specs.RankedOnce.{key_left, ranked_cmp, ranked_row};
 
 use crate::compare::compare_rows;
@@ -28,6 +30,7 @@ pub fn sort_by_one_rank(
     column: u32,
     rows: List<Row>,
 ) -> Result<List<Row>, NoMemory>
+    requires { list_any (has_huge (column ∷ [])) rows ≡ false }
     ensures { IfOk result (λ sorted. sorted ≡ sorted_rows (column ∷ []) rows) }
 {
     let mut ranked = with_ranks(alloc, scale, column, rows)?;

@@ -1,6 +1,6 @@
 //! The rank of a value: a number that never falls along the order on values.
 
-ghost use Rattle.std.specs.Prelude.{◌≡◌, slice_index_or};
+ghost use Rattle.std.specs.Prelude.{◌≡◌, pos, slice_index_or};
 ghost use Rattle.mt_defs.specs.Rows.{cell};
 ghost use Rattle.mt_sort.specs.Ranks.{is_decided, number_rank, text_rank, value_rank};
 
@@ -19,12 +19,12 @@ pub enum Scale {
 pub fn scale_of(ty: &Ty) -> Scale {
     match ty {
         Ty::Int(_) => Scale::Numbers(1 << 63),
-        Ty::UInt(_) | Ty::Date => Scale::Numbers(1),
+        Ty::UInt(_) | Ty::Date | Ty::Moment => Scale::Numbers(1),
         _ => Scale::Texts,
     }
 }
 
-/// Whether only one value has this rank: a number that neither end has cut off.
+/// Whether only one value that is no Huge has this rank: a number that neither end has cut off.
 pub fn is_decided(scale: Scale, rank: u64) -> bool
     ensures { result ≡ is_decided scale rank }
 {
@@ -50,7 +50,8 @@ fn value_rank(scale: Scale, value: &Value) -> u64
 {
     match (scale, value) {
         (Scale::Numbers(zero), Value::Num(number)) => number_rank(zero, *number),
-        (Scale::Texts, Value::Num(_)) => 0,
+        (Scale::Numbers(zero), Value::Huge(number)) => natural_rank(zero, *number),
+        (Scale::Texts, Value::Num(_) | Value::Huge(_)) => 0,
         (Scale::Texts, Value::Text(bytes)) => text_rank(bytes.as_slice()),
         _ => u64::MAX,
     }
@@ -65,6 +66,13 @@ fn number_rank(zero: u64, number: i128) -> u64
     } else {
         zero.saturating_add(u64::try_from(number).unwrap_or(u64::MAX))
     }
+}
+
+/// The same of a number from 0 on.
+fn natural_rank(zero: u64, number: u128) -> u64
+    ensures { result ≡ number_rank zero (pos number) }
+{
+    zero.saturating_add(u64::try_from(number).unwrap_or(u64::MAX))
 }
 
 /// The number that the first 8 bytes spell, zeros after the last.

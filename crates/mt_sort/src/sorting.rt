@@ -6,6 +6,7 @@ ghost use Rattle.mt_defs.specs.Sorting.{sorted_rows};
 ghost use Rattle.mt_sort.specs.InOrder.{is_in_order};
 
 use crate::compare::compare_rows;
+use crate::huge::any_huge;
 use crate::one_rank::sort_by_one_rank;
 use crate::rank::{Scale, scale_of};
 use crate::two_ranks::{Scales, sort_by_two_ranks};
@@ -23,6 +24,9 @@ pub fn sort_rows(alloc: Global, table: &Table, rows: List<Row>) -> Result<List<R
     if is_in_order(key, rows.as_slice()) {
         return Ok(rows);
     }
+    if any_huge(key, rows.as_slice()) {
+        return sort_by_values(key, rows);
+    }
     let Some((column, others)) = key.split_first() else {
         return Ok(rows);
     };
@@ -33,6 +37,15 @@ pub fn sort_rows(alloc: Global, table: &Table, rows: List<Row>) -> Result<List<R
     let second = scale_at(table, *other);
     let scales = Scales { first, second };
     sort_by_two_ranks(alloc, scales, *column, others, key, rows)
+}
+
+/// The rows in the order of a key, compared by their values alone. On `NoMemory` the rows are dropped.
+fn sort_by_values(key: &[u32], rows: List<Row>) -> Result<List<Row>, NoMemory>
+    ensures { IfOk result (λ sorted. sorted ≡ sorted_rows key.now rows) }
+{
+    let mut sorted = rows.into_vec();
+    sorted.sort_by(|a, b| compare_rows(key, a, b))?;
+    Ok(List::of(sorted))
 }
 
 /// The scale of a column's values.

@@ -1,8 +1,10 @@
 //! Rows in the order of a key, each beside the ranks of its first two key columns.
 
-ghost use Rattle.std.specs.Prelude.{◌≡◌, ◌∷◌, map, IfOk};
+ghost use Rattle.std.specs.Prelude.{◌≡◌, ◌∷◌, map, IfOk, false};
+ghost use Rattle.std.specs.List.{list_any};
 ghost use Rattle.mt_types.specs.Order.{values_cmp};
 ghost use Rattle.mt_defs.specs.Sorting.{sorted_rows};
+ghost use Rattle.mt_sort.specs.Ranks.{has_huge};
 ghost use Rattle.mt_sort.specs.RankedTwice.{are_decided, key_left, ranked_cmp, ranked_row, second_rank};
 
 use crate::compare::compare_rows;
@@ -41,7 +43,8 @@ pub fn sort_by_two_ranks(
     key: &[u32],
     rows: List<Row>,
 ) -> Result<List<Row>, NoMemory>
-    requires { key.now ≡ column ∷ others.now }
+    requires whole { key.now ≡ column ∷ others.now }
+    requires ranked { list_any (has_huge key.now) rows ≡ false }
     ensures { IfOk result (λ sorted. sorted ≡ sorted_rows key.now rows) }
 {
     let mut ranked = with_ranks(alloc, scales, column, others, rows)?;

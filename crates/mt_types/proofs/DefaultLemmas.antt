@@ -5,23 +5,25 @@ use Rattle.std.specs.List.{list_all}
 use Rattle.std.proofs.lemmas.Bool.{and_from, eq-eqb}
 use Rattle.std.proofs.lemmas.List.{length-replicate}
 use Rattle.mt_types.specs.declared.ty.Width.{Width}
-use Rattle.mt_types.specs.declared.ty.Width.TheVariants.{W8, W16, W32, W64}
+use Rattle.mt_types.specs.declared.ty.Width.TheVariants.{W8, W16, W32, W64, W128}
 use Rattle.mt_types.specs.declared.ty.Agg.TheVariants.{Sum, Min, Max}
 use Rattle.mt_types.specs.declared.ty.Ty.{Ty, map-Ty, out-Ty}
 use Rattle.mt_types.specs.declared.ty.Ty.TheOpen.{Ty-F}
 use Rattle.mt_types.specs.declared.ty.Ty.TheFolds.{fold_out-Ty}
 use Rattle.mt_types.specs.declared.value.Value.{Value}
+use Rattle.mt_types.specs.declared.value.Value.TheOpen.{Value-F}
 use Rattle.mt_types.specs.declared.value.Value.TheVariants.{outs-Num, outs-Text, outs-Null, outs-List, outs-State}
 use Rattle.mt_types.specs.Bytes.{is_byte}
 use Rattle.mt_types.specs.Defaults.{default_of, default_at}
-use Rattle.mt_types.specs.Fits.{fits_of, fits_step, bits, is_unsigned, is_signed}
+use Rattle.mt_types.specs.Fits.{fits_of, fits_step, bits, natural_at, is_signed}
 
 -- 0 is a number of each width
-zero_unsigned : (w : Width) → is_unsigned (bits w) (pos 0) ≡ true
-zero_unsigned W8 = refl
-zero_unsigned W16 = refl
-zero_unsigned W32 = refl
-zero_unsigned W64 = refl
+zero_natural : (w : Width) → natural_at w (Value-F.Num (pos 0)) ≡ true
+zero_natural W8 = refl
+zero_natural W16 = refl
+zero_natural W32 = refl
+zero_natural W64 = refl
+zero_natural W128 = refl
 
 -- and of each with a sign
 zero_signed : (w : Width) → is_signed (bits w) (pos 0) ≡ true
@@ -29,6 +31,7 @@ zero_signed W8 = refl
 zero_signed W16 = refl
 zero_signed W32 = refl
 zero_signed W64 = refl
+zero_signed W128 = refl
 
 -- zeros are bytes
 zeros_are_bytes : (n : ℕ) → list_all is_byte (replicate n 0) ≡ true
@@ -37,11 +40,12 @@ zeros_are_bytes (suc n) = zeros_are_bytes n
 
 -- at one level
 default_fits_step : (l : Ty-F Ty) → fits_step (map-Ty Ty (Value → Bool) (λ t. fits_of t) l) (default_at l) ≡ true
-default_fits_step (Ty-F.UInt w) = rw (outs-Num (pos 0)) (zero_unsigned w)
+default_fits_step (Ty-F.UInt w) = rw (outs-Num (pos 0)) (zero_natural w)
 default_fits_step (Ty-F.Int w) = rw (outs-Num (pos 0)) (zero_signed w)
 default_fits_step (Ty-F.FixedString n) = rw (outs-Text (replicate n 0)) (and_from _ _ (eq-eqb (length (replicate n 0)) n (length-replicate n 0)) (zeros_are_bytes n))
 default_fits_step Ty-F.Str = rw (outs-Text []) refl
 default_fits_step Ty-F.Date = rw (outs-Num (pos 0)) refl
+default_fits_step Ty-F.Moment = rw (outs-Num (pos 0)) refl
 default_fits_step (Ty-F.Nullable t) = rw outs-Null refl
 default_fits_step (Ty-F.Array t) = rw (outs-List []) refl
 default_fits_step (Ty-F.State Sum t) = simp outs-State refl

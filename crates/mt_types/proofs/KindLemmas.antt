@@ -8,8 +8,8 @@ use Rattle.mt_types.specs.declared.ty.Agg.{Agg}
 use Rattle.mt_types.specs.declared.ty.Agg.TheVariants.{Sum, Min, Max}
 use Rattle.mt_types.specs.declared.ty.Ty.{Ty, out-Ty}
 use Rattle.mt_types.specs.declared.ty.Ty.TheOpen.{Ty-F}
-use Rattle.mt_types.specs.declared.ty.Ty.TheVariants.{UInt, Int, FixedString, Str, Date, Nullable, Array, State, CountState, outs-UInt, outs-Int, outs-FixedString, outs-Str, outs-Date, outs-Nullable, outs-Array, outs-State, outs-CountState}
-use Rattle.mt_types.specs.Profile.{Kind, Whole, Day, Bytes, Optional, Nested, Stored, Unknown, kind_of, optional_kind, array_kind, state_kind}
+use Rattle.mt_types.specs.declared.ty.Ty.TheVariants.{UInt, Int, FixedString, Str, Date, Moment, Nullable, Array, State, CountState, outs-UInt, outs-Int, outs-FixedString, outs-Str, outs-Date, outs-Moment, outs-Nullable, outs-Array, outs-State, outs-CountState}
+use Rattle.mt_types.specs.Profile.{Kind, Whole, Day, Plain, Optional, Nested, Stored, Unknown, width_kind, kind_of, optional_kind, array_kind, state_kind}
 use Rattle.mt_types.proofs.OptionLemmas.{both_true}
 use Rattle.mt_types.proofs.Levels.{same_level, kind_at}
 
@@ -28,7 +28,7 @@ IsNumber _ = ⊥
 abbrev pub IsScalar : Kind → Type 0
 IsScalar Whole = Unit {0}
 IsScalar Day = Unit {0}
-IsScalar Bytes = Unit {0}
+IsScalar Plain = Unit {0}
 IsScalar _ = ⊥
 
 -- what has at most so many arrays and is no state
@@ -40,11 +40,12 @@ Nests arrays _ = Unit {0}
 
 -- a type and its kind
 pub data Known (t : Ty) : Type 0 where
-  unsigned : (w : Width) → t ≡ UInt w → kind_of t ≡ Whole → Known t
-  signed : (w : Width) → t ≡ Int w → kind_of t ≡ Whole → Known t
+  unsigned : (w : Width) → t ≡ UInt w → kind_of t ≡ width_kind w → Known t
+  signed : (w : Width) → t ≡ Int w → kind_of t ≡ width_kind w → Known t
   day : t ≡ Date → kind_of t ≡ Day → Known t
-  text : t ≡ Str → kind_of t ≡ Bytes → Known t
-  fixed : (n : ℕ) → t ≡ FixedString n → 1 ≤ n → n ≤ MAX_FIXED_STRING → kind_of t ≡ Bytes → Known t
+  moment : t ≡ Moment → kind_of t ≡ Plain → Known t
+  text : t ≡ Str → kind_of t ≡ Plain → Known t
+  fixed : (n : ℕ) → t ≡ FixedString n → 1 ≤ n → n ≤ MAX_FIXED_STRING → kind_of t ≡ Plain → Known t
   optional : (inner : Ty) → t ≡ Nullable inner → IsScalar (kind_of inner) → kind_of t ≡ Optional → Known t
   nested : (inner : Ty) (depth : ℕ) → t ≡ Array inner → array_kind (kind_of inner) ≡ Nested depth → kind_of t ≡ Nested depth → Known t
   stored : (agg : Agg) (inner : Ty) → t ≡ State agg inner → state_kind agg (kind_of inner) ≡ Stored → kind_of t ≡ Stored → Known t
@@ -52,7 +53,7 @@ pub data Known (t : Ty) : Type 0 where
   outside : kind_of t ≡ Unknown → Known t
 
 -- a FixedString of a size within the limit
-fixed_known : (t : Ty) (n : ℕ) (test : Bool) → (nat_le 1 n && nat_le n MAX_FIXED_STRING) ≡ test → t ≡ FixedString n → kind_of t ≡ (if test then Bytes else Unknown) → Known t
+fixed_known : (t : Ty) (n : ℕ) (test : Bool) → (nat_le 1 n && nat_le n MAX_FIXED_STRING) ≡ test → t ≡ FixedString n → kind_of t ≡ (if test then Plain else Unknown) → Known t
 fixed_known t n true e is k =
     let both = both_true (nat_le 1 n) (nat_le n MAX_FIXED_STRING) e in
     fixed n is (leb-true 1 n both.0) (leb-true n MAX_FIXED_STRING both.1) k
@@ -62,7 +63,7 @@ fixed_known t n false e is k = outside k
 optional_known : (t inner : Ty) (k : Kind) → kind_of inner ≡ k → t ≡ Nullable inner → kind_of t ≡ optional_kind k → Known t
 optional_known t inner Whole e is k = optional inner is (subst IsScalar (sym e) tt) k
 optional_known t inner Day e is k = optional inner is (subst IsScalar (sym e) tt) k
-optional_known t inner Bytes e is k = optional inner is (subst IsScalar (sym e) tt) k
+optional_known t inner Plain e is k = optional inner is (subst IsScalar (sym e) tt) k
 optional_known t inner _ e is k = outside k
 
 -- Array and the states give no other kind than their own
@@ -86,7 +87,7 @@ deeper_arrayed false depth = 0
 arrayed : (k : Kind) → IsArrayed (array_kind k)
 arrayed Whole = 0
 arrayed Day = 0
-arrayed Bytes = 0
+arrayed Plain = 0
 arrayed Optional = 0
 arrayed (Nested depth) = deeper_arrayed (nat_lt depth MAX_ARRAY_DEPTH) (depth + 1)
 arrayed Stored = 0
@@ -123,6 +124,7 @@ known_at t (Ty-F.Int w) is = signed w (same_level t (Int w) (is ∙ sym (outs-In
 known_at t (Ty-F.FixedString n) is = fixed_known t n (nat_le 1 n && nat_le n MAX_FIXED_STRING) refl (same_level t (FixedString n) (is ∙ sym (outs-FixedString n))) (kind_at t (Ty-F.FixedString n) is)
 known_at t Ty-F.Str is = text (same_level t Str (is ∙ sym outs-Str)) (kind_at t Ty-F.Str is)
 known_at t Ty-F.Date is = day (same_level t Date (is ∙ sym outs-Date)) (kind_at t Ty-F.Date is)
+known_at t Ty-F.Moment is = moment (same_level t Moment (is ∙ sym outs-Moment)) (kind_at t Ty-F.Moment is)
 known_at t (Ty-F.Nullable inner) is = optional_known t inner (kind_of inner) refl (same_level t (Nullable inner) (is ∙ sym (outs-Nullable inner))) (kind_at t (Ty-F.Nullable inner) is)
 known_at t (Ty-F.Array inner) is = nested_known t inner (array_kind (kind_of inner)) (arrayed (kind_of inner)) refl (same_level t (Array inner) (is ∙ sym (outs-Array inner))) (kind_at t (Ty-F.Array inner) is)
 known_at t (Ty-F.State agg inner) is = stored_known t inner agg (state_kind agg (kind_of inner)) (is_state agg (kind_of inner)) refl (same_level t (State agg inner) (is ∙ sym (outs-State agg inner))) (kind_at t (Ty-F.State agg inner) is)
@@ -143,7 +145,7 @@ deeper_is d depth false e is = cc
 pub array_depth : (k : Kind) (depth : ℕ) → array_kind k ≡ Nested depth → (1 ≤ depth) × (depth ≤ MAX_ARRAY_DEPTH) × ((arrays : ℕ) → depth ≤ suc arrays → Nests arrays k)
 array_depth Whole depth e = let one : 1 ≡ depth = cc in (omega arith, omega arith, λ arrays h. tt)
 array_depth Day depth e = let one : 1 ≡ depth = cc in (omega arith, omega arith, λ arrays h. tt)
-array_depth Bytes depth e = let one : 1 ≡ depth = cc in (omega arith, omega arith, λ arrays h. tt)
+array_depth Plain depth e = let one : 1 ≡ depth = cc in (omega arith, omega arith, λ arrays h. tt)
 array_depth Optional depth e = let one : 1 ≡ depth = cc in (omega arith, omega arith, λ arrays h. tt)
 array_depth (Nested d) depth e = let is = deeper_is d depth (nat_lt d MAX_ARRAY_DEPTH) refl e in (omega (arith, is.0), is.1, λ arrays h. omega (arith, is.0, h))
 array_depth Stored depth e = cc

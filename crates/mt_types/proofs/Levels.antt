@@ -8,10 +8,10 @@ use Rattle.mt_types.specs.declared.ty.Agg.{Agg}
 use Rattle.mt_types.specs.declared.ty.Ty.{Ty, map-Ty, out-Ty, roll-Ty}
 use Rattle.mt_types.specs.declared.ty.Ty.TheOpen.{Ty-F}
 use Rattle.mt_types.specs.declared.ty.Ty.TheViews.{roll-out-Ty}
-use Rattle.mt_types.specs.declared.ty.Ty.TheVariants.{UInt, Int, FixedString, Str, Date, Nullable, Array, State, CountState, outs-UInt, outs-Int, outs-FixedString, outs-Str, outs-Date, outs-Nullable, outs-Array, outs-State, outs-CountState}
+use Rattle.mt_types.specs.declared.ty.Ty.TheVariants.{UInt, Int, FixedString, Str, Date, Moment, Nullable, Array, State, CountState, outs-UInt, outs-Int, outs-FixedString, outs-Str, outs-Date, outs-Moment, outs-Nullable, outs-Array, outs-State, outs-CountState}
 use Rattle.mt_types.specs.declared.ty.Ty.TheFolds.{fold_out-Ty}
 use Rattle.mt_types.specs.Names.{type_name, name_step, state_opening, width_text}
-use Rattle.mt_types.specs.Profile.{Kind, Whole, Day, Bytes, Stored, Unknown, kind_of, kind_step, optional_kind, array_kind, state_kind}
+use Rattle.mt_types.specs.Profile.{Kind, Whole, Day, Plain, Stored, Unknown, width_kind, kind_of, kind_step, optional_kind, array_kind, state_kind}
 
 -- types of one level are the same
 pub same_level : (t u : Ty) → out-Ty t ≡ out-Ty u → t ≡ u
@@ -41,6 +41,9 @@ name-Str = name_at Str Ty-F.Str outs-Str
 pub name-Date : type_name Date ≡ codes "Date"
 name-Date = name_at Date Ty-F.Date outs-Date
 
+pub name-Moment : type_name Moment ≡ codes "DateTime('UTC')"
+name-Moment = name_at Moment Ty-F.Moment outs-Moment
+
 pub name-CountState : type_name CountState ≡ codes "AggregateFunction(count)"
 name-CountState = name_at CountState Ty-F.CountState outs-CountState
 
@@ -54,20 +57,23 @@ pub name-State : (agg : Agg) (t : Ty) → type_name (State agg t) ≡ state_open
 name-State agg t = name_at (State agg t) (Ty-F.State agg t) (outs-State agg t)
 
 -- the kind of each variant
-pub kind-UInt : (w : Width) → kind_of (UInt w) ≡ Whole
+pub kind-UInt : (w : Width) → kind_of (UInt w) ≡ width_kind w
 kind-UInt w = kind_at (UInt w) (Ty-F.UInt w) (outs-UInt w)
 
-pub kind-Int : (w : Width) → kind_of (Int w) ≡ Whole
+pub kind-Int : (w : Width) → kind_of (Int w) ≡ width_kind w
 kind-Int w = kind_at (Int w) (Ty-F.Int w) (outs-Int w)
 
-pub kind-FixedString : (n : ℕ) → kind_of (FixedString n) ≡ (if nat_le 1 n && nat_le n MAX_FIXED_STRING then Bytes else Unknown)
+pub kind-FixedString : (n : ℕ) → kind_of (FixedString n) ≡ (if nat_le 1 n && nat_le n MAX_FIXED_STRING then Plain else Unknown)
 kind-FixedString n = kind_at (FixedString n) (Ty-F.FixedString n) (outs-FixedString n)
 
-pub kind-Str : kind_of Str ≡ Bytes
+pub kind-Str : kind_of Str ≡ Plain
 kind-Str = kind_at Str Ty-F.Str outs-Str
 
 pub kind-Date : kind_of Date ≡ Day
 kind-Date = kind_at Date Ty-F.Date outs-Date
+
+pub kind-Moment : kind_of Moment ≡ Plain
+kind-Moment = kind_at Moment Ty-F.Moment outs-Moment
 
 pub kind-CountState : kind_of CountState ≡ Stored
 kind-CountState = kind_at CountState Ty-F.CountState outs-CountState

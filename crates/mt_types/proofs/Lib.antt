@@ -7,6 +7,7 @@ pub mod TextLemmas
 pub mod Levels
 pub mod SizeLemmas
 pub mod KindLemmas
+pub mod NumberLemmas
 pub mod NameLemmas
 pub mod ReadingLemmas
 pub mod StepLemmas

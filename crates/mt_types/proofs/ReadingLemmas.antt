@@ -7,17 +7,17 @@ use Rattle.std.proofs.lemmas.Bool.{lt-ltb, le-leb}
 use Rattle.std.proofs.lemmas.Slice.Eq.{bytes_eq-Decides}
 use Rattle.mt_types.specs.declared.limits.TheConstants.{MAX_FIXED_STRING, MAX_ARRAY_DEPTH}
 use Rattle.mt_types.specs.declared.ty.Width.{Width}
-use Rattle.mt_types.specs.declared.ty.Width.TheVariants.{W8, W16, W32, W64}
+use Rattle.mt_types.specs.declared.ty.Width.TheVariants.{W8, W16, W32, W64, W128}
 use Rattle.mt_types.specs.declared.ty.Agg.TheVariants.{Sum, Min, Max}
 use Rattle.mt_types.specs.declared.ty.Ty.{Ty}
-use Rattle.mt_types.specs.declared.ty.Ty.TheVariants.{UInt, Int, FixedString, Str, Date, Nullable, Array, State, CountState}
+use Rattle.mt_types.specs.declared.ty.Ty.TheVariants.{UInt, Int, FixedString, Str, Date, Moment, Nullable, Array, State, CountState}
 use Rattle.mt_types.specs.declared.ty.error.TyError.{TyError}
 use Rattle.mt_types.specs.declared.ty.error.TyError.TheVariants.{NotAType, NoMemory}
 use Rattle.mt_types.specs.Names.{type_name, state_opening, width_text}
-use Rattle.mt_types.specs.NameReading.{GivesType, after_prefix, between, width_named, integer_named, number_named, scalar_named, optional_named, nested_named, type_named, size_named, within, state_named}
-use Rattle.mt_types.specs.Profile.{Kind, Whole, Day, Bytes, Optional, Nested, Stored, Unknown, kind_of, is_profile, is_known, optional_kind, array_kind, state_kind}
+use Rattle.mt_types.specs.NameReading.{GivesType, after_prefix, between, width_named, integer_named, number_named, scalar_named, sized_named, optional_named, nested_named, type_named, size_named, within, state_named}
+use Rattle.mt_types.specs.Profile.{Kind, Whole, Day, Plain, Optional, Nested, Stored, Unknown, width_kind, kind_of, is_profile, is_known, optional_kind, array_kind, state_kind}
 use Rattle.mt_types.proofs.OptionLemmas.{chosen_is, mapped_is}
-use Rattle.mt_types.proofs.Levels.{name-UInt, name-Int, name-FixedString, name-Str, name-Date, name-Nullable, name-Array, name-State, name-CountState, kind-UInt, kind-Int, kind-FixedString, kind-Str, kind-Date, kind-Nullable, kind-Array, kind-State, kind-CountState}
+use Rattle.mt_types.proofs.Levels.{name-UInt, name-Int, name-FixedString, name-Str, name-Date, name-Moment, name-Nullable, name-Array, name-State, name-CountState, kind-UInt, kind-Int, kind-FixedString, kind-Str, kind-Date, kind-Moment, kind-Nullable, kind-Array, kind-State, kind-CountState}
 use Rattle.mt_types.proofs.KindLemmas.{IsWhole, IsNumber, IsScalar, Nests}
 use Rattle.mt_types.proofs.NameLemmas.{type_named_of_name}
 use Rattle.mt_types.proofs.SizeLemmas.{size_is}
@@ -68,14 +68,14 @@ number_scalar _ h = absurd h
 scalar_nests : (arrays : ℕ) (k : Kind) → IsScalar k → Nests arrays k
 scalar_nests arrays Whole h = tt
 scalar_nests arrays Day h = tt
-scalar_nests arrays Bytes h = tt
+scalar_nests arrays Plain h = tt
 scalar_nests arrays _ h = absurd h
 
 -- what has no arrays
 nests_more : (arrays : ℕ) (k : Kind) → Nests 0 k → Nests arrays k
 nests_more arrays Whole h = tt
 nests_more arrays Day h = tt
-nests_more arrays Bytes h = tt
+nests_more arrays Plain h = tt
 nests_more arrays Optional h = tt
 nests_more arrays (Nested depth) h = omega arith
 nests_more arrays Stored h = absurd h
@@ -85,17 +85,25 @@ nests_more arrays Unknown h = absurd h
 weaker : (K L : Kind → Type 0) (t : Ty) (text : List ℕ) → ((k : Kind) → K k → L k) → Named K t text → Named L t text
 weaker K L t text more h = record { kind = more (kind_of t) h.kind; name = h.name }
 
+-- a width of at most 64 bits
+record Narrow (w : Width) (text : List ℕ) : Type 0 where
+  pub whole : IsWhole (width_kind w)
+  pub name : text ≡ width_text w
+
+narrow_as : (w v : Width) (text : List ℕ) → w ≡ v → text ≡ width_text v → IsWhole (width_kind v) → Narrow w text
+narrow_as w v text same is whole = record { whole = subst (λ u. IsWhole (width_kind u)) (sym same) whole; name = is ∙ ap width_text (sym same) }
+
 -- widths
-width_is : (text : List ℕ) (w : Width) → width_named text ≡ Some w → text ≡ width_text w
+width_is : (text : List ℕ) (w : Width) → width_named text ≡ Some w → Narrow w text
 width_is text w e =
     elim (word_is text (codes "8") W8 _ w e) [
-      | inl same ↦ same.0 ∙ ap width_text (sym same.1)
+      | inl same ↦ narrow_as w W8 text same.1 same.0 tt
       | inr e2 ↦ elim (word_is text (codes "16") W16 _ w e2) [
-        | inl same ↦ same.0 ∙ ap width_text (sym same.1)
+        | inl same ↦ narrow_as w W16 text same.1 same.0 tt
         | inr e3 ↦ elim (word_is text (codes "32") W32 _ w e3) [
-          | inl same ↦ same.0 ∙ ap width_text (sym same.1)
+          | inl same ↦ narrow_as w W32 text same.1 same.0 tt
           | inr e4 ↦ elim (word_is text (codes "64") W64 _ w e4) [
-            | inl same ↦ same.0 ∙ ap width_text (sym same.1)
+            | inl same ↦ narrow_as w W64 text same.1 same.0 tt
             | inr e5 ↦ cc
           ]
         ]
@@ -106,9 +114,13 @@ width_is text w e =
 integer_is : (text : List ℕ) (t : Ty) → integer_named text ≡ Some t → Named IsWhole t text
 integer_is text t e =
     elim (within_is UInt width_named _ (after_prefix (codes "UInt") text) t e) [
-      | inl (s, w, is, read, same) ↦ named_as IsWhole t (UInt w) text (codes "UInt" ++ width_text w) Whole same (name-UInt w) (after_prefix_is (codes "UInt") text s is ∙ ap (λ v. codes "UInt" ++ v) (width_is s w read)) (kind-UInt w) tt
+      | inl (s, w, is, read, same) ↦
+          let width = width_is s w read in
+          named_as IsWhole t (UInt w) text (codes "UInt" ++ width_text w) (width_kind w) same (name-UInt w) (after_prefix_is (codes "UInt") text s is ∙ ap (λ v. codes "UInt" ++ v) width.name) (kind-UInt w) width.whole
       | inr e2 ↦ elim (within_is Int width_named _ (after_prefix (codes "Int") text) t e2) [
-        | inl (s, w, is, read, same) ↦ named_as IsWhole t (Int w) text (codes "Int" ++ width_text w) Whole same (name-Int w) (after_prefix_is (codes "Int") text s is ∙ ap (λ v. codes "Int" ++ v) (width_is s w read)) (kind-Int w) tt
+        | inl (s, w, is, read, same) ↦
+            let width = width_is s w read in
+            named_as IsWhole t (Int w) text (codes "Int" ++ width_text w) (width_kind w) same (name-Int w) (after_prefix_is (codes "Int") text s is ∙ ap (λ v. codes "Int" ++ v) width.name) (kind-Int w) width.whole
         | inr e3 ↦ cc
       ]
     ]
@@ -124,20 +136,34 @@ number_is text t e =
 -- ---- scalars and Nullable
 
 -- a FixedString within the limit is of the profile
-sized_kind : (n : ℕ) → 1 ≤ n → n ≤ MAX_FIXED_STRING → kind_of (FixedString n) ≡ Bytes
+sized_kind : (n : ℕ) → 1 ≤ n → n ≤ MAX_FIXED_STRING → kind_of (FixedString n) ≡ Plain
 sized_kind n some small = kind-FixedString n ∙ rw (le-leb 1 n some, le-leb n MAX_FIXED_STRING small) refl
+
+-- FixedString and numbers
+sized_is : (text : List ℕ) (t : Ty) → sized_named text ≡ Some t → Named IsScalar t text
+sized_is text t e =
+    elim (within_is FixedString size_named _ (between (codes "FixedString(") text) t e) [
+      | inl (s, n, is, read, same) ↦
+          let size = size_is s n read in
+          named_as IsScalar t (FixedString n) text (codes "FixedString(" ++ decimal n ++ codes ")") Plain same (name-FixedString n)
+          (between_is (codes "FixedString(") text s is ∙ ap (λ v. codes "FixedString(" ++ v ++ codes ")") (sym size.2)) (sized_kind n size.1 size.0) tt
+      | inr e2 ↦ weaker IsNumber IsScalar t text number_scalar (number_is text t e2)
+    ]
 
 -- scalars
 scalar_is : (text : List ℕ) (t : Ty) → scalar_named text ≡ Some t → Named IsScalar t text
 scalar_is text t e =
     elim (word_is text (codes "String") Str _ t e) [
-      | inl same ↦ named_as IsScalar t Str text (codes "String") Bytes same.1 name-Str same.0 kind-Str tt
-      | inr e2 ↦ elim (within_is FixedString size_named _ (between (codes "FixedString(") text) t e2) [
-        | inl (s, n, is, read, same) ↦
-            let size = size_is s n read in
-            named_as IsScalar t (FixedString n) text (codes "FixedString(" ++ decimal n ++ codes ")") Bytes same (name-FixedString n)
-            (between_is (codes "FixedString(") text s is ∙ ap (λ v. codes "FixedString(" ++ v ++ codes ")") (sym size.2)) (sized_kind n size.1 size.0) tt
-        | inr e3 ↦ weaker IsNumber IsScalar t text number_scalar (number_is text t e3)
+      | inl same ↦ named_as IsScalar t Str text (codes "String") Plain same.1 name-Str same.0 kind-Str tt
+      | inr e2 ↦ elim (word_is text (codes "DateTime('UTC')") Moment _ t e2) [
+        | inl same ↦ named_as IsScalar t Moment text (codes "DateTime('UTC')") Plain same.1 name-Moment same.0 kind-Moment tt
+        | inr e3 ↦ elim (word_is text (codes "UInt128") (UInt W128) _ t e3) [
+          | inl same ↦ named_as IsScalar t (UInt W128) text (codes "UInt128") Plain same.1 (name-UInt W128) same.0 (kind-UInt W128) tt
+          | inr e4 ↦ elim (word_is text (codes "Int128") (Int W128) _ t e4) [
+            | inl same ↦ named_as IsScalar t (Int W128) text (codes "Int128") Plain same.1 (name-Int W128) same.0 (kind-Int W128) tt
+            | inr e5 ↦ sized_is text t e5
+          ]
+        ]
       ]
     ]
 
@@ -145,7 +171,7 @@ scalar_is text t e =
 optional_of_scalar : (k : Kind) → IsScalar k → optional_kind k ≡ Optional
 optional_of_scalar Whole h = refl
 optional_of_scalar Day h = refl
-optional_of_scalar Bytes h = refl
+optional_of_scalar Plain h = refl
 optional_of_scalar _ h = absurd h
 
 -- a type around another
@@ -174,7 +200,7 @@ deeper_nests arrays d in_arrays below = let less : d < MAX_ARRAY_DEPTH = omega a
 array_nests : (arrays : ℕ) → arrays < MAX_ARRAY_DEPTH → (k : Kind) → Nests arrays k → Nests (suc arrays) (array_kind k)
 array_nests arrays below Whole h = omega arith
 array_nests arrays below Day h = omega arith
-array_nests arrays below Bytes h = omega arith
+array_nests arrays below Plain h = omega arith
 array_nests arrays below Optional h = omega arith
 array_nests arrays below (Nested d) h = deeper_nests arrays d h below
 array_nests arrays below Stored h = absurd h
@@ -199,7 +225,7 @@ IsOfProfile k = is_known k ≡ true
 nests_known : (k : Kind) → Nests MAX_ARRAY_DEPTH k → IsOfProfile k
 nests_known Whole h = refl
 nests_known Day h = refl
-nests_known Bytes h = refl
+nests_known Plain h = refl
 nests_known Optional h = refl
 nests_known (Nested depth) h = refl
 nests_known Stored h = absurd h
@@ -252,6 +278,11 @@ type_is text t e =
 -- the law
 pub name_of_type_named : (text : List ℕ) (t : Ty) → type_named text ≡ Some t → (is_profile t ≡ true) × (type_name t ≡ text)
 name_of_type_named text t e = let h = type_is text t e in (h.kind, h.name)
+
+-- a text that is no array
+pub nested_none : (arrays : ℕ) (text : List ℕ) → 0 < arrays → between (codes "Array(") text ≡ None → nested_named arrays text ≡ optional_named text
+nested_none zero text some none = absurd (omega (arith, some))
+nested_none (suc arrays) text some none = ap (within Array (nested_named arrays) (optional_named text)) none
 
 -- ---- a reading's answer
 

@@ -29,6 +29,7 @@ level_writes (Value-F.Text bytes) = fed.u8 1 ++ fed.slice fed.u8 bytes
 level_writes (Value-F.List items) = fed.u8 2 ++ fed.slice (λ writes. writes) items
 level_writes (Value-F.State s) = fed.u8 3 ++ state_writes s
 level_writes Value-F.Null = fed.u8 4
+level_writes (Value-F.Huge n) = fed.u8 5 ++ fed.u128 n
 
 -- what a value feeds to a hash
 abbrev pub value_writes : Value → HashWrites

@@ -6,6 +6,7 @@ pub mod Profile
 pub mod Names
 pub mod Leb128
 pub mod Items
+pub mod Numbers
 pub mod Defaults
 pub mod NameReading
 pub mod Parts

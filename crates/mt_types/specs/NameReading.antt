@@ -4,10 +4,10 @@ use Rattle.std.specs.Prelude.{◌≡◌, ℕ, zero, suc, ◌+◌, ◌*◌, ◌-�
 use Rattle.std.specs.Str.{bytes_eq}
 use Rattle.mt_types.specs.declared.limits.TheConstants.{MAX_FIXED_STRING, MAX_ARRAY_DEPTH}
 use Rattle.mt_types.specs.declared.ty.Width.{Width}
-use Rattle.mt_types.specs.declared.ty.Width.TheVariants.{W8, W16, W32, W64}
+use Rattle.mt_types.specs.declared.ty.Width.TheVariants.{W8, W16, W32, W64, W128}
 use Rattle.mt_types.specs.declared.ty.Agg.TheVariants.{Sum, Min, Max}
 use Rattle.mt_types.specs.declared.ty.Ty.{Ty}
-use Rattle.mt_types.specs.declared.ty.Ty.TheVariants.{UInt, Int, FixedString, Str, Date, Nullable, Array, State, CountState}
+use Rattle.mt_types.specs.declared.ty.Ty.TheVariants.{UInt, Int, FixedString, Str, Date, Moment, Nullable, Array, State, CountState}
 use Rattle.mt_types.specs.declared.ty.error.TyError.{TyError}
 use Rattle.mt_types.specs.declared.ty.error.TyError.TheVariants.{NotAType, NoMemory}
 use Rattle.mt_types.specs.Names.{state_opening}
@@ -34,7 +34,7 @@ abbrev pub within : {X : Type 0} → (make : X → Ty) → (read : List ℕ → 
 within make read otherwise None = otherwise
 within make read otherwise (Some text) = option_map make (read text)
 
--- the width of so many bits
+-- the width of so many bits, at most 64
 abbrev pub width_named : List ℕ → Option Width
 width_named text =
     if bytes_eq text (codes "8") then Some W8
@@ -43,14 +43,14 @@ width_named text =
     else if bytes_eq text (codes "64") then Some W64
     else None
 
--- an integer type
+-- an integer type of at most 64 bits
 abbrev pub integer_named : List ℕ → Option Ty
 integer_named text =
     within UInt width_named
     (within Int width_named None (after_prefix (codes "Int") text))
     (after_prefix (codes "UInt") text)
 
--- an integer type or Date
+-- an integer type of at most 64 bits, or Date
 abbrev pub number_named : List ℕ → Option Ty
 number_named text = if bytes_eq text (codes "Date") then Some Date else integer_named text
 
@@ -79,11 +79,18 @@ abbrev pub size_named : List ℕ → Option ℕ
 size_named [] = None
 size_named (digit ∷ digits) = size_from 0 (digit ∷ digits)
 
--- an integer type, Date, String or FixedString
+-- FixedString, an integer type of at most 64 bits, or Date
+abbrev pub sized_named : List ℕ → Option Ty
+sized_named text = within FixedString size_named (number_named text) (between (codes "FixedString(") text)
+
+-- an integer type, Date, DateTime('UTC'), String or FixedString
 abbrev pub scalar_named : List ℕ → Option Ty
 scalar_named text =
     if bytes_eq text (codes "String") then Some Str
-    else within FixedString size_named (number_named text) (between (codes "FixedString(") text)
+    else if bytes_eq text (codes "DateTime('UTC')") then Some Moment
+    else if bytes_eq text (codes "UInt128") then Some (UInt W128)
+    else if bytes_eq text (codes "Int128") then Some (Int W128)
+    else sized_named text
 
 -- such a type, or Nullable of one
 abbrev pub optional_named : List ℕ → Option Ty

@@ -1,9 +1,10 @@
 //! Which values a type has.
 
-ghost use Rattle.std.specs.Prelude.{◌≡◌, ◌==◌, ◌&&◌, nat_le, length};
+ghost use Rattle.std.specs.Prelude.{◌≡◌, ◌==◌, ◌&&◌, nat_le, length, pos};
 ghost use Rattle.std.specs.List.{list_all};
 ghost use Rattle.mt_types.specs.Bytes.{is_byte};
-ghost use Rattle.mt_types.specs.Fits.{bits, fits_of, is_signed, is_unsigned};
+ghost use Rattle.mt_types.specs.declared.value.Value.TheOpen.Value-F.{Huge, Num};
+ghost use Rattle.mt_types.specs.Fits.{bits, fits_of, is_signed, is_unsigned, natural_at};
 ghost use Rattle.mt_types.specs.Fits.{is_count, is_least_of, is_state_of};
 
 use crate::limits::{MAX_ELEMENTS, MAX_TEXT};
@@ -11,15 +12,16 @@ use crate::ty::{Agg, Ty, Width};
 use crate::value::{AggState, Value};
 
 impl Width {
-    /// Whether the number is from 0 to 2^bits - 1.
-    pub fn holds_unsigned(self, number: i128) -> bool
-        ensures { result ≡ is_unsigned (bits self) number }
+    /// Whether the number is at most 2^bits - 1.
+    pub fn holds_unsigned(self, number: u128) -> bool
+        ensures { result ≡ is_unsigned (bits self) (pos number) }
     {
         match self {
-            Width::W8 => 0 <= number && number < 0x100,
-            Width::W16 => 0 <= number && number < 0x1_0000,
-            Width::W32 => 0 <= number && number < 0x1_0000_0000,
-            Width::W64 => 0 <= number && number < 0x1_0000_0000_0000_0000,
+            Width::W8 => number < 0x100,
+            Width::W16 => number < 0x1_0000,
+            Width::W32 => number < 0x1_0000_0000,
+            Width::W64 => number < 0x1_0000_0000_0000_0000,
+            Width::W128 => true,
         }
     }
 
@@ -32,6 +34,7 @@ impl Width {
             Width::W16 => -0x8000 <= number && number < 0x8000,
             Width::W32 => -0x8000_0000 <= number && number < 0x8000_0000,
             Width::W64 => -0x8000_0000_0000_0000 <= number && number < 0x8000_0000_0000_0000,
+            Width::W128 => true,
         }
     }
 }
@@ -42,9 +45,11 @@ pub fn fits(ty: &Ty, value: &Value) -> bool
     ensures { result ≡ fits_of ty.now value.now }
 {
     match (ty, value) {
-        (Ty::UInt(width), Value::Num(number)) => width.holds_unsigned(*number),
+        (Ty::UInt(width), Value::Num(number)) => num_fits(*width, *number),
+        (Ty::UInt(width), Value::Huge(number)) => huge_fits(*width, *number),
         (Ty::Int(width), Value::Num(number)) => width.holds_signed(*number),
-        (Ty::Date, Value::Num(day)) => Width::W16.holds_unsigned(*day),
+        (Ty::Date, Value::Num(day)) => is_natural(Width::W16, *day),
+        (Ty::Moment, Value::Num(second)) => is_natural(Width::W32, *second),
         (Ty::FixedString(size), Value::Text(bytes)) => fixed_fits(*size, bytes.as_slice()),
         (Ty::Str, Value::Text(bytes)) => text_fits(bytes.as_slice()),
         (Ty::Nullable(_), Value::Null) => true,
@@ -54,6 +59,28 @@ pub fn fits(ty: &Ty, value: &Value) -> bool
         }
         (Ty::State(agg, inner), Value::State(state)) => state_fits(*agg, inner.get(), *state),
         (Ty::CountState, Value::State(state)) => is_count(*state),
+        _ => false,
+    }
+}
+
+/// Whether the number is from 0 to 2^bits - 1.
+fn is_natural(width: Width, number: i128) -> bool
+    ensures { result ≡ is_unsigned (bits width) number }
+{
+    number >= 0 && width.holds_unsigned(number.cast_unsigned())
+}
+
+fn num_fits(width: Width, number: i128) -> bool
+    ensures { result ≡ natural_at width (Num number) }
+{
+    is_natural(width, number)
+}
+
+fn huge_fits(width: Width, number: u128) -> bool
+    ensures { result ≡ natural_at width (Huge number) }
+{
+    match width {
+        Width::W128 => number >= 0x8000_0000_0000_0000_0000_0000_0000_0000,
         _ => false,
     }
 }

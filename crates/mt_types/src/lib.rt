@@ -26,6 +26,6 @@ pub use memory::NoMemory;
 pub use order::{compare, compare_items};
 pub use row::hash_value;
 pub use sqlite_items::Boxed;
-pub use ty::{Agg, Ty, TyError, Width};
+pub use ty::{Agg, Ty, TyError, Width, number_size};
 pub use value::{AggState, Row, Value, copy_items};
 pub use varint::{VarInt, varint_get, varint_put};

@@ -97,6 +97,10 @@ pub fn hash_value<H: Hasher>(value: &Value, state: &mut H)
             hash_state(*content, state);
         }
         Value::Null => 4_u8.hash(state),
+        Value::Huge(number) => {
+            5_u8.hash(state);
+            number.hash(state);
+        }
     }
 }
 

@@ -5,6 +5,7 @@ ghost use Rattle.mt_types.specs.Defaults.{default_of, empty_state};
 
 mod error;
 mod name;
+mod number;
 mod read_name;
 mod scalar;
 
@@ -12,6 +13,7 @@ use crate::list::List;
 use crate::memory::NoMemory;
 use crate::value::{AggState, Value};
 pub use error::TyError;
+pub use number::number_size;
 use sqlite_items::Boxed;
 use std::alloc::Global;
 
@@ -26,6 +28,8 @@ pub enum Width {
     W32,
     /// 64 bits, eight bytes.
     W64,
+    /// 128 bits, sixteen bytes.
+    W128,
 }
 
 /// An aggregate function that has an argument.
@@ -55,9 +59,9 @@ impl Agg {
 /// The type of a column (ClickHouse: `IDataType`).
 #[derive(Drop)]
 pub enum Ty {
-    /// `UInt8` to `UInt64`.
+    /// `UInt8` to `UInt128`.
     UInt(Width),
-    /// `Int8` to `Int64`.
+    /// `Int8` to `Int128`.
     Int(Width),
     /// `FixedString(N)`: texts of exactly N bytes.
     FixedString(u32),
@@ -65,6 +69,8 @@ pub enum Ty {
     Str,
     /// `Date`: days from 1970-01-01 on, from 0 to 65535.
     Date,
+    /// `DateTime('UTC')`: seconds from 1970-01-01 00:00:00 on, from 0 to 4294967295.
+    Moment,
     /// `Nullable(T)`: the values of T, and NULL.
     Nullable(Boxed<Ty>),
     /// `Array(T)`: lists of at most `MAX_ELEMENTS` values of T.
@@ -86,6 +92,7 @@ impl Ty {
             (Ty::FixedString(m), Ty::FixedString(n)) => m == n,
             (Ty::Str, Ty::Str) => true,
             (Ty::Date, Ty::Date) => true,
+            (Ty::Moment, Ty::Moment) => true,
             (Ty::Nullable(t), Ty::Nullable(u)) => t.get().is_same(u.get()),
             (Ty::Array(t), Ty::Array(u)) => t.get().is_same(u.get()),
             (Ty::State(a, t), Ty::State(b, u)) => a == b && t.get().is_same(u.get()),
@@ -104,6 +111,7 @@ impl Ty {
             Ty::FixedString(size) => Ok(Ty::FixedString(*size)),
             Ty::Str => Ok(Ty::Str),
             Ty::Date => Ok(Ty::Date),
+            Ty::Moment => Ok(Ty::Moment),
             Ty::Nullable(inner) => Ok(Ty::Nullable(Boxed::new(alloc, inner.get().copy(alloc)?)?)),
             Ty::Array(inner) => Ok(Ty::Array(Boxed::new(alloc, inner.get().copy(alloc)?)?)),
             Ty::State(agg, inner) => {
@@ -118,7 +126,7 @@ impl Ty {
         ensures { IfOk result (λ value. value ≡ default_of self.now) }
     {
         match self {
-            Ty::UInt(_) | Ty::Int(_) | Ty::Date => Ok(Value::Num(0)),
+            Ty::UInt(_) | Ty::Int(_) | Ty::Date | Ty::Moment => Ok(Value::Num(0)),
             Ty::FixedString(size) => {
                 Ok(Value::Text(List::of(vec![in alloc; 0; *size as usize]?)))
             }

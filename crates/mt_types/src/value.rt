@@ -1,6 +1,7 @@
 //! The values of columns (docs/FORMAT.md, "Types and values").
 
-ghost use Rattle.std.specs.Prelude.{◌≡◌, IfOk};
+ghost use Rattle.std.specs.Prelude.{◌≡◌, IfOk, pos};
+ghost use Rattle.mt_types.specs.Fits.{number_value};
 
 use crate::list::List;
 use crate::memory::NoMemory;
@@ -22,8 +23,11 @@ pub enum AggState {
 /// One value of a column (ClickHouse: `Field`).
 #[derive(Drop)]
 pub enum Value {
-    /// A whole number, or the days of a date since 1970-01-01.
+    /// A whole number up to 2^127 - 1, or the days of a date or the seconds of a point in time since
+    /// 1970-01-01.
     Num(i128),
+    /// A whole number from 2^127 on.
+    Huge(u128),
     /// The bytes of a `String` or a `FixedString`.
     Text(List<u8>),
     /// NULL.
@@ -38,6 +42,17 @@ pub enum Value {
 pub type Row = List<Value>;
 
 impl Value {
+    /// The value of a number: each number is one value.
+    pub fn number(number: u128) -> Value
+        ensures { result ≡ number_value (pos number) }
+    {
+        if number < 0x8000_0000_0000_0000_0000_0000_0000_0000 {
+            Value::Num(number.cast_signed())
+        } else {
+            Value::Huge(number)
+        }
+    }
+
     /// An equal value.
     #[cycle(copy)]
     pub fn copy(&self, alloc: Global) -> Result<Value, NoMemory>
@@ -45,6 +60,7 @@ impl Value {
     {
         match self {
             Value::Num(number) => Ok(Value::Num(*number)),
+            Value::Huge(number) => Ok(Value::Huge(*number)),
             Value::Text(bytes) => Ok(Value::Text(List::of_bytes(alloc, bytes.as_slice())?)),
             Value::Null => Ok(Value::Null),
             Value::List(items) => Ok(Value::List(copy_items(alloc, items.as_slice())?)),

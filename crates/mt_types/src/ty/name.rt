@@ -19,6 +19,7 @@ impl Width {
             Width::W16 => b"16",
             Width::W32 => b"32",
             Width::W64 => b"64",
+            Width::W128 => b"128",
         }
     }
 }
@@ -34,6 +35,13 @@ impl Agg {
             Agg::Max => b"AggregateFunction(max, ",
         }
     }
+}
+
+/// The one zone of the profile.
+pub(super) fn moment_name() -> &'static [u8]
+    ensures { result.now ≡ codes "DateTime('UTC')" }
+{
+    b"DateTime('UTC')"
 }
 
 fn count_state_name() -> &'static [u8]
@@ -62,6 +70,7 @@ impl Ty {
             Ty::FixedString(size) => append_fixed_string(alloc, *size, out),
             Ty::Str => out.append(b"String"),
             Ty::Date => out.append(b"Date"),
+            Ty::Moment => out.append(moment_name()),
             Ty::Nullable(inner) => inner.get().append_within(alloc, b"Nullable(", out),
             Ty::Array(inner) => inner.get().append_within(alloc, b"Array(", out),
             Ty::State(agg, inner) => inner.get().append_within(alloc, agg.state_opening(), out),

@@ -1,10 +1,11 @@
-//! Scalar types by their names: integers, Date, String, FixedString.
+//! Scalar types by their names: integers, Date, DateTime, String, FixedString.
 
 ghost use Rattle.std.specs.Prelude.{◌≡◌, ◌≤◌, IfSome, option_copied};
 ghost use Rattle.mt_types.specs.NameReading.{between, integer_named, next_size, number_named};
-ghost use Rattle.mt_types.specs.NameReading.{scalar_named, size_named, width_named};
+ghost use Rattle.mt_types.specs.NameReading.{scalar_named, size_named, sized_named, width_named};
 
 use crate::limits::MAX_FIXED_STRING;
+use crate::ty::name::moment_name;
 use crate::ty::{Ty, Width};
 
 /// What stands between an opening and a closing parenthesis.
@@ -14,20 +15,36 @@ pub(super) fn between<'a>(opening: &[u8], text: &'a [u8]) -> Option<&'a [u8]>
     text.strip_prefix(opening)?.strip_suffix(b")")
 }
 
-/// An integer type, Date, String or FixedString.
+/// An integer type, Date, DateTime('UTC'), String or FixedString.
 pub(super) fn read_scalar(text: &[u8]) -> Option<Ty>
     ensures { result ≡ scalar_named text.now }
 {
     if text == b"String".as_slice() {
         return Some(Ty::Str);
     }
+    if text == moment_name() {
+        return Some(Ty::Moment);
+    }
+    if text == b"UInt128".as_slice() {
+        return Some(Ty::UInt(Width::W128));
+    }
+    if text == b"Int128".as_slice() {
+        return Some(Ty::Int(Width::W128));
+    }
+    read_sized(text)
+}
+
+/// FixedString, an integer type of at most 64 bits, or Date.
+fn read_sized(text: &[u8]) -> Option<Ty>
+    ensures { result ≡ sized_named text.now }
+{
     match between(b"FixedString(", text) {
         Some(digits) => Some(Ty::FixedString(read_size(digits)?)),
         None => read_number(text),
     }
 }
 
-/// An integer type or Date.
+/// An integer type of at most 64 bits, or Date.
 pub(super) fn read_number(text: &[u8]) -> Option<Ty>
     ensures { result ≡ number_named text.now }
 {
@@ -37,7 +54,7 @@ pub(super) fn read_number(text: &[u8]) -> Option<Ty>
     read_integer(text)
 }
 
-/// An integer type.
+/// An integer type of at most 64 bits.
 pub(super) fn read_integer(text: &[u8]) -> Option<Ty>
     ensures { result ≡ integer_named text.now }
 {
@@ -48,7 +65,7 @@ pub(super) fn read_integer(text: &[u8]) -> Option<Ty>
     Some(Ty::Int(read_width(bits)?))
 }
 
-/// The width of so many bits, in decimal.
+/// The width of so many bits, at most 64, in decimal.
 fn read_width(bits: &[u8]) -> Option<Width>
     ensures { result ≡ width_named bits.now }
 {

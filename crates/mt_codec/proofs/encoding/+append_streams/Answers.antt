@@ -6,7 +6,7 @@ use Rattle.mt_types.specs.declared.value.Value.{out-Value}
 use Rattle.mt_types.specs.Fits.{fits_of}
 use Rattle.mt_types.specs.Profile.{is_profile}
 use Rattle.mt_defs.specs.WrittenStreams.{elements_at, written_streams}
-use Rattle.mt_codec.specs.StreamOrder.{array_levels}
+use Rattle.mt_defs.specs.FileNames.{array_levels}
 use Rattle.mt_codec.specs.Runs.{values_of, written_item, null_item, size_item}
 use Rattle.mt_codec.proofs.WrittenLemmas.{single_items, single_of, fit_or_null, nullable_single, nullable_written, array_fit, array_written, written_items, one_more, two_more, more_after, array_inside}
 use Rattle.mt_codec.proofs.encoding.+append_streams.Goals as goal

@@ -1,4 +1,4 @@
-use Rattle.mt_codec.specs.StreamOrder.{array_levels}
+use Rattle.mt_defs.specs.FileNames.{array_levels}
 use Rattle.mt_codec.proofs.encoding.+append_streams.Given as goal
 
 abbrev pub decreases-append_streams : goal.decreases-append_streams

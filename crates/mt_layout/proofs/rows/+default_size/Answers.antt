@@ -1,7 +1,7 @@
 use Rattle.std.proofs.Common.{◌≡◌, pos, refl, ap, sym, ◌∙◌, arith}
 use Rattle.mt_types.specs.declared.ty.Ty.{out-Ty}
 use Rattle.mt_types.specs.declared.ty.Ty.TheOpen.{Ty-F}
-use Rattle.mt_types.specs.declared.ty.Ty.TheVariants.{Nullable, outs-UInt, outs-Int, outs-Date, outs-State, outs-CountState}
+use Rattle.mt_types.specs.declared.ty.Ty.TheVariants.{Nullable, outs-UInt, outs-Int, outs-Date, outs-Moment, outs-State, outs-CountState}
 use Rattle.mt_types.specs.declared.value.AggState.TheVariants.{Count}
 use Rattle.mt_types.specs.declared.value.Value.TheVariants.{Num, State}
 use Rattle.mt_layout.specs.Sizes.{saturated}
@@ -19,6 +19,10 @@ returns-in-Int t c =
 pub returns-in-Date : goal.returns-in-Date
 returns-in-Date t c =
     c.item_size-in-Date.ensures ∙ ap saturated (sym (default_single c.args.ty.now Ty-F.Date (ap out-Ty c.in-Date.is ∙ outs-Date) tt (Num (pos 0)) refl))
+
+pub returns-in-Moment : goal.returns-in-Moment
+returns-in-Moment t c =
+    c.item_size-in-Moment.ensures ∙ ap saturated (sym (default_single c.args.ty.now Ty-F.Moment (ap out-Ty c.in-Moment.is ∙ outs-Moment) tt (Num (pos 0)) refl))
 
 pub returns-in-FixedString : goal.returns-in-FixedString
 returns-in-FixedString t c =

@@ -21,5 +21,5 @@ returns c =
     let weak : IsStrictWeakOrder lt = ranks_by (ranked_total scales key) (λ v. v) in
     let up : IsSorted R c.sort_by.new.self.items = c.in_ok-sort_by.ensures.sorted lt weak (always_returns_same _ _ _ (λ a r f' k. search rules)) in
     let stable : IsStable R c.in_ok-ranked.ranked.items c.sort_by.new.self.items = c.in_ok-sort_by.ensures.stable lt weak (always_returns_same _ _ _ (λ a r f' k. search rules)) in
-    let sorts = sorted_ranked scales c.args.column c.args.others.now key c.args.rows c.in_ok-ranked.ranked.items c.sort_by.new.self.items c.requires c.in_ok-ranked.ensures up stable in
+    let sorts = sorted_ranked scales c.args.column c.args.others.now key c.args.rows c.in_ok-ranked.ranked.items c.sort_by.new.self.items c.requires.whole c.requires.ranked c.in_ok-ranked.ensures up stable in
     IfOk-weaker c.without_ranks.result (λ rows. rows ≡ map (λ (r : TwoRanks). r.row) c.sort_by.new.self.items) (λ sorted. sorted ≡ sorted_rows key c.args.rows) (λ rows e. e ∙ sorts) c.without_ranks.ensures

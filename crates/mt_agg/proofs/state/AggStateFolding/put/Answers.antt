@@ -17,7 +17,7 @@ pub put_held-requires : goal.put_held-requires
 put_held-requires c =
     let h = least_held c.args.self.now (option_copied c.args.arg) c.in-Least.number c.in-Least.is c.requires.fits in
     record {
-      number = h.number c.argument_of.result.now c.argument_of.ensures c.requires.profile;
+      argument = h.argued c.argument_of.result.now c.argument_of.ensures c.requires.profile;
       fits = h.fits c.argument_of.result.now c.argument_of.ensures;
     }
 
@@ -25,7 +25,7 @@ pub put_held-requires-in-Greatest : goal.put_held-requires-in-Greatest
 put_held-requires-in-Greatest c =
     let h = greatest_held c.args.self.now (option_copied c.args.arg) c.in-Greatest.number c.in-Greatest.is c.requires.fits in
     record {
-      number = h.number c.argument_of-in-Greatest.result.now c.argument_of-in-Greatest.ensures c.requires.profile;
+      argument = h.argued c.argument_of-in-Greatest.result.now c.argument_of-in-Greatest.ensures c.requires.profile;
       fits = h.fits c.argument_of-in-Greatest.result.now c.argument_of-in-Greatest.ensures;
     }
 
