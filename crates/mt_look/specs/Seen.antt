@@ -4,11 +4,12 @@ use Rattle.mt_types.specs.declared.value.Value.{Value}
 use Rattle.mt_types.specs.declared.value.Value.TheVariants as value
 use Rattle.mt_defs.specs.Rows.{Row}
 use Rattle.mt_look.specs.declared.seen.Seen.{Seen}
-use Rattle.mt_look.specs.declared.seen.Seen.TheVariants.{Num, Text, Null, Held}
+use Rattle.mt_look.specs.declared.seen.Seen.TheVariants.{Num, Huge, Text, Null, Held}
 
 -- the value that is shown
 abbrev pub value_seen : Seen → Value
 value_seen (Num n) = value.Num n
+value_seen (Huge n) = value.Huge n
 value_seen (Text bytes) = value.Text bytes.now
 value_seen Null = value.Null
 value_seen (Held v) = v.now

@@ -9,8 +9,10 @@ use std::alloc::Global;
 /// One value, as it is shown: a number, a text or NULL, or any value that lies in memory.
 #[derive(Clone, Copy)]
 pub enum Seen<'a> {
-    /// A whole number, or the days of a date since 1970-01-01.
+    /// A whole number up to 2^127 - 1, or the days of a date or the seconds of a moment since 1970-01-01.
     Num(i128),
+    /// A whole number from 2^127 on.
+    Huge(u128),
     /// The bytes of a text.
     Text(&'a [u8]),
     /// NULL.
@@ -26,6 +28,7 @@ impl<'a> Seen<'a> {
     {
         match value {
             Value::Num(number) => Seen::Num(*number),
+            Value::Huge(number) => Seen::Huge(*number),
             Value::Text(bytes) => Seen::Text(bytes.as_slice()),
             Value::Null => Seen::Null,
             other => Seen::Held(other),
@@ -38,6 +41,7 @@ impl<'a> Seen<'a> {
     {
         match self {
             Seen::Num(number) => Ok(Value::Num(number)),
+            Seen::Huge(number) => Ok(Value::Huge(number)),
             Seen::Text(bytes) => Ok(Value::Text(List::of_bytes(alloc, bytes)?)),
             Seen::Null => Ok(Value::Null),
             Seen::Held(value) => value.copy(alloc),

@@ -1,29 +1,33 @@
 -- What is read of a field of bytes is a value of the column's type.
 use Rattle.std.proofs.Common.{◌≡◌, ℕ, ◌-◌, ℤ, pos, ◌^◌, List, [], ◌∷◌, ◌++◌, length, Result, Ok, Err, Option, Some, None, All, Bool, true, false, refl, sym, ap, ◌∙◌, subst, arith, eqb, ltb, leb}
-use Rattle.std.specs.Prelude.{replicate, ◌||◌, option_and_then, negsuc, if◌then◌else◌}
+use Rattle.std.specs.Prelude.{replicate, ◌||◌, negsuc, if◌then◌else◌}
 use Rattle.std.specs.List.{list_all}
 use Rattle.std.proofs.lemmas.List.Elements.{All-head, All-tail}
-use Rattle.std.proofs.lemmas.Bool.{and_from, leb-true, eq-eqb}
+use Rattle.std.proofs.lemmas.Bool.{and_from, leb-true, ltb-true, eq-eqb}
 use Rattle.std.proofs.lemmas.List.{length-append, length-replicate}
-use Rattle.jiff_core.specs.Calendar.{days_from_civil}
 use Rattle.mt_types.specs.declared.ty.Ty.{Ty, map-Ty, out-Ty, roll-Ty}
 use Rattle.mt_types.specs.declared.ty.Ty.TheOpen.{Ty-F}
 use Rattle.mt_types.specs.declared.ty.Ty.TheFolds.{fold_out-Ty, fold-roll-Ty, ind-Ty}
-use Rattle.mt_types.specs.declared.value.Value.{Value}
+use Rattle.mt_types.specs.declared.value.Value.{Value, out-Value}
 use Rattle.mt_types.specs.declared.value.Value.TheVariants.{Num, Text, List as Items, Null as NullValue, outs-Num, outs-Text, outs-Null, outs-List}
 use Rattle.mt_types.specs.Bytes.{is_byte}
-use Rattle.mt_types.specs.Fits.{fits_of, fits_step, bits, is_unsigned, is_signed}
+use Rattle.mt_types.specs.declared.ty.Width.{Width}
+use Rattle.mt_types.specs.Fits.{fits_of, fits_step, bits, is_unsigned, is_signed, num_at, number_value, natural_at}
+use Rattle.mt_types.proofs.NumberLemmas.{natural_fits, number_num}
 use Rattle.mt_tsv.specs.declared.fault.RowWhy.{RowWhy}
 use Rattle.mt_tsv.specs.declared.fault.RowWhy.TheVariants.{Range, Null, TooLong, List as BadList}
 use Rattle.mt_types.specs.declared.limits.TheConstants.{MAX_TEXT, MAX_ELEMENTS}
 use Rattle.mt_types.specs.Steps.{◌>>=◌}
 use Rattle.mt_tsv.specs.Texts.{text_of, bounded_text, padded_text}
-use Rattle.mt_tsv.specs.Scalars.{integer_of, number_of, number_value, day_of, scalar_at, scalar_of}
-use Rattle.mt_tsv.specs.Dates.{date_of, day_number, day_in_type, is_date, two_digits_at}
+use Rattle.mt_tsv.specs.Scalars.{integer_of, number_of, whole_of, date_value, scalar_at, scalar_of}
+use Rattle.mt_calendar.specs.Dates.{date_of}
+use Rattle.mt_calendar.specs.Moments.{moment_of}
+use Rattle.mt_calendar.proofs.InType.{date_in_type, moment_in_type}
 use Rattle.mt_tsv.specs.Arrays.{Element, element_of, element_step, array_of, items_of, level_of, is_null_word, middle}
 use Rattle.mt_tsv.specs.Fields.{field_of, field_at, is_null, unless_null}
 use Rattle.mt_tsv.proofs.ReadBytes.{AreBytes, to_test, middle_bytes, level_bytes, bounded_bytes, padded_bytes}
 use Rattle.mt_tsv.proofs.RowLimits.{then_ok, passed, onto_ok}
+use Rattle.mt_tsv.proofs.Narrow.{signed_wide}
 
 -- a type's test at one level of the type
 abbrev Test : Type 0
@@ -34,7 +38,7 @@ fits_at t v = ap (λ (f : Test). f v) (fold_out-Ty Test fits_step t)
 
 -- ---- numbers
 
-number_passes : (test : ℤ → Bool) (text : List ℕ) (v : Value) → number_value (number_of test text) ≡ Ok v → (n : ℤ) × (v ≡ Num n) × (test n ≡ true)
+number_passes : (test : ℤ → Bool) (text : List ℕ) (v : Value) → whole_of test text ≡ Ok v → (n : ℤ) × (v ≡ number_value n) × (test n ≡ true)
 unfolding number_of
 number_passes test text v e =
     let read = then_ok (number_of test text) _ v e in
@@ -42,8 +46,15 @@ number_passes test text v e =
     let inside = passed (test whole.0) Range _ read.0 whole.2 in
     let same : Ok whole.0 ≡ Ok read.0 = inside.1 in
     let is : whole.0 ≡ read.0 = cc in
-    let value : Ok (Num read.0) ≡ Ok v = read.2 in
+    let value : Ok (number_value read.0) ≡ Ok v = read.2 in
     (read.0, cc, subst (λ n. test n ≡ true) is inside.0)
+
+natural_fits_test : (width : Width) (n : ℤ) → is_unsigned (bits width) n ≡ true → natural_at width (out-Value (number_value n)) ≡ true
+natural_fits_test width (pos m) h = natural_fits width m (ltb-true m (2 ^ bits width) h)
+natural_fits_test width (negsuc m) h = cc
+
+signed_fits_test : (width : Width) (n : ℤ) → is_signed (bits width) n ≡ true → num_at (is_signed (bits width)) (out-Value (number_value n)) ≡ true
+signed_fits_test width n h = rw (number_num n (signed_wide width n h), outs-Num n) h
 
 -- ---- texts
 
@@ -71,52 +82,23 @@ text_value read v e =
     let same : Ok (Text step.0) ≡ Ok v = step.2 in
     (step.0, step.1, cc)
 
--- ---- dates
+-- ---- dates and moments
 
-chosen : {A : Type 0} (test : Bool) (o : Option A) (a : A) → (if test then o else None) ≡ Some a → (test ≡ true) × (o ≡ Some a)
-chosen true o a e = (refl, e)
-chosen false o a e = cc
-
-next_is : {A B : Type 0} (o : Option A) (f : A → Option B) (b : B) → option_and_then f o ≡ Some b → (a : A) × (f a ≡ Some b)
-next_is None f b e = cc
-next_is (Some a) f b e = (a, e)
-
-in_type : (n : ℤ) (day : ℕ) → day_in_type n ≡ Some day → is_unsigned 16 (pos day) ≡ true
-in_type (pos n) day e =
-    let inside = chosen (ltb n (2 ^ 16)) (Some n) day e in
-    let is : n ≡ day = cc in
-    subst (λ n. ltb n (2 ^ 16) ≡ true) is inside.0
-in_type (negsuc n) day e = cc
-
-number_in_type : (year month day n : ℕ) → day_number year month day ≡ Some n → is_unsigned 16 (pos n) ≡ true
-unfolding day_number
-number_in_type year month day n e = in_type (days_from_civil (pos year) month day) n (chosen (is_date year month day) _ n e).1
-
-date_in_type : (text : List ℕ) (day : ℕ) → date_of text ≡ Some day → is_unsigned 16 (pos day) ≡ true
-unfolding date_of
-date_in_type (a ∷ b ∷ c ∷ d ∷ dash ∷ e ∷ f ∷ second_dash ∷ g ∷ h ∷ []) day is =
-    let century = next_is (two_digits_at a b) _ day (chosen _ _ day is).1 in
-    let year = next_is (two_digits_at c d) _ day century.1 in
-    let month = next_is (two_digits_at e f) _ day year.1 in
-    let last = next_is (two_digits_at g h) _ day month.1 in
-    number_in_type _ month.0 last.0 day last.1
-date_in_type _ day is = cc
-
-date_fits : (date : Option ℕ) (v : Value) → ((day : ℕ) → date ≡ Some day → is_unsigned 16 (pos day) ≡ true) → day_of date ≡ Ok v → fits_step (map-Ty Ty Test fits_of Ty-F.Date) v ≡ true
-date_fits (Some day) v inside e =
-    let is : Num (pos day) ≡ v = cc in
-    subst (λ v. fits_step (map-Ty Ty Test fits_of Ty-F.Date) v ≡ true) is (rw (outs-Num (pos day)) (inside day refl))
-date_fits None v inside e = cc
+counted_fits : (bits : ℕ) (count : Option ℕ) (v : Value) → ((n : ℕ) → count ≡ Some n → ltb n (2 ^ bits) ≡ true) → date_value count ≡ Ok v → num_at (is_unsigned bits) (out-Value v) ≡ true
+counted_fits bits (Some n) v inside e =
+    let is : Num (pos n) ≡ v = cc in
+    subst (λ v. num_at (is_unsigned bits) (out-Value v) ≡ true) is (rw (outs-Num (pos n)) (inside n refl))
+counted_fits bits None v inside e = cc
 
 -- ---- values of types that are no Nullable and no array; inside those that are, any types are given by tests
 
 scalar_fits : {X : Type 0} (inner : X → Test) (level : Ty-F X) (text : List ℕ) (v : Value) → AreBytes text → scalar_at level text ≡ Ok v → fits_step (map-Ty X Test inner level) v ≡ true
 scalar_fits inner (Ty-F.UInt width) text v are e =
     let n = number_passes (is_unsigned (bits width)) text v e in
-    rw (n.1, outs-Num n.0) n.2
+    rw n.1 (natural_fits_test width n.0 n.2)
 scalar_fits inner (Ty-F.Int width) text v are e =
     let n = number_passes (is_signed (bits width)) text v e in
-    rw (n.1, outs-Num n.0) n.2
+    rw n.1 (signed_fits_test width n.0 n.2)
 scalar_fits inner (Ty-F.FixedString size) text v are e =
     let t = text_value (padded_text size text) v e in
     let whole = eq-eqb (length t.0) size (padded size text t.0 t.1) in
@@ -125,7 +107,8 @@ scalar_fits inner Ty-F.Str text v are e =
     let t = text_value (bounded_text MAX_TEXT text) v e in
     let short = bounded MAX_TEXT text t.0 t.1 in
     rw (t.2, outs-Text t.0) (and_from (leb (length t.0) MAX_TEXT) (list_all is_byte t.0) short (to_test t.0 (bounded_bytes MAX_TEXT text t.0 are t.1)))
-scalar_fits inner Ty-F.Date text v are e = date_fits (date_of text) v (date_in_type text) e
+scalar_fits inner Ty-F.Date text v are e = counted_fits 16 (date_of text) v (date_in_type text) e
+scalar_fits inner Ty-F.Moment text v are e = counted_fits 32 (moment_of text) v (moment_in_type text) e
 scalar_fits inner _ text v are e = cc
 
 -- ---- NULL
@@ -196,6 +179,7 @@ level_reads (Ty-F.Int width) text v are e = scalar_fits no_test (Ty-F.Int width)
 level_reads (Ty-F.FixedString size) text v are e = scalar_fits no_test (Ty-F.FixedString size) (middle text) v (middle_bytes text are) (unless_null_word (is_null_word text) Null _ v e)
 level_reads Ty-F.Str text v are e = scalar_fits no_test Ty-F.Str (middle text) v (middle_bytes text are) (unless_null_word (is_null_word text) Null _ v e)
 level_reads Ty-F.Date text v are e = scalar_fits no_test Ty-F.Date (middle text) v (middle_bytes text are) (unless_null_word (is_null_word text) Null _ v e)
+level_reads Ty-F.Moment text v are e = scalar_fits no_test Ty-F.Moment (middle text) v (middle_bytes text are) (unless_null_word (is_null_word text) Null _ v e)
 level_reads (Ty-F.State agg k) text v are e = let none : Err BadList ≡ Ok v = unless_null_word (is_null_word text) Null _ v e in cc
 level_reads Ty-F.CountState text v are e = let none : Err BadList ≡ Ok v = unless_null_word (is_null_word text) Null _ v e in cc
 
@@ -223,6 +207,7 @@ level_fits (Ty-F.Int width) field v are e = scalar_fits fits_of (Ty-F.Int width)
 level_fits (Ty-F.FixedString size) field v are e = scalar_fits fits_of (Ty-F.FixedString size) field v are (unless_null_is field _ v e)
 level_fits Ty-F.Str field v are e = scalar_fits fits_of Ty-F.Str field v are (unless_null_is field _ v e)
 level_fits Ty-F.Date field v are e = scalar_fits fits_of Ty-F.Date field v are (unless_null_is field _ v e)
+level_fits Ty-F.Moment field v are e = scalar_fits fits_of Ty-F.Moment field v are (unless_null_is field _ v e)
 level_fits (Ty-F.State agg inner) field v are e = let none : Err BadList ≡ Ok v = unless_null_is field _ v e in cc
 level_fits Ty-F.CountState field v are e = let none : Err BadList ≡ Ok v = unless_null_is field _ v e in cc
 

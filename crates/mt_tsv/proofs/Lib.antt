@@ -1,17 +1,15 @@
 pub mod DigitLemmas
+pub mod Narrow
 pub mod Prefixes
 pub mod Parts
 pub mod DigitRuns
 pub mod Magnitudes
-pub mod Days
 pub mod Escapes
 pub mod Lines
 pub mod Elements
 pub mod Items
 pub mod Joins
 pub mod Kept
-pub mod Casts
-pub mod Walk
 pub mod RowLimits
 pub mod ReadBytes
 pub mod FieldFits
@@ -19,6 +17,5 @@ pub mod RowsFit
 pub mod Walks
 pub mod WrittenTexts
 pub mod WrittenElements
-pub mod WrittenDates
 pub mod WrittenValues
 pub mod WrittenRows

@@ -11,7 +11,7 @@ use Rattle.mt_types.specs.declared.ty.Ty.TheFolds.{fold_out-Ty}
 use Rattle.mt_types.specs.declared.value.Value.{Value, out-Value}
 use Rattle.mt_types.specs.declared.value.Value.TheVariants.{Null as NullValue}
 use Rattle.mt_types.specs.Fits.{null_at, fits_of, fits_step}
-use Rattle.mt_types.specs.Profile.{Kind, Whole, Day, Bytes, Stored, Unknown, Nested, optional_kind, array_kind, state_kind, kind_of, kind_step}
+use Rattle.mt_types.specs.Profile.{Kind, Whole, Day, Plain, Stored, Unknown, Nested, optional_kind, array_kind, state_kind, kind_of, kind_step}
 use Rattle.mt_types.specs.declared.ty.Agg.{Agg}
 use Rattle.mt_types.specs.declared.ty.Agg.TheVariants.{Sum, Min, Max}
 use Rattle.mt_table.specs.declared.column.Column.{Column}
@@ -26,14 +26,14 @@ use Rattle.mt_tsv.specs.Reading.{values_of, fields, row_of, lines, rows_of, rows
 use Rattle.mt_tsv.proofs.Lines.{row_is, rows_step}
 use Rattle.mt_tsv.proofs.RowLimits.{cells_more}
 use Rattle.mt_tsv.proofs.WrittenTexts.{IsClean}
-use Rattle.mt_tsv.proofs.WrittenValues.{IsScalar, is_scalar_kind, uint_again, int_again, fixed_again, string_again, date_scalar, array_column, no_state, ok_value, null_value, list_value, array_value, written}
+use Rattle.mt_tsv.proofs.WrittenValues.{IsScalar, is_scalar_kind, uint_again, int_again, fixed_again, string_again, date_scalar, moment_scalar, array_column, no_state, ok_value, null_value, list_value, array_value, written}
 
 -- ---- scalars of a type
 
 no_optional : (kind : Kind) → is_scalar_kind (optional_kind kind) ≡ true → ⊥
 no_optional Whole h = cc
 no_optional Day h = cc
-no_optional Bytes h = cc
+no_optional Plain h = cc
 no_optional _ h = cc
 
 no_nested : (deeper : Bool) (deep : ℕ) → is_scalar_kind (cond deeper (Nested (deep + 1)) Unknown) ≡ true → ⊥
@@ -60,6 +60,7 @@ scalar_level (Ty-F.Int width) value k f = int_again width value f
 scalar_level (Ty-F.FixedString size) value k f = fixed_again size value f
 scalar_level Ty-F.Str value k f = string_again value f
 scalar_level Ty-F.Date value k f = date_scalar value f
+scalar_level Ty-F.Moment value k f = moment_scalar value f
 scalar_level (Ty-F.Nullable t) value k f = absurd (no_optional (kind_of t) k)
 scalar_level (Ty-F.Array t) value k f = absurd (no_array (kind_of t) k)
 scalar_level (Ty-F.State agg t) value k f = absurd (no_scalar_state agg (kind_of t) k)
@@ -83,7 +84,7 @@ record IsField (x : Ty-F Ty) (value : Value) : Type 0 where
 optional_scalar : (kind : Kind) → is_column_kind (optional_kind kind) ≡ true → is_scalar_kind kind ≡ true
 optional_scalar Whole h = refl
 optional_scalar Day h = refl
-optional_scalar Bytes h = refl
+optional_scalar Plain h = refl
 optional_scalar _ h = absurd cc
 
 nullable_field : (ty : Ty) (value : Value) → is_column_kind (optional_kind (kind_of ty)) ≡ true → (null_at (out-Value value) || fits_of ty value) ≡ true → IsField (Ty-F.Nullable ty) value
@@ -106,6 +107,7 @@ field_level (Ty-F.Int width) value k f = let s = int_again {X = Ty} width value 
 field_level (Ty-F.FixedString size) value k f = let s = fixed_again {X = Ty} size value f in record { read = rw s.not_null s.read; clean = s.clean }
 field_level Ty-F.Str value k f = let s = string_again {X = Ty} value f in record { read = rw s.not_null s.read; clean = s.clean }
 field_level Ty-F.Date value k f = let s = date_scalar {X = Ty} value f in record { read = rw s.not_null s.read; clean = s.clean }
+field_level Ty-F.Moment value k f = let s = moment_scalar {X = Ty} value f in record { read = rw s.not_null s.read; clean = s.clean }
 field_level (Ty-F.Nullable ty) value k f = nullable_field ty value k f
 field_level (Ty-F.Array ty) value k f =
     let v = list_value (λ items. nat_le (length items) 1048576 && list_all (fits_of ty) items) value (out-Value value) refl f in

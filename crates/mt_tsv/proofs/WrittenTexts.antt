@@ -1,5 +1,5 @@
--- Written numbers, dates and texts are read again.
-use Rattle.std.proofs.Common.{◌≡◌, ◌≢◌, ℕ, suc, ◌-◌, ◌^◌, ◌<◌, ◌≤◌, Bool, true, false, eqb, ltb, List, [], ◌∷◌, ◌++◌, length, Option, Some, None, Result, Ok, refl, sym, ap, ◌∙◌, append_assoc, arith, ℤ, pos, negsuc}
+-- Written numbers and texts are read again.
+use Rattle.std.proofs.Common.{◌≡◌, ◌≢◌, ℕ, suc, ◌-◌, ◌^◌, ◌<◌, ◌≤◌, Bool, true, false, eqb, List, [], ◌∷◌, ◌++◌, length, Option, Some, None, Result, Ok, refl, sym, ap, ◌∙◌, append_assoc, arith, ℤ, pos, negsuc}
 use Rattle.std.specs.Prelude.{decimal}
 use Rattle.std.specs.Option.{MatchOption}
 use Rattle.std.specs.List.{AllByRecursion}
@@ -7,20 +7,22 @@ use Rattle.std.specs.Char.{is_ascii_digit}
 use Rattle.std.specs.Str.{all_ascii_digits}
 use Rattle.std.specs.Str.Parse.{digits_value}
 use Rattle.std.specs.Fmt.{signed_decimal}
-use Rattle.std.proofs.lemmas.Bool.{cond_both, eqb-true, eqb-false, ne_eqb, ltb-true, le-leb, lt-ltb, and_parts, and_from, and_right}
+use Rattle.std.proofs.lemmas.Bool.{cond_both, eqb-true, eqb-false, ne_eqb, ltb-true, le-leb, lt-ltb, and_parts, and_right}
 use Rattle.std.proofs.lemmas.List.{append-nil}
-use Rattle.std.proofs.lemmas.Fmt.{digits_decimal, digits_value-decimal, decimal_nonempty}
+use Rattle.std.proofs.lemmas.Fmt.{decimal_is_IsNumeral_wide}
 use Rattle.mt_types.specs.declared.ty.Width.{Width}
-use Rattle.mt_types.specs.declared.ty.Width.TheVariants.{W8, W16, W32, W64}
+use Rattle.mt_types.specs.declared.ty.Width.TheVariants.{W8, W16, W32, W64, W128}
 use Rattle.mt_types.specs.Fits.{bits, is_unsigned, is_signed}
 use Rattle.mt_tsv.specs.declared.fault.RowWhy.{RowWhy}
 use Rattle.mt_tsv.specs.declared.nesting.Nesting.TheVariants.{Outside, InQuotes, Escaped}
 use Rattle.mt_types.specs.Steps.{onto}
 use Rattle.mt_tsv.specs.Texts.{escaped_byte, text_of, text_after_backslash, bounded_text, padded_text}
-use Rattle.mt_tsv.specs.Scalars.{magnitude_of, integer_of, number_of}
+use Rattle.mt_tsv.specs.Scalars.{magnitude_after, magnitude_of, integer_of, number_of}
 use Rattle.mt_tsv.specs.Nesting.{after, is_comma, closes_last}
 use Rattle.mt_tsv.specs.Printing.{letter_of, with_letter, byte_text, escaped_text}
 use Rattle.mt_tsv.specs.Fields.{is_null}
+use Rattle.mt_calendar.proofs.WrittenDates.{ArePlain}
+use Rattle.mt_tsv.proofs.Narrow.{signed_below}
 use Rattle.mt_tsv.proofs.DigitLemmas.{decimal_model, digit_here}
 use Rattle.mt_tsv.proofs.Walks.{IsWalk, walk_byte, walk_nil, walk_append, walk_all, other_no_comma}
 
@@ -97,14 +99,33 @@ pub text_stays : (text : List ℕ) → StaysInQuotes (escaped_text text)
 text_stays [] = λ rest. refl
 text_stays (b ∷ text) = stays_append (byte_text b) (escaped_text text) (byte_stays b (letter_of b) (letter_stands b)) (text_stays text)
 
--- ---- numbers and dates: their bytes are digits and minus signs
+-- ---- dates and moments: none of their bytes ends a field or quotes
+
+pub plain_clean : (bytes : List ℕ) → ArePlain bytes → IsClean bytes
+plain_clean [] h = tt
+plain_clean (b ∷ bytes) h = ((omega (arith, h.0), omega (arith, h.0)), plain_clean bytes h.1)
+
+plain_bytes_inside : (depth : ℕ) (bytes : List ℕ) → ArePlain bytes
+    → AllByRecursion (λ b. (after (InQuotes depth) b ≡ InQuotes depth) × (is_comma (InQuotes depth) b ≡ false)) bytes
+plain_bytes_inside depth [] h = tt
+plain_bytes_inside depth (b ∷ bytes) h = ((rw (ne_eqb b 39 h.0.2, ne_eqb b 92 (omega (arith, h.0))) refl, refl), plain_bytes_inside depth bytes h.1)
+
+pub plain_walk : (depth : ℕ) (bytes : List ℕ) → ArePlain bytes → IsWalk (InQuotes depth) bytes (InQuotes depth)
+plain_walk depth bytes h = walk_all (InQuotes depth) bytes (plain_bytes_inside depth bytes h)
+
+pub plain_stays : (bytes : List ℕ) → ArePlain bytes → StaysInQuotes bytes
+unfolding closes_last
+plain_stays [] h = λ rest. refl
+plain_stays (b ∷ bytes) h = λ rest. rw (ne_eqb b 39 h.0.2, ne_eqb b 92 (omega (arith, h.0))) (plain_stays bytes h.1 rest)
+
+-- ---- numbers: their bytes are digits and minus signs
 
 abbrev pub AreNumberBytes : List ℕ → Type 0
 AreNumberBytes bytes = AllByRecursion (λ b. (45 ≤ b) × (b ≤ 57)) bytes
 
-pub number_clean : (bytes : List ℕ) → AreNumberBytes bytes → IsClean bytes
-number_clean [] h = tt
-number_clean (b ∷ bytes) h = ((omega (arith, h.0), omega (arith, h.0)), number_clean bytes h.1)
+pub number_plain : (bytes : List ℕ) → AreNumberBytes bytes → ArePlain bytes
+number_plain [] h = tt
+number_plain (b ∷ bytes) h = ((omega (arith, h.0), omega (arith, h.0), omega (arith, h.0)), number_plain bytes h.1)
 
 outside_number : (depth b : ℕ) → (45 ≤ b) × (b ≤ 57) → (after (Outside depth) b ≡ Outside depth) × (is_comma (Outside depth) b ≡ false)
 outside_number depth b h = (rw (ne_eqb b 39 (omega (arith, h)), ne_eqb b 91 (omega (arith, h)), ne_eqb b 93 (omega (arith, h))) refl, other_no_comma depth b (omega (arith, h)))
@@ -116,70 +137,68 @@ number_bytes_outside depth (b ∷ bytes) h = (outside_number depth b h.0, number
 pub number_walk : (depth : ℕ) (bytes : List ℕ) → AreNumberBytes bytes → IsWalk (Outside depth) bytes (Outside depth)
 number_walk depth bytes h = walk_all (Outside depth) bytes (number_bytes_outside depth bytes h)
 
-number_bytes_inside : (depth : ℕ) (bytes : List ℕ) → AreNumberBytes bytes → AllByRecursion (λ b. (after (InQuotes depth) b ≡ InQuotes depth) × (is_comma (InQuotes depth) b ≡ false)) bytes
-number_bytes_inside depth [] h = tt
-number_bytes_inside depth (b ∷ bytes) h = ((rw (ne_eqb b 39 (omega (arith, h.0)), ne_eqb b 92 (omega (arith, h.0))) refl, refl), number_bytes_inside depth bytes h.1)
-
-pub number_walk_inside : (depth : ℕ) (bytes : List ℕ) → AreNumberBytes bytes → IsWalk (InQuotes depth) bytes (InQuotes depth)
-number_walk_inside depth bytes h = walk_all (InQuotes depth) bytes (number_bytes_inside depth bytes h)
-
-pub number_stays : (bytes : List ℕ) → AreNumberBytes bytes → StaysInQuotes bytes
-unfolding closes_last
-number_stays [] h = λ rest. refl
-number_stays (b ∷ bytes) h = λ rest. rw (ne_eqb b 39 (omega (arith, h.0)), ne_eqb b 92 (omega (arith, h.0))) (number_stays bytes h.1 rest)
-
 digit_bytes : (ds : List ℕ) → all_ascii_digits ds ≡ true → AreNumberBytes ds
 digit_bytes [] h = tt
 digit_bytes (c ∷ ds) h = let a = and_parts (is_ascii_digit c) (all_ascii_digits ds) h in let d = digit_here (c ∷ ds) 0 h (omega arith) in ((omega (arith, d), omega (arith, d)), digit_bytes ds a.1)
 
-small : (width : Width) (n : ℕ) → is_unsigned (bits width) (pos n) ≡ true → n < 2 ^ 64
+small : (width : Width) (n : ℕ) → is_unsigned (bits width) (pos n) ≡ true → n < 2 ^ 128
 small W8 n h = omega (arith, ltb-true n (2 ^ 8) h)
 small W16 n h = omega (arith, ltb-true n (2 ^ 16) h)
 small W32 n h = omega (arith, ltb-true n (2 ^ 32) h)
-small W64 n h = ltb-true n (2 ^ 64) h
-
-small_signed : (width : Width) (n : ℕ) → ltb n (2 ^ (bits width - 1)) ≡ true → suc n < 2 ^ 64
-small_signed W8 n h = omega (arith, ltb-true n (2 ^ 7) h)
-small_signed W16 n h = omega (arith, ltb-true n (2 ^ 15) h)
-small_signed W32 n h = omega (arith, ltb-true n (2 ^ 31) h)
-small_signed W64 n h = omega (arith, ltb-true n (2 ^ 63) h)
+small W64 n h = omega (arith, ltb-true n (2 ^ 64) h)
+small W128 n h = ltb-true n (2 ^ 128) h
 
 -- a number whose digits are read
 abbrev IsSmall : ℤ → Type 0
-IsSmall (pos n) = n < 2 ^ 64
-IsSmall (negsuc n) = suc n < 2 ^ 64
+IsSmall (pos n) = n < 2 ^ 128
+IsSmall (negsuc n) = suc n < 2 ^ 128
 
 unsigned_small : (width : Width) (n : ℤ) → is_unsigned (bits width) n ≡ true → IsSmall n
 unsigned_small width (pos n) h = small width n h
 unsigned_small width (negsuc n) h = absurd cc
 
 signed_small : (width : Width) (n : ℤ) → is_signed (bits width) n ≡ true → IsSmall n
-signed_small width (pos n) h = omega (arith, small_signed width n h)
-signed_small width (negsuc n) h = small_signed width n h
+signed_small width (pos n) h = omega (arith, signed_below width n h)
+signed_small width (negsuc n) h = omega (arith, signed_below width n h)
+
+-- the digits of a number
+record IsDecimal (n : ℕ) (ds : List ℕ) : Type 0 where
+  digits : all_ascii_digits ds ≡ true
+  value : digits_value 10 ds ≡ n
+  some : 0 < length ds
+
+decimal_of : (n : ℕ) → n < 2 ^ 128 → IsDecimal n (decimal n)
+decimal_of n h =
+    let wide = decimal_is_IsNumeral_wide n (omega arith) in
+    record {
+      digits = decimal_model.from (decimal n) wide.0.1;
+      value = wide.1;
+      some = wide.0.0;
+    }
 
 number_bytes : (n : ℤ) → IsSmall n → AreNumberBytes (signed_decimal n)
-number_bytes (pos n) h = digit_bytes (decimal n) (digits_decimal decimal_model n h)
-number_bytes (negsuc n) h = ((omega arith, omega arith), digit_bytes (decimal (suc n)) (digits_decimal decimal_model (suc n) h))
+number_bytes (pos n) h = digit_bytes (decimal n) (decimal_of n h).digits
+number_bytes (negsuc n) h = ((omega arith, omega arith), digit_bytes (decimal (suc n)) (decimal_of (suc n) h).digits)
 
 number_nonempty : (n : ℤ) → IsSmall n → 0 < length (signed_decimal n)
-number_nonempty (pos n) h = decimal_nonempty n h
+number_nonempty (pos n) h = (decimal_of n h).some
 number_nonempty (negsuc n) h = omega arith
 
-magnitude_again : (ds : List ℕ) (n : ℕ) → all_ascii_digits ds ≡ true → 0 < length ds → digits_value 10 ds ≡ n → n < 2 ^ 64 → magnitude_of ds ≡ Ok n
-unfolding magnitude_of
-magnitude_again ds n all some_digit value h = rw (and_from (ltb 0 (length ds)) (all_ascii_digits ds) (lt-ltb 0 (length ds) some_digit) all, value, lt-ltb n (2 ^ 64) h) refl
+magnitude_again : (ds : List ℕ) (n : ℕ) → IsDecimal n ds → n < 2 ^ 128 → magnitude_of ds ≡ Ok n
+unfolding magnitude_of magnitude_after
+magnitude_again ds n is h = rw (lt-ltb 0 (length ds) is.some, is.digits, is.value, lt-ltb n (2 ^ 128) h) refl
 
-plain_again : (ds : List ℕ) (n : ℕ) → all_ascii_digits ds ≡ true → 0 < length ds → digits_value 10 ds ≡ n → n < 2 ^ 64 → integer_of ds ≡ Ok (pos n)
+plain_again : (ds : List ℕ) (n : ℕ) → IsDecimal n ds → n < 2 ^ 128 → integer_of ds ≡ Ok (pos n)
 unfolding integer_of
-plain_again [] n all some_digit value h = absurd (omega arith)
-plain_again (c ∷ ds) n all some_digit value h =
-    let d = digit_here (c ∷ ds) 0 all some_digit in
-    rw (ne_eqb c 45 (omega (arith, d)), magnitude_again (c ∷ ds) n all some_digit value h) refl
+plain_again [] n is h = absurd (omega (arith, is.some))
+plain_again (c ∷ ds) n is h =
+    let d = digit_here (c ∷ ds) 0 is.digits is.some in
+    rw (ne_eqb c 45 (omega (arith, d)), magnitude_again (c ∷ ds) n is h) refl
 
 integer_again : (n : ℤ) → IsSmall n → integer_of (signed_decimal n) ≡ Ok n
 unfolding integer_of
-integer_again (pos n) h = plain_again (decimal n) n (digits_decimal decimal_model n h) (decimal_nonempty n h) (digits_value-decimal decimal_model n h) h
-integer_again (negsuc n) h = rw (magnitude_again (decimal (suc n)) (suc n) (digits_decimal decimal_model (suc n) h) (decimal_nonempty (suc n) h) (digits_value-decimal decimal_model (suc n) h) h) refl
+integer_again (pos n) h = plain_again (decimal n) n (decimal_of n h) h
+integer_again (negsuc n) h = rw (magnitude_again (decimal (suc n)) (suc n) (decimal_of (suc n) h) h) refl
 
 -- a number of a type, written
 pub record IsNumber (is_in_type : ℤ → Bool) (n : ℤ) : Type 0 where
@@ -220,9 +239,9 @@ other_second : (b c : ℕ) (rest : List ℕ) → c ≢ 78 → is_null (b ∷ c �
 other_second b c [] h = and_right (eqb b 92) (eqb c 78) (ne_eqb c 78 h)
 other_second b c (d ∷ rest) h = refl
 
-pub number_not_null : (bytes : List ℕ) → AreNumberBytes bytes → is_null bytes ≡ false
-number_not_null [] h = refl
-number_not_null (b ∷ bytes) h = other_first b bytes (omega (arith, h.0))
+pub plain_not_null : (bytes : List ℕ) → ArePlain bytes → is_null bytes ≡ false
+plain_not_null [] h = refl
+plain_not_null (b ∷ bytes) h = other_first b bytes (omega (arith, h.0))
 
 byte_not_null : (b : ℕ) (o : Option ℕ) (rest : List ℕ) → Stands b o → is_null (with_letter b o ++ rest) ≡ false
 byte_not_null b None rest h = other_first b rest h.0

@@ -1,8 +1,9 @@
 -- Written values are read again.
 use Rattle.std.proofs.Common.{◌≡◌, ℕ, ◌<◌, ◌≤◌, ◌^◌, ◌==◌, Bool, true, false, leb, ◌&&◌, ◌||◌, List, [], ◌∷◌, ◌++◌, length, map, Result, Ok, refl, sym, ap, subst, ◌∙◌, arith, inl, inr, ℤ, pos, negsuc}
-use Rattle.std.specs.Prelude.{codes, nat_le}
+use Rattle.std.specs.Prelude.{codes, nat_le, nat_lt, if◌then◌else◌}
+use Rattle.std.specs.Fmt.{decimal}
 use Rattle.std.specs.List.{join_with_byte, list_all, AllByRecursion}
-use Rattle.std.proofs.lemmas.Bool.{cases_Bool, eqb-true, leb-true, ltb-true, and_parts, false≢true}
+use Rattle.std.proofs.lemmas.Bool.{cases_Bool, eqb-true, leb-true, ltb-true, lt-ltb, and_parts, false≢true}
 use Rattle.mt_types.specs.declared.ty.Agg.{Agg}
 use Rattle.mt_types.specs.declared.ty.Agg.TheVariants.{Sum, Min, Max}
 use Rattle.mt_types.specs.declared.ty.Width.{Width}
@@ -12,37 +13,32 @@ use Rattle.mt_types.specs.declared.ty.Ty.TheFolds.{fold-roll-Ty, ind-Ty}
 use Rattle.mt_types.specs.declared.value.Value.{Value, out-Value, roll-Value}
 use Rattle.mt_types.specs.declared.value.Value.TheOpen.{Value-F}
 use Rattle.mt_types.specs.declared.value.Value.TheViews.{roll-out-Value}
-use Rattle.mt_types.specs.declared.value.Value.TheVariants.{Num, Text, Null as NullValue, List as Items, outs-Num, outs-Text, outs-Null, outs-List}
+use Rattle.mt_types.specs.declared.value.Value.TheVariants.{Num, Huge, Text, Null as NullValue, List as Items, outs-Num, outs-Huge, outs-Text, outs-Null, outs-List}
 use Rattle.mt_types.specs.Bytes.{is_byte}
-use Rattle.mt_types.specs.Fits.{Level, bits, is_unsigned, is_signed, num_at, text_at, list_at, null_at, fits_of, fits_step}
-use Rattle.mt_types.specs.Profile.{Kind, Whole, Day, Bytes, Stored, Unknown, optional_kind, array_kind, state_kind, kind_of, kind_step}
+use Rattle.mt_types.specs.Fits.{Level, bits, is_unsigned, is_signed, num_at, number_value, natural_at, text_at, list_at, null_at, fits_of, fits_step}
+use Rattle.mt_types.specs.Profile.{Kind, Whole, Day, Plain, Stored, Unknown, optional_kind, array_kind, state_kind, kind_of, kind_step}
 use Rattle.mt_tsv.specs.declared.fault.RowWhy.{RowWhy}
 use Rattle.mt_tsv.specs.declared.ascii.TheConstants.{OPEN, CLOSE, COMMA, QUOTE}
 use Rattle.mt_types.specs.declared.limits.TheConstants.{MAX_TEXT, MAX_ELEMENTS}
 use Rattle.mt_tsv.specs.declared.nesting.Nesting.TheVariants.{Outside, InQuotes}
 use Rattle.mt_tsv.specs.Nesting.{after, is_comma}
-use Rattle.mt_tsv.specs.Scalars.{scalar_at, number_value}
+use Rattle.mt_tsv.specs.Scalars.{scalar_at}
 use Rattle.mt_tsv.specs.Arrays.{Element, element_of, element_step, scalar_element, needs_quotes, is_null_word, is_text_element, have_quotes, array_of, items_of}
 use Rattle.mt_tsv.specs.Fields.{is_null}
-use Rattle.mt_tsv.specs.Printing.{scalar_text_at, day_text, quoted_if, element_text, element_text_step}
+use Rattle.mt_tsv.specs.Printing.{scalar_text_at, day_text, second_text, quoted_if, element_text, element_text_step}
 use Rattle.mt_tsv.specs.Writable.{is_column_kind}
 use Rattle.mt_tsv.proofs.Items.{array_is}
 use Rattle.mt_tsv.proofs.Walks.{IsWalk, AreSolid, walk_all, walk_quoted, walk_array, other_no_comma}
-use Rattle.mt_tsv.proofs.WrittenTexts.{IsClean, clean_append, unsigned_again, signed_again, AreNumberBytes, number_clean, number_walk, number_walk_inside, number_stays, number_not_null, StaysInQuotes, text_clean, text_walk, text_stays, text_not_null, bounded_again, padded_again}
+use Rattle.mt_tsv.proofs.WrittenTexts.{IsClean, clean_append, unsigned_again, signed_again, AreNumberBytes, number_plain, number_walk, plain_clean, plain_walk, plain_stays, plain_not_null, StaysInQuotes, text_clean, text_walk, text_stays, text_not_null, bounded_again, padded_again}
+use Rattle.mt_tsv.proofs.Narrow.{signed_wide}
 use Rattle.mt_tsv.proofs.WrittenElements.{HasEnds, ends_between, number_ends, middle_again, quoted_again, no_null_word, number_no_word, level_again}
-use Rattle.mt_tsv.proofs.WrittenDates.{date_again, date_bytes}
+use Rattle.mt_types.proofs.NumberLemmas.{num_is, natural_is, number_num}
+use Rattle.mt_calendar.specs.Dates.{date_text}
+use Rattle.mt_calendar.specs.Moments.{moment_text}
+use Rattle.mt_calendar.proofs.WrittenDates.{ArePlain, date_again, date_bytes}
+use Rattle.mt_calendar.proofs.WrittenMoments.{moment_again, moment_bytes}
 
 -- ---- values by their variants
-
-pub record IsNum (test : ℤ → Bool) (value : Value) : Type 0 where
-  pub n : ℤ
-  pub out : out-Value value ≡ Value-F.Num n
-  pub is : Num n ≡ value
-  pub passes : test n ≡ true
-
-num_value : (test : ℤ → Bool) (value : Value) (level : Level) → out-Value value ≡ level → num_at test level ≡ true → IsNum test value
-num_value test value (Value-F.Num n) e h = record { n = n; out = e; is = sym (roll-out-Value (Num n)) ∙ ap roll-Value (outs-Num n ∙ sym e) ∙ roll-out-Value value; passes = h }
-num_value test value level e h = absurd cc
 
 pub record IsText (test : List ℕ → Bool) (value : Value) : Type 0 where
   pub bytes : List ℕ
@@ -84,17 +80,47 @@ pub record IsScalar {X : Type 0} (ty : Ty-F X) (text : List ℕ) (value : Value)
 pub ok_value : (a b : Value) → a ≡ b → (let r : Result Value RowWhy = Ok a in r) ≡ Ok b
 ok_value a b e = ap (λ (v : Value). let r : Result Value RowWhy = Ok v in r) e
 
-pub uint_again : {X : Type 0} (width : Width) (value : Value) → num_at (is_unsigned (bits width)) (out-Value value) ≡ true → IsScalar {X = X} (Ty-F.UInt width) (scalar_text_at {X = X} {Y = Value} (Ty-F.UInt width) (out-Value value)) value
-uint_again width value h =
-    let v = num_value (is_unsigned (bits width)) value (out-Value value) refl h in
-    let n = unsigned_again width v.n v.passes in
-    rw v.out (record { read = ap number_value n.value ∙ ok_value (Num v.n) value v.is; clean = number_clean _ n.bytes; not_null = number_not_null _ n.bytes; shape = (n.bytes, n.nonempty); some_value = ap null_at v.out })
+-- the text of a number is that of its value, Num or Huge
+natural_text : (X : Type 0) (width : Width) (m : ℕ) (small : Bool) → scalar_text_at {X = X} {Y = Value} (Ty-F.UInt width) (out-Value (if small then Num (pos m) else Huge m)) ≡ decimal m
+natural_text X width m true = rw (outs-Num (pos m)) refl
+natural_text X width m false = rw (outs-Huge m) refl
 
-pub int_again : {X : Type 0} (width : Width) (value : Value) → num_at (is_signed (bits width)) (out-Value value) ≡ true → IsScalar {X = X} (Ty-F.Int width) (scalar_text_at {X = X} {Y = Value} (Ty-F.Int width) (out-Value value)) value
+natural_no_null : (m : ℕ) (small : Bool) → null_at (out-Value (if small then Num (pos m) else Huge m)) ≡ false
+natural_no_null m true = ap null_at (outs-Num (pos m))
+natural_no_null m false = ap null_at (outs-Huge m)
+
+natural_again : {X : Type 0} (width : Width) (m : ℕ) → m < 2 ^ bits width
+    → IsScalar {X = X} (Ty-F.UInt width) (scalar_text_at {X = X} {Y = Value} (Ty-F.UInt width) (out-Value (number_value (pos m)))) (number_value (pos m))
+natural_again {X} width m small =
+    let n = unsigned_again width (pos m) (lt-ltb m (2 ^ bits width) small) in
+    let plain = number_plain _ n.bytes in
+    rw (natural_text X width m (nat_lt m (2 ^ 127))) (record {
+      read = rw n.value refl;
+      clean = plain_clean _ plain;
+      not_null = plain_not_null _ plain;
+      shape = (n.bytes, n.nonempty);
+      some_value = natural_no_null m (nat_lt m (2 ^ 127));
+    })
+
+pub uint_again : {X : Type 0} (width : Width) (value : Value) → natural_at width (out-Value value) ≡ true
+    → IsScalar {X = X} (Ty-F.UInt width) (scalar_text_at {X = X} {Y = Value} (Ty-F.UInt width) (out-Value value)) value
+uint_again {X} width value h =
+    let v = natural_is width value h in
+    rw v.1 (natural_again {X = X} width v.0 v.2)
+
+pub int_again : {X : Type 0} (width : Width) (value : Value) → num_at (is_signed (bits width)) (out-Value value) ≡ true
+    → IsScalar {X = X} (Ty-F.Int width) (scalar_text_at {X = X} {Y = Value} (Ty-F.Int width) (out-Value value)) value
 int_again width value h =
-    let v = num_value (is_signed (bits width)) value (out-Value value) refl h in
-    let n = signed_again width v.n v.passes in
-    rw v.out (record { read = ap number_value n.value ∙ ok_value (Num v.n) value v.is; clean = number_clean _ n.bytes; not_null = number_not_null _ n.bytes; shape = (n.bytes, n.nonempty); some_value = ap null_at v.out })
+    let v = num_is (is_signed (bits width)) value h in
+    let n = signed_again width v.0 v.2 in
+    let plain = number_plain _ n.bytes in
+    rw (v.1, outs-Num v.0) (record {
+      read = rw n.value (ok_value _ _ (number_num v.0 (signed_wide width v.0 v.2)));
+      clean = plain_clean _ plain;
+      not_null = plain_not_null _ plain;
+      shape = (n.bytes, n.nonempty);
+      some_value = ap null_at (outs-Num v.0);
+    })
 
 pub fixed_again : {X : Type 0} (size : ℕ) (value : Value) → text_at (λ bytes. length bytes == size && list_all is_byte bytes) (out-Value value) ≡ true → IsScalar {X = X} (Ty-F.FixedString size) (scalar_text_at {X = X} {Y = Value} (Ty-F.FixedString size) (out-Value value)) value
 fixed_again size value h =
@@ -108,27 +134,38 @@ string_again value h =
     let p = bounded_again MAX_TEXT v.bytes (leb-true (length v.bytes) 16777216 (and_parts (nat_le (length v.bytes) 16777216) (list_all is_byte v.bytes) v.passes).0) in
     rw v.out (record { read = rw p (ok_value (Text v.bytes) value v.is); clean = text_clean v.bytes; not_null = text_not_null v.bytes; shape = (λ depth. text_walk depth v.bytes, text_stays v.bytes); some_value = ap null_at v.out })
 
-day_value : (value : Value) (n : ℤ) → Num n ≡ value → is_unsigned 16 n ≡ true → (day : ℕ) × (n ≡ pos day) × (day < 65536)
-day_value value (pos day) is h = (day, refl, ltb-true day (2 ^ 16) h)
-day_value value (negsuc n) is h = absurd cc
+-- a day of a date or a second of a moment
+counted_again : {X : Type 0} (ty : Ty-F X) (text : List ℕ) (n : ℕ) → needs_quotes ty ≡ true → scalar_at ty text ≡ Ok (Num (pos n)) → ArePlain text
+    → IsScalar {X = X} ty text (Num (pos n))
+counted_again ty text n quotes read plain = record {
+  read = read;
+  clean = plain_clean _ plain;
+  not_null = plain_not_null _ plain;
+  shape = rw quotes (λ depth. plain_walk depth _ plain, plain_stays _ plain);
+  some_value = ap null_at (outs-Num (pos n));
+}
 
-date_value : (value : Value) (n : ℤ) → out-Value value ≡ Value-F.Num n → Num n ≡ value → is_unsigned 16 n ≡ true → {X : Type 0} → IsScalar {X = X} Ty-F.Date (day_text n) value
-date_value value (negsuc n) out is h = absurd cc
-date_value value (pos day) out is h =
+day_again : {X : Type 0} (n : ℤ) → is_unsigned 16 n ≡ true → IsScalar {X = X} Ty-F.Date (day_text n) (Num n)
+day_again (negsuc n) h = absurd cc
+day_again (pos day) h =
     let lt : day < 65536 = ltb-true day (2 ^ 16) h in
-    let bytes = date_bytes day lt in
-    rw h (record {
-      read = rw (date_again day lt) (ok_value (Num (pos day)) value is);
-      clean = number_clean _ bytes;
-      not_null = number_not_null _ bytes;
-      shape = (λ depth. number_walk_inside depth _ bytes, number_stays _ bytes);
-      some_value = ap null_at out;
-    })
+    rw h (counted_again Ty-F.Date (date_text day) day refl (rw (date_again day lt) refl) (date_bytes day lt))
 
 pub date_scalar : {X : Type 0} (value : Value) → num_at (is_unsigned 16) (out-Value value) ≡ true → IsScalar {X = X} Ty-F.Date (scalar_text_at {X = X} {Y = Value} Ty-F.Date (out-Value value)) value
 date_scalar value h =
-    let v = num_value (is_unsigned 16) value (out-Value value) refl h in
-    rw v.out (date_value value v.n v.out v.is v.passes)
+    let v = num_is (is_unsigned 16) value h in
+    rw (v.1, outs-Num v.0) (day_again v.0 v.2)
+
+second_again : {X : Type 0} (n : ℤ) → is_unsigned 32 n ≡ true → IsScalar {X = X} Ty-F.Moment (second_text n) (Num n)
+second_again (negsuc n) h = absurd cc
+second_again (pos second) h =
+    let lt : second < 4294967296 = ltb-true second (2 ^ 32) h in
+    rw h (counted_again Ty-F.Moment (moment_text second) second refl (rw (moment_again second lt) refl) (moment_bytes second lt))
+
+pub moment_scalar : {X : Type 0} (value : Value) → num_at (is_unsigned 32) (out-Value value) ≡ true → IsScalar {X = X} Ty-F.Moment (scalar_text_at {X = X} {Y = Value} Ty-F.Moment (out-Value value)) value
+moment_scalar value h =
+    let v = num_is (is_unsigned 32) value h in
+    rw (v.1, outs-Num v.0) (second_again v.0 v.2)
 
 -- ---- elements
 
@@ -265,13 +302,13 @@ array_written element rest value some h =
 abbrev pub is_scalar_kind : Kind → Bool
 is_scalar_kind Whole = true
 is_scalar_kind Day = true
-is_scalar_kind Bytes = true
+is_scalar_kind Plain = true
 is_scalar_kind _ = false
 
 nullable_column : (kind : Kind) → is_column_kind (optional_kind kind) ≡ true → is_column_kind kind ≡ true
 nullable_column Whole h = refl
 nullable_column Day h = refl
-nullable_column Bytes h = refl
+nullable_column Plain h = refl
 nullable_column _ h = absurd cc
 
 pub array_column : (kind : Kind) → is_column_kind (array_kind kind) ≡ true → is_column_kind kind ≡ true
@@ -318,6 +355,7 @@ level_written (Ty-F.Int width) k value f = scalar_written {X = Element} (Ty-F.In
 level_written (Ty-F.FixedString size) k value f = scalar_written {X = Element} (Ty-F.FixedString size) true _ value refl (fixed_again size value f)
 level_written Ty-F.Str k value f = scalar_written {X = Element} Ty-F.Str true _ value refl (string_again value f)
 level_written Ty-F.Date k value f = scalar_written {X = Element} Ty-F.Date true _ value refl (date_scalar value f)
+level_written Ty-F.Moment k value f = scalar_written {X = Element} Ty-F.Moment true _ value refl (moment_scalar value f)
 level_written (Ty-F.Nullable t) k value f = nullable_written (element_of t.0) (element_text t.0) (fits_of t.0) value (λ g. t.1 (nullable_column (kind_of t.0) k) value g) f
 level_written (Ty-F.Array t) k value f =
     let v = list_value (λ items. nat_le (length items) 1048576 && list_all (fits_of t.0) items) value (out-Value value) refl f in

@@ -98,11 +98,12 @@ array_of element text = do
 
 -- ---- elements by type
 
--- texts and dates stand in quotes
+-- texts, dates and moments stand in quotes
 abbrev pub needs_quotes : {X : Type 0} → Ty-F X → Bool
 needs_quotes (Ty-F.FixedString size) = true
 needs_quotes Ty-F.Str = true
 needs_quotes Ty-F.Date = true
+needs_quotes Ty-F.Moment = true
 needs_quotes _ = false
 
 -- a value of a type that is no Nullable and no array

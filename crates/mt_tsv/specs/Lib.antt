@@ -1,5 +1,4 @@
 pub mod Results
-pub mod Dates
 pub mod Texts
 pub mod Scalars
 pub mod Cells

@@ -1,7 +1,7 @@
 -- The text of rows: docs/LANGUAGE.md, "Lines".
 use Rattle.std.specs.Prelude.{ℕ, zero, suc, ◌^◌, ℤ, pos, negsuc, nat_lt, List, [], ◌∷◌, ◌++◌, map, Option, Some, None, Bool, true, false, ◌==◌, if◌then◌else◌, codes}
 use Rattle.std.specs.List.{flat_map, join_with_byte}
-use Rattle.std.specs.Fmt.{signed_decimal}
+use Rattle.std.specs.Fmt.{decimal, signed_decimal}
 use Rattle.mt_types.specs.declared.ty.Ty.{Ty, out-Ty}
 use Rattle.mt_types.specs.declared.ty.Ty.TheOpen.{Ty-F}
 use Rattle.mt_types.specs.declared.ty.Ty.TheFolds.{fold-Ty}
@@ -10,7 +10,8 @@ use Rattle.mt_types.specs.declared.value.Value.TheOpen.{Value-F}
 use Rattle.mt_types.specs.Fits.{null_at}
 use Rattle.mt_table.specs.declared.column.Column.{Column}
 use Rattle.mt_tsv.specs.declared.ascii.TheConstants.{TAB, LINE_END, BACKSLASH, QUOTE, OPEN, CLOSE, COMMA}
-use Rattle.mt_tsv.specs.Dates.{date_text}
+use Rattle.mt_calendar.specs.Dates.{date_text}
+use Rattle.mt_calendar.specs.Moments.{moment_text}
 use Rattle.mt_tsv.specs.Arrays.{needs_quotes}
 
 -- the letter that stands for this byte after a backslash: b, f, r, n, t, 0, ' or \
@@ -37,11 +38,18 @@ abbrev pub day_text : ℤ → List ℕ
 day_text (pos day) = if nat_lt day (2 ^ 16) then date_text day else []
 day_text (negsuc n) = []
 
+-- a second of the type as a date and time
+abbrev pub second_text : ℤ → List ℕ
+second_text (pos second) = if nat_lt second (2 ^ 32) then moment_text second else []
+second_text (negsuc n) = []
+
 -- a value of a type that is no Nullable and no array; nothing where it isn't of the type
 abbrev pub scalar_text_at : {X Y : Type 0} → Ty-F X → Value-F Y → List ℕ
 scalar_text_at (Ty-F.UInt width) (Value-F.Num n) = signed_decimal n
 scalar_text_at (Ty-F.Int width) (Value-F.Num n) = signed_decimal n
+scalar_text_at (Ty-F.UInt width) (Value-F.Huge n) = decimal n
 scalar_text_at Ty-F.Date (Value-F.Num n) = day_text n
+scalar_text_at Ty-F.Moment (Value-F.Num n) = second_text n
 scalar_text_at (Ty-F.FixedString size) (Value-F.Text bytes) = escaped_text bytes
 scalar_text_at Ty-F.Str (Value-F.Text bytes) = escaped_text bytes
 scalar_text_at _ _ = []

@@ -16,7 +16,7 @@ fn in_quotes(ty: &Ty) -> bool
     ensures { result ≡ (element_of ty.now).in_quotes }
 {
     match ty {
-        Ty::FixedString(_) | Ty::Str | Ty::Date => true,
+        Ty::FixedString(_) | Ty::Str | Ty::Date | Ty::Moment => true,
         Ty::Nullable(inner) => in_quotes(inner.get()),
         _ => false,
     }
@@ -42,7 +42,7 @@ fn read_element(alloc: Global, ty: &Ty, text: &[u8]) -> Result<Value, FieldError
             }
             read_array(alloc, inner.get(), text)
         }
-        Ty::FixedString(_) | Ty::Str | Ty::Date => {
+        Ty::FixedString(_) | Ty::Str | Ty::Date | Ty::Moment => {
             if is_null {
                 return Err(FieldError::Bad(RowWhy::Null));
             }

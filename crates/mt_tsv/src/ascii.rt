@@ -9,10 +9,10 @@ pub const LINE_END: u8 = b'\n';
 /// Begins an escape in a text.
 pub const BACKSLASH: u8 = b'\\';
 
-/// Before the digits of a negative number, and between the parts of a date.
+/// Before the digits of a negative number.
 pub const MINUS: u8 = b'-';
 
-/// Round each text and date in an array.
+/// Round each text, date and moment in an array.
 pub const QUOTE: u8 = b'\'';
 
 /// Begins an array.
@@ -24,5 +24,5 @@ pub const CLOSE: u8 = b']';
 /// Between the elements of an array.
 pub const COMMA: u8 = b',';
 
-/// Allowed round the elements of an array.
+/// Allowed round the elements of an array; between a date and a time.
 pub const SPACE: u8 = b' ';

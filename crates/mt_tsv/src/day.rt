@@ -1,56 +1,42 @@
-//! Dates, written.
+//! Dates and moments, written.
 
-ghost use Rattle.std.specs.Prelude.{◌≡◌, ◌++◌, ◌<◌, OnOk, OnErr};
-ghost use Rattle.mt_tsv.specs.Dates.{civil_of, date_text, two_digits};
-ghost use Rattle.mt_tsv.specs.Printing.{day_text};
+ghost use Rattle.std.specs.Prelude.{◌≡◌, ◌++◌, take, length, OnOk, OnErr};
+ghost use Rattle.mt_calendar.specs.Moments.{moment_text};
+ghost use Rattle.mt_tsv.specs.Printing.{day_text, second_text};
 
-use crate::ascii::MINUS;
-use jiff::civil::Date;
-use jiff_core::civil;
+use crate::ascii::SPACE;
+use mt_calendar::{SECONDS_OF_DAY, date_text, time_text};
 use mt_types::{List, NoMemory};
-
-/// The year, month and day of a day since 1970-01-01.
-fn civil_of(day: u16) -> (u16, u8, u8)
-    ensures civil { (result.0, (result.1, result.2)) ≡ civil_of day }
-    ensures year { result.0 < 10000 }
-    ensures month { result.1 < 100 }
-    ensures in_month { result.2 < 100 }
-{
-    let Ok(plain) = civil::Date::from_unix_epoch_day(i64::from(day)) else {
-        unreachable!()
-    };
-    let date = Date::from_plain(plain);
-    (date.year() as u16, date.month() as u8, date.day() as u8)
-}
-
-fn two_digits(n: u8) -> [u8; 2]
-    requires { n < 100 }
-    ensures { result ≡ two_digits n }
-{
-    [b'0' + n / 10, b'0' + n % 10]
-}
-
-/// Appends the date of a day since 1970-01-01.
-fn append_date(out: &mut List<u8>, day: u16) -> Result<(), NoMemory>
-    ensures ok { OnOk result (out.new ≡ out.old ++ date_text day) }
-    ensures kept { OnErr result (out.new ≡ out.old) }
-{
-    let (year, month, day) = civil_of(day);
-    let [a, b] = two_digits((year / 100) as u8);
-    let [c, d] = two_digits((year % 100) as u8);
-    let [e, f] = two_digits(month);
-    let [g, h] = two_digits(day);
-    out.append(&[a, b, c, d, MINUS, e, f, MINUS, g, h])?;
-    Ok(())
-}
 
 /// Appends the date of a value, if it is a day of the type.
 pub fn append_day(out: &mut List<u8>, day: i128) -> Result<(), NoMemory>
     ensures ok { OnOk result (out.new ≡ out.old ++ day_text day) }
-    ensures kept { OnErr result (out.new ≡ out.old) }
+    ensures kept { OnErr result (take (length out.old) out.new ≡ out.old) }
 {
-    if 0 <= day && day < 65536 {
-        append_date(out, day as u16)
+    if 0 <= day && day < 0x1_0000 {
+        out.append(&date_text(day as u16))
+    } else {
+        Ok(())
+    }
+}
+
+/// Appends the date and time of a second since 1970-01-01 00:00:00.
+fn append_moment(out: &mut List<u8>, second: u32) -> Result<(), NoMemory>
+    ensures ok { OnOk result (out.new ≡ out.old ++ moment_text second) }
+    ensures kept { OnErr result (take (length out.old) out.new ≡ out.old) }
+{
+    out.append(&date_text((second / SECONDS_OF_DAY) as u16))?;
+    out.append(&[SPACE])?;
+    out.append(&time_text(second % SECONDS_OF_DAY))
+}
+
+/// Appends the date and time of a value, if it is a second of the type.
+pub fn append_second(out: &mut List<u8>, second: i128) -> Result<(), NoMemory>
+    ensures ok { OnOk result (out.new ≡ out.old ++ second_text second) }
+    ensures kept { OnErr result (take (length out.old) out.new ≡ out.old) }
+{
+    if 0 <= second && second < 0x1_0000_0000 {
+        append_moment(out, second as u32)
     } else {
         Ok(())
     }

@@ -1,11 +1,11 @@
 //! Digits as numbers.
 
-ghost use Rattle.std.specs.Prelude.{◌≡◌, ◌<◌, ◌≤◌, ◌^◌, length, Some, None, IsTrue, if◌then◌else◌};
+ghost use Rattle.std.specs.Prelude.{◌≡◌, ◌+◌, ◌*◌, ◌<◌, ◌≤◌, ◌^◌, length, Some, None, IsTrue, if◌then◌else◌};
 ghost use Rattle.std.specs.Option.{SomeIff};
 ghost use Rattle.std.specs.Str.{all_ascii_digits};
 ghost use Rattle.std.specs.Str.Parse.{digits_value, digits_value_after};
 ghost use Rattle.mt_tsv.specs.declared.digits.TheConstants.{SHORT_DIGITS};
-ghost use Rattle.mt_tsv.specs.Scalars.{magnitude_of};
+ghost use Rattle.mt_tsv.specs.Scalars.{magnitude_after, magnitude_of};
 
 use crate::fault::RowWhy;
 
@@ -39,36 +39,59 @@ fn short_number(text: &[u8]) -> Option<u64>
     Some(number)
 }
 
-/// The number of the digits of another number and these, if it is below 2^64.
-fn number_after(first: u64, text: &[u8]) -> Option<u64>
+/// The number of the digits of one number and a few more, which make the other.
+fn joined(number: u64, count: usize, next: u64) -> u128
+    requires { count ≤ SHORT_DIGITS }
+    ensures { result ≡ number * 10 ^ count + next }
+{
+    u128::from(number) * u128::from(10u64.pow(count as u32)) + u128::from(next)
+}
+
+/// The number of the digits of another number and these, if it is below 2^128.
+fn number_after(first: u128, text: &[u8]) -> Option<u128>
     requires { IsTrue (all_ascii_digits text.now) }
     ensures { let number = digits_value_after 10 first text.now in
-        SomeIff result (number < 2 ^ 64) number }
+        SomeIff result (number < 2 ^ 128) number }
 {
     let mut number = first;
     for c in text {
-        number = number.checked_mul(10)?.checked_add((*c - b'0') as u64)?;
+        number = number.checked_mul(10)?.checked_add((*c - b'0') as u128)?;
     }
     Some(number)
 }
 
-/// The number of a text of digits alone. None of a type has 2^64 or more.
-#[tactic(auto, unfolding(crate::specs::Scalars::magnitude_of))]
-pub fn read_magnitude(text: &[u8]) -> Result<u64, RowWhy>
-    ensures { result ≡ magnitude_of text.now }
+/// The number of the digits of another number and these, a few of them in 64 bits.
+#[tactic(auto, unfolding(crate::specs::Scalars::magnitude_after))]
+fn read_magnitude_after(first: u64, text: &[u8]) -> Result<u128, RowWhy>
+    ensures { result ≡ magnitude_after first text.now }
 {
-    if text.is_empty() {
-        return Err(RowWhy::Number);
-    }
-    let (first, rest) = text.split_at(text.len().min(SHORT_DIGITS));
-    let Some(number) = short_number(first) else {
+    let (short, rest) = text.split_at(text.len().min(SHORT_DIGITS));
+    let Some(number) = short_number(short) else {
         return Err(RowWhy::Number);
     };
     if !all_digits(rest) {
         return Err(RowWhy::Number);
     }
-    match number_after(number, rest) {
+    match number_after(joined(first, short.len(), number), rest) {
         Some(n) => Ok(n),
         None => Err(RowWhy::Range),
     }
+}
+
+/// The number of a text of digits alone. None of a type has 2^128 or more.
+#[tactic(auto, unfolding(crate::specs::Scalars::magnitude_of))]
+pub fn read_magnitude(text: &[u8]) -> Result<u128, RowWhy>
+    ensures { result ≡ magnitude_of text.now }
+{
+    if text.is_empty() {
+        return Err(RowWhy::Number);
+    }
+    let (short, rest) = text.split_at(text.len().min(SHORT_DIGITS));
+    let Some(number) = short_number(short) else {
+        return Err(RowWhy::Number);
+    };
+    if rest.is_empty() {
+        return Ok(u128::from(number));
+    }
+    read_magnitude_after(number, rest)
 }

@@ -25,7 +25,8 @@ pub enum RowWhy {
     TooLong,
     /// A backslash begins none of the eight escapes.
     Escape,
-    /// A date isn't YYYY-MM-DD, or no day from 1970-01-01 to 2149-06-06.
+    /// A date isn't YYYY-MM-DD, or no day from 1970-01-01 to 2149-06-06; or a date and time isn't
+    /// YYYY-MM-DD hh:mm:ss, or no second from 1970-01-01 00:00:00 to 2106-02-07 06:28:15.
     Date,
     /// An array's brackets or quotes are out of form.
     List,
@@ -79,7 +80,7 @@ impl fmt::Display for RowWhy {
             RowWhy::Range => "an integer is outside its type",
             RowWhy::TooLong => "a text or an array is too long",
             RowWhy::Escape => "a backslash begins no escape",
-            RowWhy::Date => "a date is no day of the type",
+            RowWhy::Date => "a date is no day or second of the type",
             RowWhy::List => "the brackets or quotes of an array are out of form",
         };
         write!(f, "{text}")

@@ -6,7 +6,6 @@
 mod array;
 mod ascii;
 mod cells;
-mod date;
 mod day;
 mod digits;
 mod escape;
@@ -27,7 +26,6 @@ mod text;
 mod writing;
 
 pub use cells::room_after;
-pub use date::read_date;
 pub use fault::{RowError, RowWhy};
 pub use law::{rows_of_bytes_fit, written_rows_are_read};
 pub use mt_table::{MAX_CELLS, MAX_ROWS};

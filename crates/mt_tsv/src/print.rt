@@ -6,7 +6,7 @@ ghost use Rattle.mt_types.specs.declared.value.Value.{out-Value};
 ghost use Rattle.mt_tsv.specs.Printing.{separator, scalar_text, array_text_at, element_text, field_text};
 
 use crate::ascii::{CLOSE, COMMA, OPEN, QUOTE};
-use crate::day::append_day;
+use crate::day::{append_day, append_second};
 use crate::escape::append_text;
 use itoa::Buffer;
 use mt_types::{List, NoMemory, Ty, Value};
@@ -33,7 +33,9 @@ fn append_scalar(out: &mut List<u8>, ty: &Ty, value: &Value) -> Result<(), NoMem
         (Ty::UInt(_) | Ty::Int(_), Value::Num(n)) => out.append(
             Buffer::new().format(*n).as_bytes(),
         ),
+        (Ty::UInt(_), Value::Huge(n)) => out.append(Buffer::new().format(*n).as_bytes()),
         (Ty::Date, Value::Num(n)) => append_day(out, *n),
+        (Ty::Moment, Value::Num(n)) => append_second(out, *n),
         (Ty::FixedString(_) | Ty::Str, Value::Text(bytes)) => append_text(out, bytes.as_slice()),
         _ => Ok(()),
     }
@@ -65,7 +67,7 @@ fn append_element(out: &mut List<u8>, ty: &Ty, value: &Value) -> Result<(), NoMe
             Value::List(items) => append_array(out, inner.get(), items.as_slice()),
             _ => Ok(()),
         },
-        Ty::FixedString(_) | Ty::Str | Ty::Date => append_quoted(out, ty, value),
+        Ty::FixedString(_) | Ty::Str | Ty::Date | Ty::Moment => append_quoted(out, ty, value),
         _ => append_scalar(out, ty, value),
     }
 }

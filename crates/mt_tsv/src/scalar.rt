@@ -2,20 +2,20 @@
 
 ghost use Rattle.std.specs.Prelude.{◌≡◌};
 ghost use Rattle.mt_tsv.specs.Results.{Gives};
-ghost use Rattle.mt_tsv.specs.Scalars.{number_value, scalar_of};
+ghost use Rattle.mt_tsv.specs.Scalars.{scalar_of};
 
-use crate::date::read_date;
 use crate::fault::{FieldError, RowWhy};
 use crate::number::{read_signed, read_unsigned};
 use crate::text::{read_fixed, read_string};
+use mt_calendar::{read_date, read_moment};
 use mt_types::{Ty, Value};
 use std::alloc::Global;
 
-fn number(read: Result<i128, RowWhy>) -> Result<Value, FieldError>
-    ensures { Gives result (number_value read) }
+fn number(read: Result<Value, RowWhy>) -> Result<Value, FieldError>
+    ensures { Gives result read }
 {
     match read {
-        Ok(n) => Ok(Value::Num(n)),
+        Ok(value) => Ok(value),
         Err(why) => Err(FieldError::Bad(why)),
     }
 }
@@ -32,6 +32,10 @@ pub fn read_scalar(alloc: Global, ty: &Ty, text: &[u8]) -> Result<Value, FieldEr
         Ty::Str => Ok(Value::Text(read_string(alloc, text)?)),
         Ty::Date => match read_date(text) {
             Some(day) => Ok(Value::Num(i128::from(day))),
+            None => Err(FieldError::Bad(RowWhy::Date)),
+        },
+        Ty::Moment => match read_moment(text) {
+            Some(second) => Ok(Value::Num(i128::from(second))),
             None => Err(FieldError::Bad(RowWhy::Date)),
         },
         _ => Err(FieldError::Bad(RowWhy::List)),

@@ -7,5 +7,5 @@ abbrev pub invariant-loop-c : goal.invariant-loop-c
 invariant-loop-c l = record {
   ahead : digits_value_after 10 l.number (drop l.c-index l.text) ≡ digits_value_after 10 l.fn.first l.text;
   digits : all_ascii_digits (drop l.c-index l.text) ≡ true;
-  below : l.number < 2 ^ 64;
+  below : l.number < 2 ^ 128;
 }

@@ -1,9 +1,9 @@
 use Rattle.std.proofs.Common.{◌≡◌, pos, arith, refl, ap, ◌∙◌, rules, FitsSigned, to_z, w8, w16, w32}
 use Rattle.std.proofs.lemmas.Int.{ints, to_z-of_z}
 use Rattle.std.proofs.lemmas.Bool.{false≢true}
-use Rattle.mt_tsv.specs.Dates.{day_in_type}
-use Rattle.mt_tsv.proofs.Days.{no_date, a_date}
-use Rattle.mt_tsv.proofs.date.number_of_day.Goals as goal
+use Rattle.mt_calendar.specs.Dates.{day_in_type}
+use Rattle.mt_calendar.proofs.Days.{no_date, a_date}
+use Rattle.mt_calendar.proofs.date.number_of_day.Goals as goal
 
 pub returns-in_default : goal.returns-in_default
 returns-in_default c =

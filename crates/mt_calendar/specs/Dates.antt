@@ -2,11 +2,11 @@
 use Rattle.std.specs.Prelude.{ℕ, zero, suc, ◌+◌, ◌-◌, ◌*◌, ◌/◌, ◌%◌, ◌^◌, List, [], ◌∷◌, ◌++◌, Option, Some, None, Bool, nat_le, nat_lt, ◌&&◌, ◌==◌, if◌then◌else◌, ℤ, pos, negsuc, option_and_then}
 use Rattle.std.specs.Char.{is_ascii_digit}
 use Rattle.jiff_core.specs.Calendar.{days_in_year, days_in_month, days_from_civil}
-use Rattle.mt_tsv.specs.declared.ascii.TheConstants.{MINUS}
+use Rattle.mt_calendar.specs.declared.ascii.TheConstants.{DASH}
 
 infixl 10 ◌>>=◌
 -- the next step, if there is a value
-abbrev ◌>>=◌ : {A B : Type 0} → Option A → (A → Option B) → Option B
+abbrev pub ◌>>=◌ : {A B : Type 0} → Option A → (A → Option B) → Option B
 o >>= f = option_and_then f o
 
 -- the number of two digits
@@ -28,7 +28,7 @@ day_number year month day = if is_date year month day then day_in_type (days_fro
 
 -- the day of a text YYYY-MM-DD
 unfoldable pub date_of : List ℕ → Option ℕ
-date_of (a ∷ b ∷ c ∷ d ∷ dash ∷ e ∷ f ∷ second_dash ∷ g ∷ h ∷ []) = if (dash == MINUS) && (second_dash == MINUS) then (do
+date_of (a ∷ b ∷ c ∷ d ∷ dash ∷ e ∷ f ∷ second_dash ∷ g ∷ h ∷ []) = if (dash == DASH) && (second_dash == DASH) then (do
   century ← two_digits_at a b
   year ← two_digits_at c d
   month ← two_digits_at e f
@@ -62,7 +62,7 @@ two_digits n = (48 + n / 10) ∷ (48 + n % 10) ∷ []
 
 -- YYYY-MM-DD
 abbrev pub civil_text : ℕ × (ℕ × ℕ) → List ℕ
-civil_text (year, (month, day)) = two_digits (year / 100) ++ (two_digits (year % 100) ++ (MINUS ∷ (two_digits month ++ (MINUS ∷ two_digits day))))
+civil_text (year, (month, day)) = two_digits (year / 100) ++ (two_digits (year % 100) ++ (DASH ∷ (two_digits month ++ (DASH ∷ two_digits day))))
 
 -- the date of a day since 1970-01-01
 unfoldable pub date_text : ℕ → List ℕ

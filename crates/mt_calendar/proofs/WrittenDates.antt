@@ -1,19 +1,19 @@
 -- Written dates are read again.
-use Rattle.std.proofs.Common.{◌≡◌, ℕ, ◌+◌, ◌-◌, ◌*◌, ◌/◌, ◌%◌, ◌^◌, ◌<◌, ◌≤◌, true, leb, List, ◌∷◌, ◌++◌, Some, refl, arith, pos}
+use Rattle.std.proofs.Common.{◌≡◌, ◌≢◌, ℕ, ◌+◌, ◌-◌, ◌*◌, ◌/◌, ◌%◌, ◌^◌, ◌<◌, ◌≤◌, true, leb, List, ◌∷◌, ◌++◌, Some, refl, arith, pos}
 use Rattle.std.specs.Char.{is_ascii_digit}
+use Rattle.std.specs.List.{AllByRecursion}
 use Rattle.std.proofs.lemmas.Bool.{le-leb, lt-ltb, and_from}
 use Rattle.std.proofs.lemmas.Int.{ints}
 use Rattle.jiff_core.specs.Calendar.{IsDate}
 use Rattle.jiff_core.proofs.CalendarLemmas.{days_in_month_bounds}
-use Rattle.mt_tsv.specs.Dates.{two_digits_at, two_digits, day_number, date_of, date_text, civil_of, civil_text}
-use Rattle.mt_tsv.proofs.Days.{test_from}
-use Rattle.mt_tsv.proofs.Walk.{IsDay, walked}
-use Rattle.mt_tsv.proofs.WrittenTexts.{AreNumberBytes}
+use Rattle.mt_calendar.specs.Dates.{two_digits_at, two_digits, day_number, date_of, date_text, civil_of, civil_text}
+use Rattle.mt_calendar.proofs.Days.{test_from}
+use Rattle.mt_calendar.proofs.Walk.{IsDay, walked}
 
 digit : (n : ℕ) → n ≤ 9 → is_ascii_digit (48 + n) ≡ true
 digit n h = and_from (leb 48 (48 + n)) (leb (48 + n) 57) (le-leb 48 (48 + n) (omega arith)) (le-leb (48 + n) 57 (omega arith))
 
-two_again : (n : ℕ) → n < 100 → two_digits_at (48 + n / 10) (48 + n % 10) ≡ Some n
+pub two_again : (n : ℕ) → n < 100 → two_digits_at (48 + n / 10) (48 + n % 10) ≡ Some n
 two_again n h =
     let tens : n / 10 ≤ 9 = omega arith in
     let ones : n % 10 ≤ 9 = omega arith in
@@ -40,17 +40,21 @@ date_again day lt =
     let bounds = days_in_month_bounds (pos (civil_of day).0) (civil_of day).1.0 in
     read_again (civil_of day).0 (civil_of day).1.0 (civil_of day).1.1 day (omega (arith, w.year)) (omega (arith, w.civil.1)) (omega (arith, w.civil.2, bounds)) (number_again day _ _ _ lt w)
 
-digits_bytes : (n : ℕ) → n < 100 → (rest : List ℕ) → AreNumberBytes rest → AreNumberBytes (two_digits n ++ rest)
-digits_bytes n h rest more = ((omega arith, omega arith), ((omega arith, omega arith), more))
+-- digits, dashes, colons and spaces: no byte that a line or a text in quotes takes for another
+abbrev pub ArePlain : List ℕ → Type 0
+ArePlain bytes = AllByRecursion (λ b. (32 ≤ b) × (b ≤ 58) × (b ≢ 39)) bytes
 
-civil_bytes : (y m d : ℕ) → y < 10000 → m < 100 → d < 100 → AreNumberBytes (civil_text (y, (m, d)))
+pub digits_bytes : (n : ℕ) → n < 100 → (rest : List ℕ) → ArePlain rest → ArePlain (two_digits n ++ rest)
+digits_bytes n h rest more = ((omega arith, omega arith, omega arith), ((omega arith, omega arith, omega arith), more))
+
+civil_bytes : (y m d : ℕ) → y < 10000 → m < 100 → d < 100 → ArePlain (civil_text (y, (m, d)))
 civil_bytes y m d hy hm hd =
-    let day : AreNumberBytes (45 ∷ two_digits d) = ((omega arith, omega arith), ((omega arith, omega arith), ((omega arith, omega arith), tt))) in
-    let month : AreNumberBytes (45 ∷ (two_digits m ++ (45 ∷ two_digits d))) = ((omega arith, omega arith), digits_bytes m hm (45 ∷ two_digits d) day) in
-    let rest : AreNumberBytes (two_digits (y % 100) ++ (45 ∷ (two_digits m ++ (45 ∷ two_digits d)))) = digits_bytes (y % 100) (omega arith) (45 ∷ (two_digits m ++ (45 ∷ two_digits d))) month in
+    let day : ArePlain (45 ∷ two_digits d) = ((omega arith, omega arith, omega arith), ((omega arith, omega arith, omega arith), ((omega arith, omega arith, omega arith), tt))) in
+    let month : ArePlain (45 ∷ (two_digits m ++ (45 ∷ two_digits d))) = ((omega arith, omega arith, omega arith), digits_bytes m hm (45 ∷ two_digits d) day) in
+    let rest : ArePlain (two_digits (y % 100) ++ (45 ∷ (two_digits m ++ (45 ∷ two_digits d)))) = digits_bytes (y % 100) (omega arith) (45 ∷ (two_digits m ++ (45 ∷ two_digits d))) month in
     digits_bytes (y / 100) (omega arith) (two_digits (y % 100) ++ (45 ∷ (two_digits m ++ (45 ∷ two_digits d)))) rest
 
-pub date_bytes : (day : ℕ) → day < 65536 → AreNumberBytes (date_text day)
+pub date_bytes : (day : ℕ) → day < 65536 → ArePlain (date_text day)
 unfolding date_text
 date_bytes day lt =
     let w = walked day lt in

@@ -1,10 +1,10 @@
 use Rattle.std.proofs.Common.{pos, ap, ◌∙◌, arith, refl}
 use Rattle.std.proofs.lemmas.Int.{ints}
 use Rattle.jiff_core.proofs.CalendarLemmas.{days_in_month_bounds}
-use Rattle.mt_tsv.specs.Dates.{civil_of}
-use Rattle.mt_tsv.proofs.Walk.{civil_is}
-use Rattle.mt_tsv.proofs.Casts.{cast_year, year_is, part_is}
-use Rattle.mt_tsv.proofs.day.civil_of.Goals as goal
+use Rattle.mt_calendar.specs.Dates.{civil_of}
+use Rattle.mt_calendar.proofs.Walk.{civil_is}
+use Rattle.mt_calendar.proofs.Casts.{cast_year, year_is, part_is}
+use Rattle.mt_calendar.proofs.date.civil_of.Goals as goal
 
 pub overflow_cast-result : goal.overflow_cast-result
 overflow_cast-result c =

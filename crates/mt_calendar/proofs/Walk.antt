@@ -7,7 +7,7 @@ use Rattle.jiff_core.specs.Calendar.{days_in_year, days_in_month, days_of_months
 use Rattle.jiff_core.specs.Date.{epoch_day}
 use Rattle.jiff_core.proofs.CalendarLemmas.{day_count-next_year, day_count-next_month, day_count-day, days_in_year_bounds, days_of_months_more, days_of_months_all, days_of_months-zero}
 use Rattle.jiff_core.proofs.DateLemmas.{epoch_day_injective}
-use Rattle.mt_tsv.specs.Dates.{year_of_days, month_of_days, civil_of}
+use Rattle.mt_calendar.specs.Dates.{year_of_days, month_of_days, civil_of}
 
 -- the day is in this year
 record IsInYear (year days y d : ℕ) : Type 0 where

@@ -3,7 +3,7 @@ use Rattle.std.proofs.Common.{◌≡◌, ℕ, ◌<◌, ◌≤◌, true, false, l
 use Rattle.std.proofs.lemmas.Bool.{le-leb, leb-true, and_from, and_parts, false_from_ne_true}
 use Rattle.std.proofs.lemmas.Int.{ints}
 use Rattle.jiff_core.specs.Calendar.{IsDate, days_in_month, days_from_civil}
-use Rattle.mt_tsv.specs.Dates.{is_date, day_in_type, day_number}
+use Rattle.mt_calendar.specs.Dates.{is_date, day_in_type, day_number}
 
 pub test_from : (y m d : ℕ) → IsDate (pos y) (pos m) (pos d) → is_date y m d ≡ true
 test_from y m d h =

@@ -1,0 +1,6 @@
+pub mod Days
+pub mod Casts
+pub mod Walk
+pub mod InType
+pub mod WrittenDates
+pub mod WrittenMoments
