@@ -9,15 +9,15 @@ use Rattle.mt_types.specs.declared.ty.Ty.{Ty}
 use Rattle.mt_types.specs.Steps.{ok_or}
 use Rattle.mt_types.proofs.OptionLemmas.{mapped_is, some_is, then_is}
 use Rattle.mt_types.proofs.StepLemmas.{both_of, ok_then, ok_one, required}
-use Rattle.mt_syntax.specs.declared.tree.Selected.{Selected}
-use Rattle.mt_syntax.specs.declared.tree.Selected.TheVariants.{All, Items}
-use Rattle.mt_syntax.specs.declared.tree.Selection.{Selection}
-use Rattle.mt_syntax.specs.declared.tree.Selection.TheVariants as selection
+use Rattle.mt_phrases.specs.declared.selection.Selected.{Selected}
+use Rattle.mt_phrases.specs.declared.selection.Selected.TheVariants.{All, Items}
+use Rattle.mt_phrases.specs.declared.selection.Selection.{Selection}
+use Rattle.mt_phrases.specs.declared.selection.Selection.TheVariants as selection
 use Rattle.mt_table.specs.declared.column.Column.{Column}
 use Rattle.mt_table.specs.Stored.{column_at, no_column}
-use Rattle.mt_query_syntax.specs.declared.tree.CondText.{CondText, map-CondText, roll-CondText}
-use Rattle.mt_query_syntax.specs.declared.tree.CondText.TheOpen.{CondText-F}
-use Rattle.mt_query_syntax.specs.declared.tree.CondText.TheFolds.{fold-roll-CondText, ind-CondText}
+use Rattle.mt_cond_syntax.specs.declared.tree.CondText.{CondText, map-CondText, roll-CondText}
+use Rattle.mt_cond_syntax.specs.declared.tree.CondText.TheOpen.{CondText-F}
+use Rattle.mt_cond_syntax.specs.declared.tree.CondText.TheFolds.{fold-roll-CondText, ind-CondText}
 use Rattle.mt_query_syntax.specs.declared.tree.QueryText.{QueryText}
 use Rattle.mt_query.specs.declared.cond.Cond.{Cond, map-Cond, out-Cond}
 use Rattle.mt_query.specs.declared.cond.Cond.TheOpen.{Cond-F}
@@ -54,7 +54,7 @@ module _ (test : ℕ → Bool) where
 
 -- ---- lists
 
-all_pass : {A B : Type 0} (f : A → Option B) (test : B → Bool) → ((x : A) (y : B) → f x ≡ Some y → test y ≡ true) → (xs : List A) (ys : List B) → all_of f xs ≡ Some ys → list_all test ys ≡ true
+pub all_pass : {A B : Type 0} (f : A → Option B) (test : B → Bool) → ((x : A) (y : B) → f x ≡ Some y → test y ≡ true) → (xs : List A) (ys : List B) → all_of f xs ≡ Some ys → list_all test ys ≡ true
 all_pass f test each [] ys e = subst (λ zs. list_all test zs ≡ true) (some_is [] ys e) refl
 all_pass f test each (x ∷ xs) ys e =
     let one = then_is (λ y. option_and_then (λ zs. let o : Option (List _) = Some (y ∷ zs) in o) (all_of f xs)) (f x) ys e in
@@ -164,7 +164,7 @@ module _ (columns : List Column) where
 
   -- ---- queries
 
-  found : {A : Type 0} (why : QueryWhy) (o : Option A) (x : A) → ok_or why o ≡ Ok x → o ≡ Some x
+  pub found : {A : Type 0} (why : QueryWhy) (o : Option A) (x : A) → ok_or why o ≡ Ok x → o ≡ Some x
   found why None x e = cc
   found why (Some y) x e = let same : y ≡ x = cc in ap (λ z. let o : Option _ = Some z in o) same
 

@@ -1,11 +1,11 @@
 -- The condition of a sentence: docs/LANGUAGE.md, "Queries".
 use Rattle.std.specs.Prelude.{ℕ, Bool, true, ◌&&◌, List, Option, Some, None, option_map}
 use Rattle.mt_table.specs.declared.column.Column.{Column}
-use Rattle.mt_query_syntax.specs.declared.op.Op.{Op}
-use Rattle.mt_query_syntax.specs.declared.tree.Literal.{Literal}
-use Rattle.mt_query_syntax.specs.declared.tree.CondText.{CondText}
-use Rattle.mt_query_syntax.specs.declared.tree.CondText.TheOpen.{CondText-F}
-use Rattle.mt_query_syntax.specs.declared.tree.CondText.TheFolds.{fold-CondText}
+use Rattle.mt_cond_syntax.specs.declared.op.Op.{Op}
+use Rattle.mt_cond_syntax.specs.declared.tree.Literal.{Literal}
+use Rattle.mt_cond_syntax.specs.declared.tree.CondText.{CondText}
+use Rattle.mt_cond_syntax.specs.declared.tree.CondText.TheOpen.{CondText-F}
+use Rattle.mt_cond_syntax.specs.declared.tree.CondText.TheFolds.{fold-CondText}
 use Rattle.mt_query.specs.declared.cond.Cond.{Cond}
 use Rattle.mt_query.specs.declared.cond.Cond.TheVariants.{Cmp, OneOf, IsNull, Starts, Has, And, Or, Not}
 use Rattle.mt_query.specs.Columns.{column_of, is_there, place_of}

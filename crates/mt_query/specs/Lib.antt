@@ -4,4 +4,6 @@ pub mod Literals
 pub mod Conditions
 pub mod Rules
 pub mod Named
+pub mod Suits
 pub mod Queries
+pub mod Truth

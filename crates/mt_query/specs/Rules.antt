@@ -3,12 +3,13 @@ use Rattle.std.specs.Prelude.{ℕ, Bool, true, false, not, ◌||◌, nat_eq, ◌
 use Rattle.std.specs.List.{list_all, list_any, range_with_len}
 use Rattle.mt_types.specs.declared.ty.Agg.TheVariants.{Sum, Min, Max}
 use Rattle.mt_types.specs.Steps.{◌>>=◌, ok_or, require}
-use Rattle.mt_syntax.specs.declared.tree.Selected.{Selected}
-use Rattle.mt_syntax.specs.declared.tree.Selected.TheVariants.{All, Items}
-use Rattle.mt_syntax.specs.declared.tree.Selection.{Selection}
-use Rattle.mt_syntax.specs.declared.tree.Selection.TheVariants as selection
+use Rattle.mt_phrases.specs.declared.selection.Selected.{Selected}
+use Rattle.mt_phrases.specs.declared.selection.Selected.TheVariants.{All, Items}
+use Rattle.mt_phrases.specs.declared.selection.Selection.{Selection}
+use Rattle.mt_phrases.specs.declared.selection.Selection.TheVariants as selection
 use Rattle.mt_table.specs.declared.column.Column.{Column}
-use Rattle.mt_table.specs.ColumnTypes.{is_integer_type, is_number_type, place_has}
+use Rattle.mt_types.specs.Numbers.{is_argument_type}
+use Rattle.mt_table.specs.ColumnTypes.{is_integer_type, place_has}
 use Rattle.mt_query_syntax.specs.declared.tree.QueryText.{QueryText}
 use Rattle.mt_query.specs.declared.query.Item.{Item}
 use Rattle.mt_query.specs.declared.query.Item.TheVariants.{Column as Plain, Count, Of}
@@ -34,6 +35,7 @@ items_of columns (Items items) = all_of (item_of columns) items
 
 -- ---- NotGrouped
 
+-- an item is count, sum, min or max
 abbrev pub is_aggregate : Item → Bool
 is_aggregate (Plain place) = false
 is_aggregate _ = true
@@ -53,11 +55,11 @@ are_grouped items keys = if has_groups items keys then list_all (is_of_group key
 
 -- ---- BadAggregate
 
--- sum is over an integer, min and max over an integer or Date
+-- sum is over an integer of at most 64 bits, min and max over such an integer or a Date
 abbrev pub is_over : List Column → Item → Bool
 is_over columns (Of Sum place) = place_has is_integer_type columns place
-is_over columns (Of Min place) = place_has is_number_type columns place
-is_over columns (Of Max place) = place_has is_number_type columns place
+is_over columns (Of Min place) = place_has is_argument_type columns place
+is_over columns (Of Max place) = place_has is_argument_type columns place
 is_over columns _ = true
 
 -- ---- the query

@@ -1,6 +1,6 @@
 //! The condition of a query. A `u32` names a column by its place in the table, from 0.
 
-use mt_query_syntax::Op;
+use mt_cond_syntax::Op;
 use mt_types::{Boxed, List, Value};
 
 /// A condition on a row: true, false or NULL (docs/LANGUAGE.md, "Queries"; ClickHouse: an expression of `WHERE`).

@@ -7,7 +7,7 @@ ghost use Rattle.mt_query.specs.Conditions as conditions;
 use crate::columns::Columns;
 use crate::cond::Cond;
 use crate::literal::{element_of, prefix_of, value_of, values_of};
-use mt_query_syntax::{CondText, Literal, Op};
+use mt_cond_syntax::{CondText, Literal, Op};
 use mt_types::{Boxed, List, NoMemory};
 use std::alloc::Global;
 

@@ -2,12 +2,15 @@
 
 ghost use Rattle.std.specs.Prelude.{◌≡◌, ℕ, nat_eq, IfOk};
 ghost use Rattle.std.specs.List.{list_all, list_any};
-ghost use Rattle.mt_table.specs.ColumnTypes.{is_integer_type, is_number_type, place_has};
+ghost use Rattle.mt_types.specs.Numbers as numbers;
+ghost use Rattle.mt_table.specs.ColumnTypes as types;
+ghost use Rattle.mt_table.specs.ColumnTypes.{place_has};
 ghost use Rattle.mt_query.specs.Rules as rules;
 
 use crate::columns::Columns;
 use crate::query::Item;
-use mt_types::{Agg, List, NoMemory, Ty};
+use mt_table::{is_argument_type, is_integer_type};
+use mt_types::{Agg, List, NoMemory};
 use std::alloc::Global;
 
 fn is_aggregate(item: &Item) -> bool
@@ -71,35 +74,23 @@ pub(crate) fn are_grouped(alloc: Global, items: &[Item], keys: &[u32]) -> Result
     Ok(are_of_group(items, keys.as_slice()))
 }
 
-fn is_integer(ty: &Ty) -> bool
-    ensures { result ≡ is_integer_type ty.now }
-{
-    matches!(ty, Ty::UInt(_) | Ty::Int(_))
-}
-
-fn is_number(ty: &Ty) -> bool
-    ensures { result ≡ is_number_type ty.now }
-{
-    matches!(ty, Ty::UInt(_) | Ty::Int(_) | Ty::Date)
-}
-
 impl<'c> Columns<'c> {
-    /// Whether the column at a place has integers.
+    /// Whether the column at a place has integers of at most 64 bits.
     fn has_integers(&self, place: u32) -> bool
-        ensures { result ≡ place_has is_integer_type self.now.list.now place }
+        ensures { result ≡ place_has types.is_integer_type self.now.list.now place }
     {
         match self.list.get(place as usize) {
-            Some(column) => is_integer(&column.ty),
+            Some(column) => is_integer_type(&column.ty),
             None => false,
         }
     }
 
-    /// Whether the column at a place has integers or dates.
+    /// Whether the column at a place has integers of at most 64 bits or dates.
     fn has_numbers(&self, place: u32) -> bool
-        ensures { result ≡ place_has is_number_type self.now.list.now place }
+        ensures { result ≡ place_has numbers.is_argument_type self.now.list.now place }
     {
         match self.list.get(place as usize) {
-            Some(column) => is_number(&column.ty),
+            Some(column) => is_argument_type(&column.ty),
             None => false,
         }
     }

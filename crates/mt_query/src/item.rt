@@ -9,7 +9,7 @@ ghost use Rattle.mt_query.specs.Rules as rules;
 
 use crate::columns::Columns;
 use crate::query::Item;
-use mt_syntax::{Selected, Selection};
+use mt_phrases::{Selected, Selection};
 use mt_types::{List, NoMemory};
 use std::alloc::Global;
 

@@ -19,6 +19,6 @@ mod why;
 pub use cond::Cond;
 pub use law::a_text_asks_one_thing;
 pub use limits::MAX_QUERY_TEXT;
-pub use mt_query_syntax::{MAX_COND_DEPTH, Op};
+pub use mt_cond_syntax::{MAX_COND_DEPTH, Op};
 pub use query::{Item, Query};
 pub use why::{QueryError, QueryWhy};

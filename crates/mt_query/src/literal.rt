@@ -5,8 +5,8 @@ ghost use Rattle.mt_types.specs.declared.ty.Ty.{out-Ty};
 ghost use Rattle.mt_query.specs.Lists.{all_of};
 ghost use Rattle.mt_query.specs.Literals as literals;
 
-use mt_query_syntax::Literal;
-use mt_tsv::read_date;
+use mt_calendar::{read_date, read_moment};
+use mt_cond_syntax::Literal;
 use mt_types::{List, NoMemory, Ty, Value};
 use std::alloc::Global;
 
@@ -20,12 +20,13 @@ fn inside(ty: &Ty) -> &Ty
     }
 }
 
-/// A number of 128 bits signed.
-fn number_value(literal: &Literal) -> Option<Value>
-    ensures { result ≡ literals.number_value literal.now }
+/// A number from -2^127 to 2^128 - 1.
+fn integer_value(literal: &Literal) -> Option<Value>
+    ensures { result ≡ literals.integer_value literal.now }
 {
     match literal {
-        Literal::Number(Some(number)) => Some(Value::Num(*number)),
+        Literal::Number(Some(number)) => Some(Value::number(*number)),
+        Literal::Negative(Some(number)) => Some(Value::Num(*number)),
         _ => None,
     }
 }
@@ -35,9 +36,22 @@ fn date_value(literal: &Literal) -> Option<Value>
     ensures { result ≡ literals.date_value literal.now }
 {
     match literal {
-        Literal::Number(_) => None,
+        Literal::Number(_) | Literal::Negative(_) => None,
         Literal::Text(text) => match read_date(text.as_slice()) {
             Some(day) => Some(Value::Num(day as i128)),
+            None => None,
+        },
+    }
+}
+
+/// The second of a text YYYY-MM-DD hh:mm:ss.
+fn moment_value(literal: &Literal) -> Option<Value>
+    ensures { result ≡ literals.moment_value literal.now }
+{
+    match literal {
+        Literal::Number(_) | Literal::Negative(_) => None,
+        Literal::Text(text) => match read_moment(text.as_slice()) {
+            Some(second) => Some(Value::Num(second as i128)),
             None => None,
         },
     }
@@ -48,7 +62,7 @@ fn text_value(alloc: Global, literal: &Literal) -> Result<Option<Value>, NoMemor
     ensures { IfOk result (λ value. value ≡ literals.text_value literal.now) }
 {
     match literal {
-        Literal::Number(_) => Ok(None),
+        Literal::Number(_) | Literal::Negative(_) => Ok(None),
         Literal::Text(text) => Ok(Some(Value::Text(List::of_bytes(alloc, text.as_slice())?))),
     }
 }
@@ -69,7 +83,7 @@ fn fixed_value(alloc: Global, size: u32, literal: &Literal) -> Result<Option<Val
     ensures { IfOk result (λ value. value ≡ literals.fixed_value size literal.now) }
 {
     match literal {
-        Literal::Number(_) => Ok(None),
+        Literal::Number(_) | Literal::Negative(_) => Ok(None),
         Literal::Text(text) => {
             if text.len() > size as usize {
                 return Ok(None);
@@ -84,8 +98,9 @@ fn plain_value(alloc: Global, ty: &Ty, literal: &Literal) -> Result<Option<Value
     ensures { IfOk result (λ value. value ≡ literals.value_at (out-Ty ty.now) literal.now) }
 {
     match ty {
-        Ty::UInt(_) | Ty::Int(_) => Ok(number_value(literal)),
+        Ty::UInt(_) | Ty::Int(_) => Ok(integer_value(literal)),
         Ty::Date => Ok(date_value(literal)),
+        Ty::Moment => Ok(moment_value(literal)),
         Ty::Str => text_value(alloc, literal),
         Ty::FixedString(size) => fixed_value(alloc, *size, literal),
         _ => Ok(None),

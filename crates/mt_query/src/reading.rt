@@ -6,13 +6,14 @@ ghost use Rattle.mt_query.specs.declared.why.QueryWhy.{QueryWhy};
 ghost use Rattle.mt_query.specs.declared.why.QueryError.TheVariants as error;
 ghost use Rattle.mt_query.specs.Named.{is_place, query_passes};
 ghost use Rattle.mt_query.specs.Queries.{Asks, GivesQuery};
+ghost use Rattle.mt_query.specs.Suits.{given_cond_suits};
 
 use crate::columns::Columns;
 use crate::limits::MAX_QUERY_TEXT;
 use crate::query::Query;
 use crate::why::{QueryError, QueryWhy};
+use mt_phrases::SyntaxError;
 use mt_query_syntax::read_query_text;
-use mt_syntax::SyntaxError;
 use mt_table::Table;
 use std::alloc::Global;
 
@@ -27,8 +28,9 @@ impl Query {
         ensures bad { (why : QueryWhy) → result ≡ Err (error.Bad why) → Asks text.now table.now (Err why) }
         ensures only { (answer : Result Query QueryWhy) → Asks text.now table.now answer → GivesQuery result answer }
 
-        // Every column that the query names is one of the table's.
+        // Every column that the query names is one of the table's, and every literal suits its column.
         ensures within { IfOk result (λ query. IsTrue (query_passes (is_place table.now.columns) query)) }
+        ensures suits { IfOk result (λ query. IsTrue (given_cond_suits table.now.columns query.cond)) }
     {
         if text.len() > MAX_QUERY_TEXT {
             return Err(QueryError::Bad(QueryWhy::TooMany));

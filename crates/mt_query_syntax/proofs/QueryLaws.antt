@@ -1,30 +1,32 @@
 -- The sentence of a query: what is read is one, and each is read.
-use Rattle.std.proofs.Common.{◌≡◌, ℕ, Bool, true, false, List, [], ◌∷◌, Option, Some, Result, Ok, Err, refl, sym, ap, subst, ◌∙◌, inl, inr}
+use Rattle.std.proofs.Common.{◌≡◌, ℕ, Bool, true, false, List, [], ◌∷◌, Option, Some, Result, refl, sym, ap, subst, ◌∙◌, inl, inr}
 use Rattle.std.specs.Prelude.{IfOk, codes, option_and_then}
-use Rattle.mt_types.proofs.OptionLemmas.{then_is, some_is}
+use Rattle.mt_types.proofs.OptionLemmas.{then_is}
 use Rattle.mt_tokens.specs.declared.sign.Sign.TheVariants.{Open, Comma, Dot, Semicolon}
 use Rattle.mt_tokens.specs.Tokens.{Tok}
 use Rattle.mt_tokens.specs.Words.{is_keyword, is_sign}
-use Rattle.mt_tokens.specs.Lexis.{token_at, skip_blanks, AreTokens, IsTokens}
-use Rattle.mt_syntax.specs.declared.error.SyntaxError.{SyntaxError}
-use Rattle.mt_syntax.specs.declared.error.SyntaxError.TheVariants as error
-use Rattle.mt_syntax.specs.Answers.{Gives}
-use Rattle.mt_syntax.specs.Grammar.{Chain, IsNumber}
-use Rattle.mt_syntax.specs.Phrases.{Phrase, ◌▹◌, ◌&◌, Made, Maybe, OneEach, Perhaps, second_is}
-use Rattle.mt_syntax.specs.Readers.{skip}
-use Rattle.mt_syntax.specs.Terminals.{number_in}
-use Rattle.mt_syntax.proofs.ListLaws.{Skips, chain_law, perhaps_if_law, skip_sound, skip_none, skip_all}
-use Rattle.mt_syntax.proofs.PhraseLaws.{IsRead, Not, one_law, after_law, both_law, made_law, maybe_law}
-use Rattle.mt_syntax.proofs.TokenTests.{Apart, keys_apart, key_no_sign, sign_no_key, after_begins, maybe_begins, skips_begin}
-use Rattle.mt_query_syntax.specs.declared.tree.CondText.{CondText}
+use Rattle.mt_tokens.specs.Lexis.{IsTokens}
+use Rattle.mt_phrases.specs.declared.error.SyntaxError.{SyntaxError}
+use Rattle.mt_phrases.specs.Answers.{Gives, GivesSentence}
+use Rattle.mt_phrases.specs.Phrases.{Chain, IsNumber, Phrase, ◌▹◌, ◌&◌, Made, Maybe, OneEach, Perhaps, second_is}
+use Rattle.mt_phrases.specs.Readers.{skip, whole}
+use Rattle.mt_phrases.specs.Selections.{IsSelected}
+use Rattle.mt_phrases.specs.Terminals.{number_in}
+use Rattle.mt_phrases.proofs.ListLaws.{Skips, chain_law, perhaps_if_law, skip_sound, skip_none, skip_all}
+use Rattle.mt_phrases.proofs.PhraseLaws.{IsRead, Not, one_law, after_law, both_law, made_law, maybe_law}
+use Rattle.mt_phrases.proofs.TokenTests.{Apart, keys_apart, key_no_sign, sign_no_key, after_begins, maybe_begins, skips_begin}
+use Rattle.mt_phrases.proofs.SelectionLaws.{selects_law}
+use Rattle.mt_phrases.proofs.TextLaws.{whole_is}
+use Rattle.mt_phrases.proofs.TextLaws as laws
+use Rattle.mt_cond_syntax.specs.declared.tree.CondText.{CondText}
 use Rattle.mt_query_syntax.specs.declared.tree.QueryText.{QueryText}
-use Rattle.mt_query_syntax.specs.Answers.{GivesQueryText}
-use Rattle.mt_query_syntax.specs.Grammar.{IsName, IsSelected, IsCond, IsWhere, IsGroup, IsOrder, IsFrom, IsQuery, IsQueryText}
-use Rattle.mt_query_syntax.specs.Reading.{where_at, group_at, order_at, clauses_at, from_at, query_at, whole, sentence_at}
-use Rattle.mt_query_syntax.specs.Terminals.{is_name}
+use Rattle.mt_cond_syntax.specs.Grammar.{IsName, IsCond}
+use Rattle.mt_query_syntax.specs.Grammar.{IsWhere, IsGroup, IsOrder, IsFrom, IsQuery, IsQueryText}
+use Rattle.mt_query_syntax.specs.Reading.{where_at, group_at, order_at, clauses_at, from_at, query_at, sentence_at}
+use Rattle.mt_cond_syntax.specs.Terminals.{is_name, name_in}
 use Rattle.mt_query_syntax.specs.Trees.{query_of}
-use Rattle.mt_query_syntax.proofs.CondLaws.{EndsCond, cond_law}
-use Rattle.mt_query_syntax.proofs.ItemLaws.{name_law, selects_law}
+use Rattle.mt_cond_syntax.proofs.CondLaws.{EndsCond, cond_law, name_law}
+use Rattle.mt_cond_syntax.proofs.QueryTests.{query_name_no_sign}
 
 -- ---- clauses
 
@@ -141,11 +143,11 @@ from_begins test apart tokens tree rest h = after_begins (is_keyword (codes "FRO
 
 -- a query without its semicolon
 abbrev IsOpenQuery : Phrase QueryText
-IsOpenQuery = Made query_of (is_keyword (codes "SELECT") ▹ (IsSelected & IsFrom))
+IsOpenQuery = Made query_of (is_keyword (codes "SELECT") ▹ (IsSelected name_in & IsFrom))
 
 query_law : IsRead IsOpenQuery query_at EndsOrder
 query_law =
-    made_law query_of (after_law (is_keyword (codes "SELECT")) (both_law selects_law from_law
+    made_law query_of (after_law (is_keyword (codes "SELECT")) (both_law (selects_law name_in query_name_no_sign) from_law
     (λ middle tree rest h s. (
       from_begins (is_sign Comma) (key_no_sign (codes "FROM") Comma) middle tree rest h,
       from_begins (is_sign Open) (key_no_sign (codes "FROM") Open) middle tree rest h,
@@ -153,10 +155,6 @@ query_law =
 
 abbrev semicolon : Tok → Bool
 semicolon = is_sign Semicolon
-
-whole_is : (read tree : QueryText) (tokens : List Tok) → whole read tokens ≡ Some tree → (tokens ≡ []) × (read ≡ tree)
-whole_is read tree [] e = (refl, some_is read tree e)
-whole_is read tree (token ∷ tokens) e = absurd cc
 
 pub query_sound : (tokens : List Tok) (tree : QueryText) → sentence_at tokens ≡ Some tree → IsQuery tokens tree []
 unfolding sentence_at
@@ -183,44 +181,16 @@ query_complete tokens tree h =
 
 -- ---- the text
 
-pub query_is_found : (text : List ℕ) (tokens : List Tok) (result : Result QueryText SyntaxError) → IsTokens text tokens → Gives (λ (x : QueryText). x) result (sentence_at tokens) → IfOk result (λ sentence. IsQueryText text sentence)
-query_is_found text tokens (Ok sentence) are e = (tokens, are, query_sound tokens sentence e)
-query_is_found text tokens (Err error) are e = tt
+-- a query with nothing behind it
+abbrev IsWhole : List Tok → QueryText → Type 0
+IsWhole tokens tree = IsQuery tokens tree []
 
-given : (tokens : List Tok) (result : Result QueryText SyntaxError) (sentence : QueryText) → sentence_at tokens ≡ Some sentence → Gives (λ (x : QueryText). x) result (sentence_at tokens) → GivesQueryText result sentence
-given tokens (Ok read) sentence is e = some_is read sentence (sym e ∙ is)
-given tokens (Err error.Bad) sentence is e = let k = sym e ∙ is in absurd cc
-given tokens (Err error.NoMemory) sentence is e = tt
+pub query_is_found : (text : List ℕ) (tokens : List Tok) (result : Result QueryText SyntaxError) → IsTokens text tokens → Gives (λ (x : QueryText). x) result (sentence_at tokens) → IfOk result (λ sentence. IsQueryText text sentence)
+query_is_found = laws.sentence_is_found IsWhole sentence_at query_sound query_complete
 
 pub query_is_only : (text : List ℕ) (tokens : List Tok) (result : Result QueryText SyntaxError) → ((others : List Tok) → IsTokens text others → others ≡ tokens) → Gives (λ (x : QueryText). x) result (sentence_at tokens)
-    → (sentence : QueryText) → IsQueryText text sentence → GivesQueryText result sentence
-query_is_only text tokens result only e sentence h =
-    let same = only h.0 h.1 in
-    given tokens result sentence (query_complete tokens sentence (subst (λ (us : List Tok). IsQuery us sentence []) same h.2)) e
-
--- ---- one sentence
-
--- what is taken off the front is one token
-taken : (o : Option (Tok × List ℕ)) (a b : Tok) (p q : List ℕ) → o ≡ Some (a, p) → o ≡ Some (b, q) → (a ≡ b) × (p ≡ q)
-taken o a b p q e f =
-    let same : (let x : Tok × List ℕ = (a, p) in x) ≡ (b, q) = some_is (a, p) (b, q) (sym e ∙ f) in
-    (ap (λ (x : Tok × List ℕ). x.0) same, ap (λ (x : Tok × List ℕ). x.1) same)
-
-nothing_taken : (text : List ℕ) (token : Tok) (rest : List ℕ) → text ≡ [] → token_at text ≡ Some (token, rest) → ⊥
-unfolding token_at
-nothing_taken text token rest e f = let k = sym (ap token_at e) ∙ f in cc
-
-tokens_are_one : (text : List ℕ) (a b : List Tok) → AreTokens text a → AreTokens text b → a ≡ b
-tokens_are_one text [] [] h k = refl
-tokens_are_one text [] (u ∷ us) h k = absurd (nothing_taken text u k.0 h k.1)
-tokens_are_one text (t ∷ ts) [] h k = absurd (nothing_taken text t h.0 k h.1)
-tokens_are_one text (t ∷ ts) (u ∷ us) h k =
-    let same = taken (token_at text) t u h.0 k.0 h.1 k.1 in
-    let others = tokens_are_one (skip_blanks k.0) ts us (subst (λ (rest : List ℕ). AreTokens (skip_blanks rest) ts) same.1 h.2) k.2 in
-    ap (λ (token : Tok). token ∷ ts) same.0 ∙ ap (λ (tokens : List Tok). u ∷ tokens) others
+    → (sentence : QueryText) → IsQueryText text sentence → GivesSentence result sentence
+query_is_only = laws.sentence_is_only IsWhole sentence_at query_sound query_complete
 
 pub one_query : (text : List ℕ) (a b : QueryText) → IsQueryText text a → IsQueryText text b → a ≡ b
-one_query text a b h k =
-    let same = tokens_are_one (skip_blanks text) h.0 k.0 h.1 k.1 in
-    let first = query_complete k.0 a (subst (λ (tokens : List Tok). IsQuery tokens a []) same h.2) in
-    some_is a b (sym first ∙ query_complete k.0 b k.2)
+one_query = laws.one_sentence IsWhole sentence_at query_sound query_complete

@@ -1,14 +1,11 @@
 //! The clauses behind a table's name.
 
 ghost use Rattle.mt_tokens.specs.Tokens.{plains};
-ghost use Rattle.mt_syntax.specs.Answers.{Gives};
+ghost use Rattle.mt_phrases.specs.Answers.{Gives};
 ghost use Rattle.mt_query_syntax.specs.Reading.{clauses_at, group_at, limit_at, order_at, where_at};
 
-use crate::cond::cond;
-use crate::name::names;
-use crate::token::{keyword, number};
-use crate::tree::CondText;
-use mt_syntax::SyntaxError;
+use mt_cond_syntax::{CondText, cond, names};
+use mt_phrases::{SyntaxError, keyword, number};
 use mt_tokens::{Token, after_keyword};
 use mt_types::List;
 use std::alloc::Global;

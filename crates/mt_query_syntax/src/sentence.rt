@@ -1,24 +1,22 @@
 //! The whole sentence.
 
 ghost use Rattle.std.specs.Prelude.{[], ◌∷◌, ◌≡◌};
-ghost use Rattle.mt_tokens.specs.declared.sign.Sign.TheVariants.{Dot, Semicolon};
+ghost use Rattle.mt_tokens.specs.declared.sign.Sign.TheVariants.{Dot};
 ghost use Rattle.mt_tokens.specs.Tokens.{plains};
 ghost use Rattle.mt_tokens.specs.Words.{is_sign};
-ghost use Rattle.mt_syntax.specs.Answers.{Gives};
-ghost use Rattle.mt_syntax.specs.Phrases.{second_is};
-ghost use Rattle.mt_syntax.specs.Readers.{skip, skip_if};
+ghost use Rattle.mt_phrases.specs.Answers.{Gives};
+ghost use Rattle.mt_phrases.specs.Phrases.{second_is};
+ghost use Rattle.mt_phrases.specs.Readers.{skip_if};
 ghost use Rattle.mt_query_syntax.specs.Reading.{from_at, query_at, sentence_at};
-ghost use Rattle.mt_query_syntax.specs.Terminals.{is_name};
+ghost use Rattle.mt_cond_syntax.specs.Terminals.{is_name};
 ghost use Rattle.mt_query_syntax.specs.Trees.{query_of};
 
 use crate::clause::{Clauses, read_clauses};
 use crate::item::selected;
-use crate::lookahead::second_is_sign;
-use crate::name::any_name;
-use crate::token::{keyword, sign};
 use crate::tree::QueryText;
-use mt_syntax::{Selected, SyntaxError};
-use mt_tokens::{Sign, Token, after_sign, split_first};
+use mt_cond_syntax::any_name;
+use mt_phrases::{Selected, SyntaxError, keyword, second_is_sign, sign, skip_semicolon};
+use mt_tokens::{Sign, Token, split_first};
 use mt_types::List;
 use std::alloc::Global;
 
@@ -75,16 +73,6 @@ fn query<'a, 't>(
     let (items, rest) = selected(alloc, rest)?;
     let (clauses, rest) = from(alloc, rest)?;
     Ok((query_text(alloc, items, clauses), rest))
-}
-
-/// What follows `;`, where it is given.
-fn skip_semicolon<'a, 't>(tokens: &'t [Token<'a>]) -> Result<&'t [Token<'a>], SyntaxError>
-    ensures { Gives (λ x. plains x.now) result (skip (is_sign Semicolon) [] (plains tokens.now)) }
-{
-    match after_sign(tokens, Sign::Semicolon) {
-        Some(after) => Ok(after),
-        None => Ok(tokens),
-    }
 }
 
 /// The sentence that the tokens are.

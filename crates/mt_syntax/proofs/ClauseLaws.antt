@@ -1,28 +1,29 @@
 -- Clauses: what is read is one, and each is read.
 use Rattle.std.proofs.Common.{◌≡◌, ℕ, zero, suc, ◌<◌, ◌≤◌, Bool, true, false, List, [], ◌∷◌, length, Option, Some, refl, sym, ap, subst, ◌∙◌, inl, inr, arith}
-use Rattle.std.specs.Prelude.{codes}
+use Rattle.std.specs.Prelude.{codes, ◌||◌, option_and_then}
 use Rattle.mt_tokens.specs.declared.sign.Sign.{Sign}
 use Rattle.mt_tokens.specs.declared.sign.Sign.TheVariants.{Open, Close, Comma, Equal}
 use Rattle.mt_tokens.specs.Tokens.{Tok}
 use Rattle.mt_tokens.specs.Words.{is_keyword, is_word, is_sign, name_of}
-use Rattle.mt_syntax.specs.Phrases.{Phrase, ◌▹◌, ◌◃◌, ◌∣◌, Many, Made, first_is, second_is}
-use Rattle.std.specs.Prelude.{◌||◌, option_and_then}
 use Rattle.std.proofs.lemmas.Bool.{cases_Bool}
 use Rattle.mt_types.proofs.OptionLemmas.{then_is, some_is}
+use Rattle.mt_phrases.specs.Phrases.{Phrase, ◌▹◌, ◌◃◌, ◌∣◌, Many, Made, first_is, second_is, Chain, InParens, singleton}
+use Rattle.mt_phrases.specs.Readers.{after, with_tree, chain}
+use Rattle.mt_phrases.proofs.PhraseLaws.{IsRead, Any, Not, narrowed, one_law, after_law, after_strict, then_law, made_law, either_law, either_if_law}
+use Rattle.mt_phrases.proofs.ListLaws.{chain_law, closed_law, parens_law, perhaps_law}
+use Rattle.mt_phrases.proofs.TokenTests.{Apart, keys_apart, key_no_sign, word_no_sign, name_no_sign, one_begins, after_begins, after_is}
 use Rattle.mt_syntax.specs.declared.tree.PartitionText.{PartitionText}
 use Rattle.mt_syntax.specs.declared.tree.PartitionText.TheVariants.{Plain, Month}
 use Rattle.mt_syntax.specs.declared.clause.Clause.{Clause}
 use Rattle.mt_syntax.specs.declared.clause.Clause.TheVariants as clause
 use Rattle.mt_syntax.specs.declared.clause.Clauses.{Clauses}
-use Rattle.mt_syntax.specs.Grammar.{IsName, Chain, InParens, IsKey, IsExpression, IsExpressions, IsSetting, IsClause, IsClauses, IsEngine}
-use Rattle.mt_syntax.specs.Trees.{singleton, setting_of, with_clause, with_clauses, no_clauses}
+use Rattle.mt_element_syntax.specs.Grammar.{IsName, IsKey}
+use Rattle.mt_syntax.specs.Grammar.{IsExpression, IsExpressions, IsSetting, IsClause, IsClauses, IsEngine}
+use Rattle.mt_syntax.specs.Trees.{setting_of, with_clause, with_clauses, no_clauses}
 use Rattle.mt_syntax.specs.Terminals.{value_of}
-use Rattle.mt_syntax.specs.Readers.{after, with_tree, chain}
-use Rattle.mt_syntax.specs.Reading.{expression_at, expressions_at, setting_at, is_clause_key, clause_at, more_clauses, clauses_at, key_at, engine_at}
-use Rattle.mt_syntax.proofs.PhraseLaws.{IsRead, Any, Not, narrowed, one_law, after_law, after_strict, then_law, made_law, either_law, either_if_law}
-use Rattle.mt_syntax.proofs.ListLaws.{chain_law, closed_law, parens_law, perhaps_law}
-use Rattle.mt_syntax.proofs.TokenTests.{Apart, keys_apart, key_no_sign, word_no_sign, name_no_sign, one_begins, after_begins, after_is}
-use Rattle.mt_syntax.proofs.ElementLaws.{name_law, word_law, name_is_over, key_law, close_no_comma, close_no_open, comma_no_open, NoOpen, NoMore}
+use Rattle.mt_element_syntax.specs.Reading.{key_at}
+use Rattle.mt_syntax.specs.Reading.{expression_at, expressions_at, setting_at, is_clause_key, clause_at, more_clauses, clauses_at, engine_at}
+use Rattle.mt_element_syntax.proofs.ElementLaws.{name_law, word_law, name_is_over, key_law, close_no_comma, close_no_open, comma_no_open, NoOpen, NoMore}
 
 -- ---- partition keys
 

@@ -1,14 +1,14 @@
 -- Clauses one after the other, as a loop reads them.
 use Rattle.std.proofs.Common.{◌≡◌, ℕ, suc, ◌+◌, ◌-◌, ◌<◌, ◌≤◌, List, true, false, Option, Some, None, refl, sym, ◌∙◌, arith}
 use Rattle.mt_tokens.specs.Tokens.{Tok}
-use Rattle.mt_syntax.specs.declared.error.SyntaxError.{SyntaxError}
-use Rattle.mt_syntax.specs.declared.error.SyntaxError.TheVariants as error
+use Rattle.mt_phrases.specs.declared.error.SyntaxError.{SyntaxError}
+use Rattle.mt_phrases.specs.declared.error.SyntaxError.TheVariants as error
+use Rattle.mt_phrases.specs.Phrases.{first_is}
+use Rattle.mt_phrases.specs.Answers.{Fails}
 use Rattle.mt_syntax.specs.declared.clause.Clause.{Clause}
 use Rattle.mt_syntax.specs.declared.clause.Clauses.{Clauses}
-use Rattle.mt_syntax.specs.Phrases.{first_is}
 use Rattle.mt_syntax.specs.Trees.{with_clause}
 use Rattle.mt_syntax.specs.Reading.{clause_at, more_clauses, is_clause_key}
-use Rattle.mt_syntax.specs.Answers.{Fails}
 
 -- what is left to read gives the whole
 pub record GoesClauses (left : ℕ) (found : Clauses) (tokens : List Tok) (total : Option (Clauses × List Tok)) : Type 0 where

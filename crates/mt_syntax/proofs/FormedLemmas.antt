@@ -1,211 +1,31 @@
 -- Every sentence of the grammar has names that are names, and lists of at least one.
-use Rattle.std.proofs.Common.{◌≡◌, ◌⊎◌, inl, inr, ℕ, zero, suc, ◌≤◌, arith, Bool, true, false, List, [], ◌∷◌, length, ap, sym, ◌∙◌, subst, refl}
-use Rattle.std.specs.Prelude.{◌&&◌, codes, if◌then◌else◌, is_none, nat_le, not, Option, Some, None, option_and_then, option_map, unwrap_or}
-use Rattle.std.specs.List.{filter_map, list_all, list_any}
-use Rattle.std.proofs.lemmas.Bool.{le-leb}
-use Rattle.mt_types.proofs.StepLemmas.{both_of, both_true}
-use Rattle.mt_tokens.specs.declared.sign.Sign.TheVariants.{Open, Close, Comma, Dot, Semicolon, Star, Equal}
-use Rattle.mt_tokens.specs.Lexis.{IsTokens, skip_blanks}
-use Rattle.mt_tokens.specs.Tokens.{Tok, Word, Quoted, Text, Digits, OfSign}
-use Rattle.mt_types.specs.Words.{is_name, is_word_text}
+use Rattle.mt_element_syntax.proofs.FormedLemmas.{Named, names_hold, Some', key_some, Formed, elements_hold, all_formed}
+use Rattle.mt_phrases.proofs.PhrasesHold.{any_one, any_in_chain, any_made, any_both, any_parens}
+use Rattle.std.proofs.Common.{◌≡◌, ℕ, Bool, true, false, List, [], ◌∷◌, ap, sym, ◌∙◌, subst, refl}
+use Rattle.std.specs.Prelude.{if◌then◌else◌, is_none, Option, Some, None, option_and_then, option_map}
+use Rattle.std.specs.List.{list_any}
+use Rattle.mt_types.proofs.StepLemmas.{both_of}
+use Rattle.mt_tokens.specs.declared.sign.Sign.TheVariants.{Open, Close, Dot, Semicolon, Equal}
+use Rattle.mt_tokens.specs.Lexis.{skip_blanks}
 use Rattle.mt_tokens.specs.Words.{is_sign, name_of}
+use Rattle.mt_phrases.specs.Phrases.{Chain, InParens, Phrase, One, ◌▹◌, ◌◂◌, ◌&◌, ◌∣◌, Many, Made, Kept, Perhaps, Nothing, singleton}
+use Rattle.mt_phrases.specs.Terminals.{fixed, is_text, key}
 use Rattle.mt_syntax.specs.declared.clause.Clause.{Clause}
 use Rattle.mt_syntax.specs.declared.clause.Clause.TheVariants as clause
 use Rattle.mt_syntax.specs.declared.clause.Clauses.{Clauses}
-use Rattle.mt_syntax.specs.declared.limits.TheConstants.{MAX_TYPE_DEPTH}
-use Rattle.mt_syntax.specs.declared.tree.CodecText.{CodecText}
-use Rattle.mt_syntax.specs.declared.tree.Element.{Element}
-use Rattle.mt_syntax.specs.declared.tree.Element.TheVariants as element
-use Rattle.mt_syntax.specs.declared.tree.IndexKind.{IndexKind}
-use Rattle.mt_syntax.specs.declared.tree.IndexKind.TheVariants.{Minmax, Set}
-use Rattle.mt_syntax.specs.declared.tree.PartitionText.{PartitionText}
+use Rattle.mt_element_syntax.specs.declared.tree.Element.{Element}
 use Rattle.mt_syntax.specs.declared.tree.PartitionText.TheVariants.{Plain, Month}
-use Rattle.mt_syntax.specs.declared.tree.Selected.{Selected}
-use Rattle.mt_syntax.specs.declared.tree.Selected.TheVariants.{All, Items}
-use Rattle.mt_syntax.specs.declared.tree.Selection.{Selection}
-use Rattle.mt_syntax.specs.declared.tree.Selection.TheVariants as item
-use Rattle.mt_syntax.specs.declared.tree.SettingText.{SettingText}
 use Rattle.mt_syntax.specs.declared.tree.TableText.{TableText}
-use Rattle.mt_syntax.specs.declared.tree.TypeArg.{TypeArg}
-use Rattle.mt_syntax.specs.declared.tree.TypeArg.TheVariants as arg
-use Rattle.mt_syntax.specs.declared.tree.TypeText.{TypeText}
-use Rattle.mt_syntax.specs.Grammar.{Chain, InParens, IsArg, IsBody, IsCall, IsClause, IsClauses, IsCodec, IsCodecs, IsColumn, IsElement, IsElements, IsEnd, IsEngine, IsExpression, IsExpressions, IsGroup, IsIndex, IsItem, IsKey, IsKind, IsList, IsName, IsNumber, IsOrder, IsProjection, IsSelected, IsSentence, IsSetting, IsTableText, IsType, IsWord}
-use Rattle.mt_syntax.specs.Phrases.{Phrase, One, ◌▹◌, ◌◃◌, ◌◂◌, ◌&◌, ◌∣◌, Maybe, Many, Made, Kept, Perhaps, NotWith, Nothing}
-use Rattle.mt_syntax.specs.Terminals as terminal
-use Rattle.mt_syntax.specs.Terminals.{agg_of, fixed, is_text, key, number_in, tree_if, value_of, word_of}
-use Rattle.mt_syntax.specs.Trees.{codec_of, column_of, index_of, is_column, no_clauses, ordered_sentence, projection_of, sentence_of, setting_of, singleton, type_of, with_clause, with_clauses}
-use Rattle.mt_syntax.specs.Formed.{has_one, has_one_given, is_formed, is_formed_element}
-use Rattle.mt_syntax.proofs.PhrasesHold.{after_holds, all_good, any_holds, Any, before_holds, both_hold, chain_holds, Each, EachOfSome, either_holds, Given, Good, Holds, in_parens_holds, kept_holds, made_holds, many_hold, maybe_holds, not_with_holds, nothing_holds, one_holds, perhaps_holds, then_holds}
-
--- ---- names and lists
-
-abbrev Named : List ℕ → Type 0
-Named name = is_name name ≡ true
-
-good_name : (token : Tok) (name : List ℕ) → Good token → name_of token ≡ Some name → Named name
-good_name (Word word) name good e = by_test (nat_le (length word) 64) refl e
-  where
-    by_test : (b : Bool) → nat_le (length word) 64 ≡ b → (if b then Some word else None) ≡ Some name → Named name
-    by_test true few e = let same : word ≡ name = cc in ap is_name (sym same) ∙ both_of (is_word_text word) _ good.1.0 few
-    by_test false few e = cc
-good_name (Quoted quoted) name good e = let same : quoted ≡ name = cc in ap is_name (sym same) ∙ good.1.0
-good_name (Text text) name good e = cc
-good_name (Digits digits) name good e = cc
-good_name (OfSign sign) name good e = cc
-
-names_hold : Holds IsName Named
-names_hold = one_holds name_of Named good_name
-
-any_one : {A : Type 0} (tree_of : Tok → Option A) → Holds (One tree_of) Any
-any_one tree_of = one_holds tree_of Any (λ token x good e. tt)
-
-abbrev Some' : {A : Type 0} → List A → Type 0
-Some' list = has_one list ≡ true
-
-some_of_each : {A : Type 0} (T : A → Type 0) (list : List A) → EachOfSome T list → Some' list
-some_of_each T [] each = absurd each
-some_of_each T (x ∷ xs) each = le-leb 1 (length (x ∷ xs)) (omega arith)
-
-chain_some : Holds (Chain IsName) Some'
-chain_some tokens tree rest p good =
-    let both = chain_holds IsName Named names_hold tokens tree rest p good in (some_of_each Named tree both.0, both.1)
-
-list_some : Holds IsList Some'
-list_some = either_holds (InParens (Chain IsName)) (Chain IsName) Some' (in_parens_holds (Chain IsName) Some' chain_some) chain_some
-
-one_some : (name : List ℕ) → Named name → Some' (singleton name)
-one_some name named = refl
-
-key_some : Holds IsKey Some'
-key_some = either_holds (InParens (Chain IsName)) (Made singleton IsName) Some' (in_parens_holds (Chain IsName) Some' chain_some) (made_holds singleton IsName Named Some' one_some names_hold)
-
--- ---- columns
-
-any_in_chain : {A : Type 0} (P : Phrase A) → Holds P Any → Holds (Chain P) Any
-any_in_chain P h = any_holds (Chain P) (EachOfSome Any) (chain_holds P Any h)
-
-any_made : {A B : Type 0} (make : A → B) (P : Phrase A) → Holds P Any → Holds (Made make P) Any
-any_made make P h = made_holds make P Any Any (λ x any. tt) h
-
-any_both : {A B : Type 0} (P : Phrase A) (Q : Phrase B) → Holds P Any → Holds Q Any → Holds (P & Q) Any
-any_both P Q h k = any_holds (P & Q) (λ x. Any x.0 × Any x.1) (both_hold P Q Any Any h k)
-
-any_maybe : {A : Type 0} (P : Phrase A) → Holds P Any → Holds (Maybe P) Any
-any_maybe P h = any_holds (Maybe P) (Given Any) (maybe_holds P Any h)
-
-any_parens : {A : Type 0} (P : Phrase A) → Holds P Any → Holds (InParens P) Any
-any_parens P h = in_parens_holds P Any h
-
-types_hold : (depth : ℕ) → Holds (IsType depth) Any
-unfolding IsType
-types_hold zero = any_made (λ word. type_of (word, None)) IsWord (any_one word_of)
-types_hold (suc depth) =
-    let Arg : Phrase TypeArg = IsArg (IsType depth) in
-    any_made type_of (IsWord & Maybe (InParens (Chain Arg)))
-    (any_both IsWord (Maybe (InParens (Chain Arg))) (any_one word_of)
-    (any_maybe (InParens (Chain Arg)) (any_parens (Chain Arg) (any_in_chain Arg
-    (either_holds (Made arg.Number IsNumber) (Made arg.Type (IsType depth)) Any (any_made arg.Number IsNumber (any_one number_in)) (any_made arg.Type (IsType depth) (types_hold depth)))))))
-
-codecs_hold : Holds IsCodecs Any
-codecs_hold =
-    after_holds (key "CODEC") (InParens (Chain IsCodec)) Any (any_parens (Chain IsCodec) (any_in_chain IsCodec
-    (any_made codec_of (IsWord & Maybe (InParens IsNumber)) (any_both IsWord (Maybe (InParens IsNumber)) (any_one word_of) (any_maybe (InParens IsNumber) (any_parens IsNumber (any_one number_in)))))))
-
-abbrev Formed : Element → Type 0
-Formed e = is_formed_element e ≡ true
-
-columns_hold : Holds IsColumn Formed
-columns_hold =
-    let Codecs : Phrase (Option (List CodecText)) = Perhaps (key "COMMENT" ∷ is_text ∷ []) (Maybe IsCodecs) in
-    let Rest : Phrase (TypeText × Option (List CodecText)) = IsType MAX_TYPE_DEPTH & Codecs in
-    not_with_holds (key "INDEX") (NotWith (key "PROJECTION") (Made column_of (IsName & Rest))) Formed
-    (not_with_holds (key "PROJECTION") (Made column_of (IsName & Rest)) Formed
-    (made_holds column_of (IsName & Rest) (λ x. Named x.0 × Any x.1) Formed (λ x holds. holds.0)
-    (both_hold IsName Rest Named Any names_hold
-    (any_both (IsType MAX_TYPE_DEPTH) Codecs (types_hold MAX_TYPE_DEPTH)
-    (perhaps_holds (key "COMMENT" ∷ is_text ∷ []) (Maybe IsCodecs) Any (any_maybe IsCodecs codecs_hold))))))
-
--- ---- indexes
-
-kinds_hold : Holds IsKind Any
-kinds_hold =
-    either_holds (One (tree_if (fixed "minmax") Minmax)) (fixed "set" ▹ Made Set (InParens IsNumber)) Any (any_one (tree_if (fixed "minmax") Minmax))
-    (after_holds (fixed "set") (Made Set (InParens IsNumber)) Any (any_made Set (InParens IsNumber) (any_parens IsNumber (any_one number_in))))
-
-indexes_hold : Holds IsIndex Formed
-indexes_hold =
-    let Granularity : Phrase (Option ℕ) = Maybe (key "GRANULARITY" ▹ IsNumber) in
-    let Kinds : Phrase (IndexKind × Option ℕ) = key "TYPE" ▹ (IsKind & Granularity) in
-    after_holds (key "INDEX") (Made index_of (IsName & IsName & Kinds)) Formed
-    (made_holds index_of (IsName & IsName & Kinds) (λ x. Named x.0 × Any x.1) Formed (λ x holds. holds.0)
-    (both_hold IsName (IsName & Kinds) Named Any names_hold
-    (any_both IsName Kinds (any_holds IsName Named names_hold)
-    (after_holds (key "TYPE") (IsKind & Granularity) Any
-    (any_both IsKind Granularity kinds_hold (any_maybe (key "GRANULARITY" ▹ IsNumber) (after_holds (key "GRANULARITY") IsNumber Any (any_one number_in))))))))
-
--- ---- projections
-
-abbrev SomeGiven : Option (List (List ℕ)) → Type 0
-SomeGiven names = has_one_given names ≡ true
-
-some_given : (names : Option (List (List ℕ))) → Given Some' names → SomeGiven names
-some_given None given = refl
-some_given (Some names) given = given
-
-groups_hold : Holds IsGroup SomeGiven
-groups_hold tokens tree rest p good =
-    let List' : Phrase (List (List ℕ)) = key "GROUP" ▹ key "BY" ▹ IsList in
-    let both = maybe_holds List' Some' (after_holds (key "GROUP") (key "BY" ▹ IsList) Some' (after_holds (key "BY") IsList Some' list_some)) tokens tree rest p good in
-    (some_given tree both.0, both.1)
-
-orders_hold : Holds IsOrder SomeGiven
-orders_hold tokens tree rest p good =
-    let List' : Phrase (List (List ℕ)) = key "ORDER" ▹ key "BY" ▹ IsList in
-    let both = maybe_holds List' Some' (after_holds (key "ORDER") (key "BY" ▹ IsList) Some' (after_holds (key "BY") IsList Some' list_some)) tokens tree rest p good in
-    (some_given tree both.0, both.1)
-
-items_hold : Holds IsItem Any
-items_hold =
-    let Calls : Phrase Selection = key "count" ▹ is_sign Open ▹ One (tree_if (is_sign Close) item.Count) in
-    let Aggregates : Phrase Selection = Made (λ x. item.Of x.0 x.1) (One agg_of & InParens IsName) in
-    either_holds IsCall (Made item.Column IsName) Any
-    (either_holds Calls Aggregates Any
-    (after_holds (key "count") (is_sign Open ▹ One (tree_if (is_sign Close) item.Count)) Any (after_holds (is_sign Open) (One (tree_if (is_sign Close) item.Count)) Any (any_one (tree_if (is_sign Close) item.Count))))
-    (any_made (λ x. item.Of x.0 x.1) (One agg_of & InParens IsName) (any_both (One agg_of) (InParens IsName) (any_one agg_of) (any_parens IsName (any_one name_of)))))
-    (any_made item.Column IsName (any_one name_of))
-
-selected_hold : Holds IsSelected Any
-selected_hold = either_holds (One (tree_if (is_sign Star) All)) (Made Items (Chain IsItem)) Any (any_one (tree_if (is_sign Star) All)) (any_made Items (Chain IsItem) (any_in_chain IsItem items_hold))
-
-projections_hold : Holds IsProjection Formed
-projections_hold =
-    let Keys : Phrase (Option (List (List ℕ)) × Option (List (List ℕ))) = IsGroup & IsOrder in
-    let Body : Phrase (Selected × (Option (List (List ℕ)) × Option (List (List ℕ)))) = InParens (key "SELECT" ▹ (IsSelected & Keys)) in
-    let Both : Selected × (Option (List (List ℕ)) × Option (List (List ℕ))) → Type 0 = λ x. Any x.0 × (SomeGiven x.1.0 × SomeGiven x.1.1) in
-    after_holds (key "PROJECTION") (Made projection_of (IsName & Body)) Formed
-    (made_holds projection_of (IsName & Body) (λ x. Named x.0 × Both x.1) Formed
-    (λ x holds. both_of _ _ holds.0 (both_of _ _ holds.1.1.0 holds.1.1.1))
-    (both_hold IsName Body Named Both names_hold
-    (in_parens_holds (key "SELECT" ▹ (IsSelected & Keys)) Both
-    (after_holds (key "SELECT") (IsSelected & Keys) Both
-    (both_hold IsSelected Keys Any (λ x. SomeGiven x.0 × SomeGiven x.1) selected_hold
-    (both_hold IsGroup IsOrder SomeGiven SomeGiven groups_hold orders_hold))))))
-
--- ---- elements
-
-elements_hold : Holds IsElements (Each Formed)
-elements_hold =
-    let elements : Holds IsElement Formed = either_holds IsIndex (IsProjection ∣ IsColumn) Formed indexes_hold (either_holds IsProjection IsColumn Formed projections_hold columns_hold) in
-    in_parens_holds (Chain IsElement) (Each Formed) (λ tokens tree rest p good.
-    let both = chain_holds IsElement Formed elements tokens tree rest p good in (each_of tree both.0, both.1))
-  where
-    each_of : (list : List Element) → EachOfSome Formed list → Each Formed list
-    each_of [] each = absurd each
-    each_of (x ∷ xs) each = each
-
-all_formed : (elements : List Element) → Each Formed elements → list_all is_formed_element elements ≡ true
-all_formed [] each = refl
-all_formed (e ∷ elements) each = both_of _ _ each.0 (all_formed elements each.1)
+use Rattle.mt_element_syntax.specs.Grammar.{IsElements, IsKey, IsName, IsWord}
+use Rattle.mt_syntax.specs.Grammar.{IsBody, IsClause, IsClauses, IsEnd, IsEngine, IsExpression, IsExpressions, IsSentence, IsSetting, IsTableText}
+use Rattle.mt_element_syntax.specs.Terminals as terminal
+use Rattle.mt_element_syntax.specs.Terminals.{word_of}
+use Rattle.mt_syntax.specs.Terminals.{value_of}
+use Rattle.mt_element_syntax.specs.Trees.{is_column}
+use Rattle.mt_syntax.specs.Trees.{no_clauses, ordered_sentence, sentence_of, setting_of, with_clause, with_clauses}
+use Rattle.mt_element_syntax.specs.Formed.{has_one_given}
+use Rattle.mt_syntax.specs.Formed.{is_formed}
+use Rattle.mt_phrases.proofs.PhrasesHold.{after_holds, all_good, Any, both_hold, Each, either_holds, Given, Holds, kept_holds, made_holds, many_hold, nothing_holds, perhaps_holds, then_holds}
 
 -- ---- clauses
 

@@ -1,11 +1,5 @@
-pub mod LoopLemmas
 pub mod ClauseLoop
-pub mod PhraseLaws
-pub mod ListLaws
 pub mod TokenTests
-pub mod ElementLaws
-pub mod ProjectionLaws
 pub mod ClauseLaws
 pub mod SentenceLaws
-pub mod PhrasesHold
 pub mod FormedLemmas

@@ -1,28 +1,32 @@
 -- The sentence: what is read is one, and each is read.
-use Rattle.std.proofs.Common.{◌≡◌, ℕ, Bool, true, false, List, [], ◌∷◌, Option, Some, Result, Ok, Err, refl, sym, ap, subst, ◌∙◌, inl, inr}
+use Rattle.std.proofs.Common.{◌≡◌, ℕ, Bool, true, false, List, [], ◌∷◌, Option, Some, Result, refl, sym, ap, subst, ◌∙◌, inl, inr}
 use Rattle.std.specs.Prelude.{IfOk, codes, option_and_then}
-use Rattle.mt_types.proofs.OptionLemmas.{then_is, some_is}
+use Rattle.mt_types.proofs.OptionLemmas.{then_is}
 use Rattle.mt_tokens.specs.declared.sign.Sign.TheVariants.{Open, Close, Comma, Dot, Semicolon}
 use Rattle.mt_tokens.specs.Tokens.{Tok}
 use Rattle.mt_tokens.specs.Words.{is_keyword, is_sign}
-use Rattle.mt_tokens.specs.Lexis.{token_at, skip_blanks, AreTokens, IsTokens}
+use Rattle.mt_tokens.specs.Lexis.{IsTokens}
+use Rattle.mt_phrases.specs.declared.error.SyntaxError.{SyntaxError}
+use Rattle.mt_phrases.specs.Phrases.{Phrase, ◌◃◌, ◌&◌, ◌◂◌, OneEach, Kept, Perhaps, second_is, Chain}
+use Rattle.mt_phrases.specs.Terminals.{is_text}
+use Rattle.mt_phrases.specs.Readers.{with_tree_if, one_each, skip, skip_if, whole}
+use Rattle.mt_phrases.specs.Answers.{Gives, GivesSentence}
+use Rattle.mt_phrases.proofs.PhraseLaws.{IsRead, Not, then_law, kept_law}
+use Rattle.mt_phrases.proofs.ListLaws.{Skips, one_each_sound, one_each_complete, skip_sound, skip_none, skip_all, skip_if_sound, perhaps_law, perhaps_if_law}
+use Rattle.mt_phrases.proofs.TokenTests.{Apart, keys_apart, signs_apart, key_no_sign, sign_no_key, after_begins, skips_begin}
+use Rattle.mt_phrases.proofs.TextLaws.{whole_is}
+use Rattle.mt_phrases.proofs.TextLaws as laws
 use Rattle.mt_syntax.specs.declared.tree.TableText.{TableText}
-use Rattle.mt_syntax.specs.declared.tree.Element.{Element}
+use Rattle.mt_element_syntax.specs.declared.tree.Element.{Element}
 use Rattle.mt_syntax.specs.declared.clause.Clauses.{Clauses}
-use Rattle.mt_syntax.specs.declared.error.SyntaxError.{SyntaxError}
-use Rattle.mt_syntax.specs.declared.error.SyntaxError.TheVariants as error
-use Rattle.mt_syntax.specs.Phrases.{Phrase, ◌◃◌, ◌&◌, ◌◂◌, OneEach, Kept, Perhaps, second_is}
-use Rattle.mt_syntax.specs.Grammar.{IsName, Chain, IsElement, IsElements, IsEngine, IsBody, IsEnd, IsSentence, IsTableText}
+use Rattle.mt_element_syntax.specs.Grammar.{IsName, IsElement, IsElements}
+use Rattle.mt_syntax.specs.Grammar.{IsEngine, IsBody, IsEnd, IsSentence, IsTableText}
 use Rattle.mt_syntax.specs.Trees.{sentence_of}
-use Rattle.mt_syntax.specs.Terminals.{is_text, is_name}
-use Rattle.mt_syntax.specs.Readers.{with_tree_if, one_each, skip, skip_if}
-use Rattle.mt_syntax.specs.Reading.{is_clause_key, body_at, end_at, whole, rest_at, sentence_at}
-use Rattle.mt_syntax.specs.Answers.{Gives, GivesSentence}
-use Rattle.mt_syntax.proofs.PhraseLaws.{IsRead, Not, then_law, kept_law}
-use Rattle.mt_syntax.proofs.ListLaws.{Skips, one_each_sound, one_each_complete, skip_sound, skip_none, skip_all, skip_if_sound, perhaps_law, perhaps_if_law}
-use Rattle.mt_syntax.proofs.TokenTests.{Apart, keys_apart, signs_apart, key_no_sign, sign_no_key, comment_no_clause, sign_no_clause, after_begins, skips_begin}
-use Rattle.mt_syntax.proofs.ElementLaws.{name_law}
-use Rattle.mt_syntax.proofs.ProjectionLaws.{elements_law}
+use Rattle.mt_element_syntax.specs.Terminals.{is_name}
+use Rattle.mt_syntax.specs.Reading.{is_clause_key, body_at, end_at, rest_at, sentence_at}
+use Rattle.mt_syntax.proofs.TokenTests.{comment_no_clause, sign_no_clause}
+use Rattle.mt_element_syntax.proofs.ElementLaws.{name_law}
+use Rattle.mt_element_syntax.proofs.ProjectionLaws.{elements_law}
 use Rattle.mt_syntax.proofs.ClauseLaws.{EndsClauses, engine_law}
 
 -- ---- the table's name, elements and clauses
@@ -91,10 +95,6 @@ end_complete tokens h =
 
 -- ---- the whole
 
-whole_is : (read tree : TableText) (tokens : List Tok) → whole read tokens ≡ Some tree → (tokens ≡ []) × (read ≡ tree)
-whole_is read tree [] e = (refl, some_is read tree e)
-whole_is read tree (token ∷ tokens) e = absurd cc
-
 -- the sentence behind IF NOT EXISTS
 abbrev IsRest : Phrase TableText
 IsRest = Kept sentence_of IsBody ◂ IsEnd
@@ -150,6 +150,10 @@ exists_skipped tokens middle (inr m) none = rw (not_is_second tokens middle m) (
 abbrev create_tests : List (Tok → Bool)
 create_tests = is_keyword (codes "CREATE") ∷ is_keyword (codes "TABLE") ∷ []
 
+-- a sentence with nothing behind it
+abbrev IsWhole : List Tok → TableText → Type 0
+IsWhole tokens tree = IsSentence tokens tree []
+
 create_sound : (tokens middle : List Tok) (tree : TableText) → OneEach create_tests tokens middle → Perhaps exists_tests IsRest middle tree [] → IsSentence tokens tree []
 create_sound [] middle tree m h = absurd m
 create_sound (token ∷ []) middle tree m h = absurd m.1
@@ -174,43 +178,11 @@ sentence_complete (token ∷ other ∷ tokens) tree h =
 -- ---- the text
 
 pub sentence_is_found : (text : List ℕ) (tokens : List Tok) (result : Result TableText SyntaxError) → IsTokens text tokens → Gives (λ (x : TableText). x) result (sentence_at tokens) → IfOk result (λ sentence. IsTableText text sentence)
-sentence_is_found text tokens (Ok sentence) are e = (tokens, are, sentence_sound tokens sentence e)
-sentence_is_found text tokens (Err error) are e = tt
-
-given : (tokens : List Tok) (result : Result TableText SyntaxError) (sentence : TableText) → sentence_at tokens ≡ Some sentence → Gives (λ (x : TableText). x) result (sentence_at tokens) → GivesSentence result sentence
-given tokens (Ok read) sentence is e = some_is read sentence (sym e ∙ is)
-given tokens (Err error.Bad) sentence is e = let k = sym e ∙ is in absurd cc
-given tokens (Err error.NoMemory) sentence is e = tt
+sentence_is_found = laws.sentence_is_found IsWhole sentence_at sentence_sound sentence_complete
 
 pub sentence_is_only : (text : List ℕ) (tokens : List Tok) (result : Result TableText SyntaxError) → ((others : List Tok) → IsTokens text others → others ≡ tokens) → Gives (λ (x : TableText). x) result (sentence_at tokens)
     → (sentence : TableText) → IsTableText text sentence → GivesSentence result sentence
-sentence_is_only text tokens result only e sentence h =
-    let same = only h.0 h.1 in
-    given tokens result sentence (sentence_complete tokens sentence (subst (λ (us : List Tok). IsSentence us sentence []) same h.2)) e
-
--- ---- one sentence
-
--- what is taken off the front is one token
-taken : (o : Option (Tok × List ℕ)) (a b : Tok) (p q : List ℕ) → o ≡ Some (a, p) → o ≡ Some (b, q) → (a ≡ b) × (p ≡ q)
-taken o a b p q e f =
-    let same : (let x : Tok × List ℕ = (a, p) in x) ≡ (b, q) = some_is (a, p) (b, q) (sym e ∙ f) in
-    (ap (λ (x : Tok × List ℕ). x.0) same, ap (λ (x : Tok × List ℕ). x.1) same)
-
-nothing_taken : (text : List ℕ) (token : Tok) (rest : List ℕ) → text ≡ [] → token_at text ≡ Some (token, rest) → ⊥
-unfolding token_at
-nothing_taken text token rest e f = let k = sym (ap token_at e) ∙ f in cc
-
-tokens_are_one : (text : List ℕ) (a b : List Tok) → AreTokens text a → AreTokens text b → a ≡ b
-tokens_are_one text [] [] h k = refl
-tokens_are_one text [] (u ∷ us) h k = absurd (nothing_taken text u k.0 h k.1)
-tokens_are_one text (t ∷ ts) [] h k = absurd (nothing_taken text t h.0 k h.1)
-tokens_are_one text (t ∷ ts) (u ∷ us) h k =
-    let same = taken (token_at text) t u h.0 k.0 h.1 k.1 in
-    let others = tokens_are_one (skip_blanks k.0) ts us (subst (λ (rest : List ℕ). AreTokens (skip_blanks rest) ts) same.1 h.2) k.2 in
-    ap (λ (token : Tok). token ∷ ts) same.0 ∙ ap (λ (tokens : List Tok). u ∷ tokens) others
+sentence_is_only = laws.sentence_is_only IsWhole sentence_at sentence_sound sentence_complete
 
 pub one_sentence : (text : List ℕ) (a b : TableText) → IsTableText text a → IsTableText text b → a ≡ b
-one_sentence text a b h k =
-    let same = tokens_are_one (skip_blanks text) h.0 k.0 h.1 k.1 in
-    let first = sentence_complete k.0 a (subst (λ (tokens : List Tok). IsSentence tokens a []) same h.2) in
-    some_is a b (sym first ∙ sentence_complete k.0 b k.2)
+one_sentence = laws.one_sentence IsWhole sentence_at sentence_sound sentence_complete

@@ -1,20 +1,13 @@
 -- The grammar read from left to right: each reader has its phrase's name.
-use Rattle.std.specs.Prelude.{ℕ, zero, suc, List, [], ◌∷◌, length, Option, Some, None, option_and_then, Bool, ◌||◌, if◌then◌else◌}
-use Rattle.mt_tokens.specs.declared.sign.Sign.TheVariants.{Open, Close, Dot, Semicolon, Star, Equal}
+use Rattle.std.specs.Prelude.{ℕ, zero, suc, List, [], ◌∷◌, length, Option, Some, option_and_then, Bool, ◌||◌, if◌then◌else◌}
+use Rattle.mt_tokens.specs.declared.sign.Sign.TheVariants.{Open, Close, Dot, Semicolon, Equal}
 use Rattle.mt_tokens.specs.Tokens.{Tok}
-use Rattle.mt_tokens.specs.Words.{is_sign, name_of}
-use Rattle.mt_syntax.specs.declared.limits.TheConstants.{MAX_TYPE_DEPTH}
-use Rattle.mt_syntax.specs.declared.tree.TypeText.{TypeText}
-use Rattle.mt_syntax.specs.declared.tree.TypeArg.{TypeArg}
-use Rattle.mt_syntax.specs.declared.tree.TypeArg.TheVariants as arg
-use Rattle.mt_syntax.specs.declared.tree.CodecText.{CodecText}
-use Rattle.mt_syntax.specs.declared.tree.IndexKind.{IndexKind}
-use Rattle.mt_syntax.specs.declared.tree.IndexKind.TheVariants.{Minmax, Set}
-use Rattle.mt_syntax.specs.declared.tree.Selection.{Selection}
-use Rattle.mt_syntax.specs.declared.tree.Selection.TheVariants as item
-use Rattle.mt_syntax.specs.declared.tree.Selected.{Selected}
-use Rattle.mt_syntax.specs.declared.tree.Selected.TheVariants.{All, Items}
-use Rattle.mt_syntax.specs.declared.tree.Element.{Element}
+use Rattle.mt_tokens.specs.Words.{is_sign}
+use Rattle.mt_phrases.specs.Phrases.{first_is, second_is, singleton}
+use Rattle.mt_phrases.specs.Terminals.{key, fixed, is_text}
+use Rattle.mt_phrases.specs.Readers.{Reader, one, after, both, with_tree, with_tree_if, either, either_if, one_each, skip, skip_if, perhaps, perhaps_if, chain, to_close, in_parens, whole}
+use Rattle.mt_element_syntax.specs.Reading.{name_at, word_at, key_at, elements_at}
+use Rattle.mt_element_syntax.specs.declared.tree.Element.{Element}
 use Rattle.mt_syntax.specs.declared.tree.PartitionText.{PartitionText}
 use Rattle.mt_syntax.specs.declared.tree.PartitionText.TheVariants.{Plain, Month}
 use Rattle.mt_syntax.specs.declared.tree.SettingText.{SettingText}
@@ -22,136 +15,9 @@ use Rattle.mt_syntax.specs.declared.tree.TableText.{TableText}
 use Rattle.mt_syntax.specs.declared.clause.Clause.{Clause}
 use Rattle.mt_syntax.specs.declared.clause.Clause.TheVariants as clause
 use Rattle.mt_syntax.specs.declared.clause.Clauses.{Clauses}
-use Rattle.mt_syntax.specs.Phrases.{first_is, second_is}
-use Rattle.mt_syntax.specs.Trees.{singleton, type_of, codec_of, column_of, index_of, projection_of, setting_of, with_clause, no_clauses, sentence_of}
-use Rattle.mt_syntax.specs.Terminals.{key, fixed, is_number, word_of, number_in, is_text, is_name, tree_if, agg_of, value_of}
-use Rattle.mt_syntax.specs.Readers.{Reader, one, after, both, with_tree, with_tree_if, either, either_if, maybe, one_each, skip, skip_if, perhaps, perhaps_if, chain, to_close, in_parens}
-
--- a name
-abbrev pub name_at : Reader (List ℕ)
-name_at = one name_of
-
--- a plain word
-abbrev pub word_at : Reader (List ℕ)
-word_at = one word_of
-
--- a number
-abbrev pub number_at : Reader ℕ
-number_at = one number_in
-
--- names with commas between them
-abbrev pub names_at : Reader (List (List ℕ))
-names_at = chain name_at
-
--- a list, with or without parentheses
-abbrev pub list_at : Reader (List (List ℕ))
-list_at = either (is_sign Open) (to_close names_at) names_at
-
--- a key: names in parentheses, or one name
-abbrev pub key_at : Reader (List (List ℕ))
-key_at = either (is_sign Open) (to_close names_at) (with_tree singleton name_at)
-
--- ---- types
-
--- an argument, by what reads types
-abbrev pub arg_at : Reader TypeText → Reader TypeArg
-arg_at p = either_if (first_is is_number) (with_tree arg.Number number_at) (with_tree arg.Type p)
-
--- a type, by what reads the types inside its parentheses
-abbrev pub nested_at : Reader TypeText → Reader TypeText
-nested_at p = with_tree type_of (both word_at (maybe (is_sign Open) (to_close (chain (arg_at p)))))
-
--- a type, with at most so many parentheses around one another
-unfoldable pub type_at : (depth : ℕ) → Reader TypeText
-type_at zero = with_tree (λ word. type_of (word, None)) word_at
-type_at (suc depth) = nested_at (type_at depth)
-
--- ---- columns
-
--- a codec
-abbrev pub codec_at : Reader CodecText
-codec_at = with_tree codec_of (both word_at (maybe (is_sign Open) (to_close number_at)))
-
--- the codecs of CODEC, where it is given
-abbrev pub codecs_at : Reader (Option (List CodecText))
-codecs_at = maybe (key "CODEC") (in_parens (chain codec_at))
-
--- a column
-unfoldable pub column_at : Reader Element
-column_at =
-    with_tree column_of (both name_at (both (type_at MAX_TYPE_DEPTH)
-    (perhaps (key "COMMENT") (is_text ∷ []) codecs_at)))
-
--- ---- indexes
-
--- the kind of an index
-abbrev pub kind_at : Reader IndexKind
-kind_at =
-    either_if (first_is (fixed "minmax")) (one (tree_if (fixed "minmax") Minmax))
-    (after (fixed "set") (with_tree Set (in_parens number_at)))
-
--- the number of GRANULARITY, where it is given
-abbrev pub granularity_at : Reader (Option ℕ)
-granularity_at = maybe (key "GRANULARITY") number_at
-
--- an index behind INDEX
-unfoldable pub index_at : Reader Element
-index_at =
-    with_tree index_of (both name_at (both name_at
-    (after (key "TYPE") (both kind_at granularity_at))))
-
--- ---- projections
-
--- count()
-abbrev pub count_at : Reader Selection
-count_at = after (key "count") (after (is_sign Open) (one (tree_if (is_sign Close) item.Count)))
-
--- sum, min or max of a column
-abbrev pub aggregate_at : Reader Selection
-aggregate_at = with_tree (λ x. item.Of x.0 x.1) (both (one agg_of) (in_parens name_at))
-
--- a call
-abbrev pub call_at : Reader Selection
-call_at = either_if (first_is (key "count")) count_at aggregate_at
-
--- an item
-unfoldable pub item_at : Reader Selection
-item_at = either_if (second_is (is_sign Open)) call_at (with_tree item.Column name_at)
-
--- * or items
-abbrev pub selects_at : Reader Selected
-selects_at =
-    either_if (first_is (is_sign Star)) (one (tree_if (is_sign Star) All)) (with_tree Items (chain item_at))
-
--- the names of GROUP BY, where it is given
-abbrev pub group_at : Reader (Option (List (List ℕ)))
-group_at = maybe (key "GROUP") (after (key "BY") list_at)
-
--- the names of ORDER BY, where it is given
-abbrev pub order_at : Reader (Option (List (List ℕ)))
-order_at = maybe (key "ORDER") (after (key "BY") list_at)
-
--- SELECT and what follows it
-abbrev pub selection_at : Reader (Selected × (Option (List (List ℕ)) × Option (List (List ℕ))))
-selection_at = after (key "SELECT") (both selects_at (both group_at order_at))
-
--- a projection behind PROJECTION
-unfoldable pub projection_at : Reader Element
-projection_at =
-    with_tree projection_of (both name_at
-    (in_parens selection_at))
-
--- ---- elements
-
--- an element
-unfoldable pub element_at : Reader Element
-element_at =
-    either (key "INDEX") index_at
-    (either (key "PROJECTION") projection_at column_at)
-
--- elements in parentheses
-abbrev pub elements_at : Reader (List Element)
-elements_at = in_parens (chain element_at)
+use Rattle.mt_syntax.specs.Trees.{setting_of, with_clause, no_clauses, sentence_of}
+use Rattle.mt_element_syntax.specs.Terminals.{is_name}
+use Rattle.mt_syntax.specs.Terminals.{value_of}
 
 -- ---- clauses
 
@@ -220,11 +86,6 @@ abbrev pub end_at : List Tok → Option (List Tok)
 end_at tokens =
     option_and_then (skip (is_sign Semicolon) [])
     (skip (key "COMMENT") (is_text ∷ []) tokens)
-
--- the tree, where no token is left
-abbrev pub whole : TableText → List Tok → Option TableText
-whole tree [] = Some tree
-whole tree (token ∷ tokens) = None
 
 -- the sentence behind [IF NOT EXISTS]
 unfoldable pub rest_at : List Tok → Option TableText

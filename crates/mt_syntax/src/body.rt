@@ -5,21 +5,21 @@ ghost use Rattle.std.specs.List.{list_any};
 ghost use Rattle.mt_tokens.specs.declared.sign.Sign.TheVariants.{Dot};
 ghost use Rattle.mt_tokens.specs.Tokens.{plains};
 ghost use Rattle.mt_tokens.specs.Words.{is_keyword, is_sign};
-ghost use Rattle.mt_syntax.specs.Phrases.{second_is};
-ghost use Rattle.mt_syntax.specs.Terminals.{is_name, is_text};
-ghost use Rattle.mt_syntax.specs.Trees.{is_column, sentence_of};
-ghost use Rattle.mt_syntax.specs.Readers.{both, with_tree_if, skip, skip_if};
-ghost use Rattle.mt_syntax.specs.Reading.{body_at, elements_at, engine_at};
-ghost use Rattle.mt_syntax.specs.Answers.{Gives};
+ghost use Rattle.mt_phrases.specs.Phrases.{second_is};
+ghost use Rattle.mt_phrases.specs.Terminals.{is_text};
+ghost use Rattle.mt_phrases.specs.Readers.{both, with_tree_if, skip, skip_if};
+ghost use Rattle.mt_phrases.specs.Answers.{Gives};
+ghost use Rattle.mt_element_syntax.specs.Terminals.{is_name};
+ghost use Rattle.mt_element_syntax.specs.Trees.{is_column};
+ghost use Rattle.mt_syntax.specs.Trees.{sentence_of};
+ghost use Rattle.mt_element_syntax.specs.Reading.{elements_at};
+ghost use Rattle.mt_syntax.specs.Reading.{body_at, engine_at};
 
 use crate::clause::Clauses;
 use crate::clauses::read_clauses;
-use crate::element::elements;
-use crate::error::SyntaxError;
-use crate::lists::or_empty;
-use crate::lookahead::second_is_sign;
-use crate::token::{any_name, fixed_word, keyword, name, sign, text};
-use crate::tree::{Element, TableText};
+use crate::tree::TableText;
+use mt_element_syntax::{Element, any_name, any_text, elements, name};
+use mt_phrases::{SyntaxError, fixed_word, keyword, or_empty, second_is_sign, sign};
 use mt_tokens::{Sign, Token, after_keyword};
 use mt_types::List;
 use std::alloc::Global;
@@ -60,7 +60,7 @@ fn skip_uuid<'a, 't>(tokens: &'t [Token<'a>]) -> Result<&'t [Token<'a>], SyntaxE
         (skip (is_keyword (codes "UUID")) (is_text ∷ []) (plains tokens.now)) }
 {
     match after_keyword(tokens, b"UUID") {
-        Some(after) => text(after),
+        Some(after) => any_text(after),
         None => Ok(tokens),
     }
 }

@@ -2,8 +2,8 @@
 
 ghost use Rattle.std.specs.Prelude.{◌≡◌, Some, None, OnOk, OnErr, false, is_none};
 
-use crate::error::SyntaxError;
 use crate::tree::{PartitionText, SettingText};
+use mt_phrases::SyntaxError;
 use mt_types::List;
 
 /// One clause.

@@ -4,18 +4,18 @@ ghost use Rattle.std.specs.Prelude.{◌≡◌, ◌∷◌, [], codes};
 ghost use Rattle.mt_tokens.specs.declared.sign.Sign.TheVariants.{Open, Close};
 ghost use Rattle.mt_tokens.specs.Tokens.{plain, plains};
 ghost use Rattle.mt_tokens.specs.Words.{is_keyword, is_sign};
+ghost use Rattle.mt_phrases.specs.Phrases.{first_is};
+ghost use Rattle.mt_phrases.specs.Readers.{after, with_tree, skip};
+ghost use Rattle.mt_phrases.specs.Answers.{Gives};
 ghost use Rattle.mt_syntax.specs.declared.clause.Clause.TheVariants as clause;
-ghost use Rattle.mt_syntax.specs.Phrases.{first_is};
-ghost use Rattle.mt_syntax.specs.Readers.{after, with_tree, skip};
-ghost use Rattle.mt_syntax.specs.Reading.{clause_at, parens_and_clauses_at, is_clause_key, key_at, expressions_at};
-ghost use Rattle.mt_syntax.specs.Answers.{Gives};
+ghost use Rattle.mt_element_syntax.specs.Reading.{key_at};
+ghost use Rattle.mt_syntax.specs.Reading.{clause_at, parens_and_clauses_at, is_clause_key, expressions_at};
 
 use crate::clause::{Clause, Clauses};
-use crate::error::SyntaxError;
-use crate::names::key;
 use crate::partition::expressions;
 use crate::setting::settings;
-use crate::token::{keyword, sign};
+use mt_element_syntax::key;
+use mt_phrases::{SyntaxError, keyword, sign};
 use mt_tokens::{Sign, Token, after_keyword, after_sign, is_keyword, split_first};
 use std::alloc::Global;
 

@@ -1,15 +1,13 @@
 //! Partition keys.
 
 ghost use Rattle.mt_tokens.specs.Tokens.{plains};
-ghost use Rattle.mt_syntax.specs.Readers.{chain, to_close};
+ghost use Rattle.mt_phrases.specs.Readers.{chain};
+ghost use Rattle.mt_phrases.specs.Answers.{Gives};
 ghost use Rattle.mt_syntax.specs.Reading.{expression_at, expressions_at};
-ghost use Rattle.mt_syntax.specs.Answers.{Gives};
 
-use crate::error::SyntaxError;
-use crate::lists::singleton;
-use crate::lookahead::second_is_sign;
-use crate::token::{fixed_word, name, sign};
 use crate::tree::PartitionText;
+use mt_element_syntax::name;
+use mt_phrases::{SyntaxError, fixed_word, second_is_sign, sign, singleton};
 use mt_tokens::{Sign, Token, after_sign};
 use mt_types::List;
 use std::alloc::Global;

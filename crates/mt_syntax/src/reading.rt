@@ -1,13 +1,13 @@
 //! The sentence of a text.
 
 ghost use Rattle.std.specs.Prelude.{IfOk};
+ghost use Rattle.mt_phrases.specs.Answers.{GivesSentence};
 ghost use Rattle.mt_syntax.specs.declared.tree.TableText.{TableText};
 ghost use Rattle.mt_syntax.specs.Grammar.{IsTableText};
-ghost use Rattle.mt_syntax.specs.Answers.{GivesSentence};
 
-use crate::error::SyntaxError;
 use crate::sentence::sentence;
 use crate::tree::TableText;
+use mt_phrases::SyntaxError;
 use mt_tokens::{TokenError, read_tokens};
 use std::alloc::Global;
 

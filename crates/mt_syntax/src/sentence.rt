@@ -1,21 +1,18 @@
 //! The whole sentence.
 
 ghost use Rattle.std.specs.Prelude.{[], ◌∷◌, codes};
-ghost use Rattle.mt_tokens.specs.declared.sign.Sign.TheVariants.{Semicolon};
 ghost use Rattle.mt_tokens.specs.Tokens.{plains};
-ghost use Rattle.mt_tokens.specs.Words.{is_keyword, is_sign};
-ghost use Rattle.mt_syntax.specs.Phrases.{second_is};
-ghost use Rattle.mt_syntax.specs.Readers.{skip, skip_if};
+ghost use Rattle.mt_tokens.specs.Words.{is_keyword};
+ghost use Rattle.mt_phrases.specs.Phrases.{second_is};
+ghost use Rattle.mt_phrases.specs.Readers.{skip_if};
+ghost use Rattle.mt_phrases.specs.Answers.{Gives};
 ghost use Rattle.mt_syntax.specs.Reading.{rest_at, sentence_at};
-ghost use Rattle.mt_syntax.specs.Answers.{Gives};
 
 use crate::body::body;
-use crate::column::skip_comment;
-use crate::error::SyntaxError;
-use crate::lookahead::second_is_keyword;
-use crate::token::keyword;
 use crate::tree::TableText;
-use mt_tokens::{Sign, Token, after_sign, split_first};
+use mt_element_syntax::skip_comment;
+use mt_phrases::{SyntaxError, keyword, second_is_keyword, skip_semicolon};
+use mt_tokens::{Token, split_first};
 use std::alloc::Global;
 
 /// The sentence that the tokens are.
@@ -54,15 +51,5 @@ fn named_table(alloc: Global, tokens: &[Token<'_>]) -> Result<TableText, SyntaxE
     match split_first(rest) {
         None => Ok(table),
         Some(_) => Err(SyntaxError::Bad),
-    }
-}
-
-/// What follows `;`, where it is given.
-fn skip_semicolon<'a, 't>(tokens: &'t [Token<'a>]) -> Result<&'t [Token<'a>], SyntaxError>
-    ensures { Gives (λ x. plains x.now) result (skip (is_sign Semicolon) [] (plains tokens.now)) }
-{
-    match after_sign(tokens, Sign::Semicolon) {
-        Some(after) => Ok(after),
-        None => Ok(tokens),
     }
 }

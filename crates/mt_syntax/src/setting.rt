@@ -1,14 +1,14 @@
 //! Settings.
 
 ghost use Rattle.mt_tokens.specs.Tokens.{plains};
+ghost use Rattle.mt_phrases.specs.Readers.{chain, one};
+ghost use Rattle.mt_phrases.specs.Answers.{Gives};
 ghost use Rattle.mt_syntax.specs.Terminals.{value_of};
-ghost use Rattle.mt_syntax.specs.Readers.{chain, one};
 ghost use Rattle.mt_syntax.specs.Reading.{setting_at};
-ghost use Rattle.mt_syntax.specs.Answers.{Gives};
 
-use crate::error::SyntaxError;
-use crate::token::{sign, word};
 use crate::tree::{SettingText, SettingValue};
+use mt_element_syntax::word;
+use mt_phrases::{SyntaxError, sign};
 use mt_tokens::{Sign, Token, after_sign, number_of, split_first};
 use mt_types::List;
 use std::alloc::Global;

@@ -6,7 +6,7 @@ use Rattle.std.specs.Str.{bytes_eq}
 use Rattle.std.proofs.Math.Bool.{Bool-set}
 use Rattle.std.proofs.lemmas.Bool.Decides.{Decides-eqb}
 use Rattle.std.proofs.lemmas.Slice.Eq.{bytes_eq-Decides}
-use Rattle.mt_types.specs.declared.ty.Width.TheVariants.{W8, W16, W32, W64}
+use Rattle.mt_types.specs.declared.ty.Width.TheVariants.{W8, W16, W32, W64, W128}
 use Rattle.mt_types.specs.declared.ty.Ty.{Ty, out-Ty}
 use Rattle.mt_types.specs.declared.ty.Ty.TheOpen.{Ty-F}
 use Rattle.mt_types.specs.declared.ty.Ty.TheVariants.{UInt, outs-UInt}
@@ -30,10 +30,12 @@ level (Ty-F.UInt W64) e = refl
 level (Ty-F.UInt W8) e = cc
 level (Ty-F.UInt W16) e = cc
 level (Ty-F.UInt W32) e = cc
+level (Ty-F.UInt W128) e = cc
 level (Ty-F.Int width) e = cc
 level (Ty-F.FixedString size) e = cc
 level Ty-F.Str e = cc
 level Ty-F.Date e = cc
+level Ty-F.Moment e = cc
 level (Ty-F.Nullable inner) e = cc
 level (Ty-F.Array inner) e = cc
 level (Ty-F.State agg inner) e = cc

@@ -4,6 +4,7 @@ use Rattle.std.specs.List.{find}
 use Rattle.std.specs.Str.{bytes_eq}
 use Rattle.mt_types.specs.declared.ty.Ty.{Ty, out-Ty}
 use Rattle.mt_types.specs.declared.ty.Ty.TheOpen.{Ty-F}
+use Rattle.mt_types.specs.Numbers.{is_narrow}
 use Rattle.mt_types.specs.Profile.{is_profile}
 use Rattle.mt_table.specs.declared.column.Column.{Column}
 
@@ -13,6 +14,7 @@ is_state_at (Ty-F.State agg inner) = true
 is_state_at Ty-F.CountState = true
 is_state_at _ = false
 
+-- a type of states
 abbrev pub is_state_type : Ty → Bool
 is_state_type ty = is_state_at (out-Ty ty)
 
@@ -20,10 +22,10 @@ is_state_type ty = is_state_at (out-Ty ty)
 abbrev pub is_column_type : Ty → Bool
 is_column_type ty = is_profile ty && not (is_state_type ty)
 
--- an integer
+-- an integer of at most 64 bits: what sum is over
 abbrev pub is_integer_at : Ty-F Ty → Bool
-is_integer_at (Ty-F.UInt width) = true
-is_integer_at (Ty-F.Int width) = true
+is_integer_at (Ty-F.UInt width) = is_narrow width
+is_integer_at (Ty-F.Int width) = is_narrow width
 is_integer_at _ = false
 
 -- a Date
@@ -31,30 +33,23 @@ abbrev pub is_date_at : Ty-F Ty → Bool
 is_date_at Ty-F.Date = true
 is_date_at _ = false
 
--- an integer or a Date
-abbrev pub is_number_at : Ty-F Ty → Bool
-is_number_at (Ty-F.UInt width) = true
-is_number_at (Ty-F.Int width) = true
-is_number_at Ty-F.Date = true
-is_number_at _ = false
-
--- an integer, FixedString, String or Date
+-- an integer, FixedString, String, Date or DateTime('UTC')
 abbrev pub is_key_at : Ty-F Ty → Bool
 is_key_at (Ty-F.UInt width) = true
 is_key_at (Ty-F.Int width) = true
 is_key_at (Ty-F.FixedString size) = true
 is_key_at Ty-F.Str = true
 is_key_at Ty-F.Date = true
+is_key_at Ty-F.Moment = true
 is_key_at _ = false
 
+-- a type that sum is over
 abbrev pub is_integer_type : Ty → Bool
 is_integer_type ty = is_integer_at (out-Ty ty)
 
+-- a type that toYYYYMM is over
 abbrev pub is_date_type : Ty → Bool
 is_date_type ty = is_date_at (out-Ty ty)
-
-abbrev pub is_number_type : Ty → Bool
-is_number_type ty = is_number_at (out-Ty ty)
 
 -- the types that a key, a partition key and a skip index may have
 abbrev pub is_key_type : Ty → Bool

@@ -14,7 +14,8 @@ use Rattle.mt_table.specs.declared.settings.Settings.{Settings}
 use Rattle.mt_table.specs.declared.skip.Skip.{Skip}
 use Rattle.mt_table.specs.declared.skip.SkipKind.{SkipKind}
 use Rattle.mt_table.specs.declared.skip.SkipKind.TheVariants as kept
-use Rattle.mt_table.specs.ColumnTypes.{is_column_type, is_date_type, is_integer_type, is_key_type, is_number_type, place_has}
+use Rattle.mt_types.specs.Numbers.{is_argument_type}
+use Rattle.mt_table.specs.ColumnTypes.{is_column_type, is_date_type, is_integer_type, is_key_type, place_has}
 use Rattle.mt_table.specs.Fields.{Fields}
 use Rattle.mt_types.specs.Words.{is_name}
 use Rattle.mt_table.specs.Names.{are_apart, names_differ, places_differ}
@@ -136,12 +137,12 @@ aggregates_differ aggregates =
     && (places_differ (filter_map sum_place aggregates)
     && (places_differ (filter_map min_place aggregates) && places_differ (filter_map max_place aggregates)))
 
--- a sum is over an integer, the least and the greatest value over an integer or Date
+-- a sum is over an integer of at most 64 bits, the least and the greatest value over such an integer or a Date
 abbrev pub keeps_aggregate : List Column → Aggregate → Bool
 keeps_aggregate columns Count = true
 keeps_aggregate columns (Of Sum place) = place_has is_integer_type columns place
-keeps_aggregate columns (Of Min place) = place_has is_number_type columns place
-keeps_aggregate columns (Of Max place) = place_has is_number_type columns place
+keeps_aggregate columns (Of Min place) = place_has is_argument_type columns place
+keeps_aggregate columns (Of Max place) = place_has is_argument_type columns place
 
 -- a key, and from 1 to 16 different aggregates
 abbrev pub keeps_grouped : List Column → List ℕ → List Aggregate → Bool

@@ -7,6 +7,8 @@ use Rattle.mt_types.specs.declared.ty.Ty.TheVariants.{Str, CountState, State as 
 use Rattle.mt_table.specs.declared.column.Column.{Column}
 use Rattle.mt_table.specs.declared.definition.Table.{Table}
 use Rattle.mt_table.specs.declared.definition.PartDef.{PartDef}
+use Rattle.mt_table.specs.declared.partition.PartExpr.{PartExpr}
+use Rattle.mt_table.specs.declared.partition.PartExpr.TheVariants.{Plain, Month}
 use Rattle.mt_table.specs.declared.projection.Aggregate.{Aggregate}
 use Rattle.mt_table.specs.declared.projection.Aggregate.TheVariants.{Count, Of}
 use Rattle.mt_table.specs.declared.projection.Projection.{Projection}
@@ -24,9 +26,18 @@ column_at columns column_index = slice_index_or columns column_index no_column
 
 -- ---- the base part
 
+-- the column that a partition expression is over, by its index
+abbrev pub expression_column : PartExpr → ℕ
+expression_column (Plain i) = i
+expression_column (Month i) = i
+
+-- the columns that each part of a table has: those of its sort key, and those of its partition key
+abbrev pub key_columns : Table → List ℕ
+key_columns table = table.sort ++ map expression_column table.partition
+
 -- what the table's own part stores
 abbrev pub base_of : Table → PartDef
-base_of table = record { columns = table.columns; sort = table.sort; primary = table.primary }
+base_of table = record { columns = table.columns; must = key_columns table; sort = table.sort; primary = table.primary }
 
 -- ---- projections
 
@@ -63,10 +74,12 @@ state_column table Count = record { name = codes "count()"; ty = CountState }
 state_column table (Of agg i) =
     record { name = aggregate_word agg ++ codes "(" ++ (column_at table.columns i).name ++ codes ")"; ty = StateOf agg (column_at table.columns i).ty }
 
--- what a projection stores: its columns in the table's order, or its keys and then a state per aggregate
+-- what a projection stores: its columns in the table's order, or its keys and then a state per aggregate; its folder has all of them
 abbrev pub inner_of : Table → Projection → PartDef
 inner_of table (Normal name columns sort) =
     let stored = stored_columns table columns in
-    record { columns = map (column_at table.columns) stored; sort = map (index_in stored) sort; primary = length sort }
+    let inner = map (column_at table.columns) stored in
+    record { columns = inner; must = range_with_len 0 (length inner); sort = map (index_in stored) sort; primary = length sort }
 inner_of table (Grouped name keys aggs) =
-    record { columns = map (column_at table.columns) keys ++ map (state_column table) aggs; sort = range_with_len 0 (length keys); primary = length keys }
+    let inner = map (column_at table.columns) keys ++ map (state_column table) aggs in
+    record { columns = inner; must = range_with_len 0 (length inner); sort = range_with_len 0 (length keys); primary = length keys }

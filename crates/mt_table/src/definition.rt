@@ -36,8 +36,11 @@ pub struct Table {
 /// What one folder stores: the base part of a table, or one of its projections.
 #[derive(Drop)]
 pub struct PartDef {
-    /// The stored columns.
+    /// The columns that the folder may store.
     pub columns: List<Column>,
+    /// Those that each such folder has, by places in `columns`. The others may have been added to the table
+    /// later.
+    pub must: List<u32>,
     /// The sort key, by places in `columns`.
     pub sort: List<u32>,
     /// How many columns of the sort key are the primary key.

@@ -3,6 +3,7 @@
 #![tactic(auto)]
 
 mod column;
+mod column_type;
 mod definition;
 mod form;
 mod limits;
@@ -13,6 +14,7 @@ mod skip;
 mod stored;
 
 pub use column::Column;
+pub use column_type::{is_argument_type, is_date_type, is_integer_type, is_key_type};
 pub use definition::{PartDef, Table};
 pub use limits::{
     DEFAULT_GRANULE_BYTES, DEFAULT_GRANULE_ROWS, DEFAULT_WIDE_BYTES, DEFAULT_WIDE_ROWS, MAX_CELLS,

@@ -5,11 +5,12 @@ ghost use Rattle.std.specs.List.{list_all, list_any, range_with_len};
 ghost use Rattle.mt_table.specs.declared.projection.Projection.TheVariants.{Normal, Grouped};
 ghost use Rattle.mt_table.specs.declared.limits.TheConstants.{MAX_COLUMNS};
 ghost use Rattle.mt_table.specs.Kept.{is_place, keeps_aggregate, keeps_normal, keeps_grouped};
-ghost use Rattle.mt_table.specs.Stored.{base_of, column_at, columns_below, index_in, inner_of, projection_at};
+ghost use Rattle.mt_table.specs.Stored.{base_of, column_at, columns_below, index_in, inner_of, key_columns, projection_at};
 ghost use Rattle.mt_table.specs.Stored as defined;
 
 use crate::column::Column;
 use crate::definition::{PartDef, Table};
+use crate::partition::PartExpr;
 use crate::projection::{Aggregate, Projection};
 use mt_types::{Agg, Boxed, List, NoMemory, Ty};
 use std::alloc::Global;
@@ -21,14 +22,27 @@ impl Table {
     {
         Ok(PartDef {
             columns: copy_all(alloc, self.columns.as_slice())?,
+            must: self.key_columns(alloc)?,
             sort: copy_places(alloc, self.sort.as_slice())?,
             primary: self.primary,
         })
     }
 
+    /// The columns that each part of the table has: those of its sort key, and those of its partition key.
+    fn key_columns(&self, alloc: Global) -> Result<List<u32>, NoMemory>
+        ensures { IfOk result (λ places. places ≡ key_columns self.now) }
+    {
+        let mut places = copy_places(alloc, self.sort.as_slice())?;
+        for expression in self.partition.as_slice() {
+            let (PartExpr::Plain(place) | PartExpr::Month(place)) = *expression;
+            places.push(place)?;
+        }
+        Ok(places)
+    }
+
     /// What a projection stores, by its place from 0 (docs/FORMAT.md, "Projections"): its columns in the
-    /// table's order; or its keys, and then a column of states per aggregate. Its sort key is its whole
-    /// primary key.
+    /// table's order; or its keys, and then a column of states per aggregate. Its folder has all of them.
+    /// Its sort key is its whole primary key.
     pub fn inner(&self, alloc: Global, projection: usize) -> Result<PartDef, NoMemory>
         requires there { projection < length self.now.projections }
         ensures { IfOk result (λ made. made ≡ inner_of self.now (projection_at self.now projection)) }
@@ -51,8 +65,10 @@ impl Table {
     {
         let stored = places_below(alloc, self.columns.len() as u32, chosen)?;
         let places = stored.as_slice();
+        let columns = copy_columns(alloc, self.columns.as_slice(), places)?;
         Ok(PartDef {
-            columns: copy_columns(alloc, self.columns.as_slice(), places)?,
+            must: first_places(alloc, columns.len() as u32)?,
+            columns,
             sort: places_among(alloc, places, sort)?,
             primary: sort.len() as u32,
         })
@@ -75,6 +91,7 @@ impl Table {
         }
         let count = keys.len() as u32;
         Ok(PartDef {
+            must: first_places(alloc, columns.len() as u32)?,
             columns,
             sort: first_places(alloc, count)?,
             primary: count,

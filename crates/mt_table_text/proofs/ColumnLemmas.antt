@@ -9,10 +9,10 @@ use Rattle.std.proofs.lemmas.Bool.{ltb-true, ltb-false}
 use Rattle.std.proofs.lemmas.Option.{slice_get-get_or, slice_get_past}
 use Rattle.std.proofs.lemmas.List.{append_assoc, drop_more}
 use Rattle.mt_types.specs.declared.ty.Ty.{Ty}
-use Rattle.mt_syntax.specs.declared.tree.CodecText.{CodecText}
-use Rattle.mt_syntax.specs.declared.tree.Element.{Element}
-use Rattle.mt_syntax.specs.declared.tree.Element.TheVariants.{Column as Column', Index, Projection}
-use Rattle.mt_syntax.specs.declared.tree.TypeText.{TypeText}
+use Rattle.mt_element_syntax.specs.declared.tree.CodecText.{CodecText}
+use Rattle.mt_element_syntax.specs.declared.tree.Element.{Element}
+use Rattle.mt_element_syntax.specs.declared.tree.Element.TheVariants.{Column as Column', Index, Projection}
+use Rattle.mt_element_syntax.specs.declared.tree.TypeText.{TypeText}
 use Rattle.mt_table.specs.ColumnTypes.{column_named}
 use Rattle.mt_table.specs.Kept.{names_of}
 use Rattle.mt_table_text.specs.Sentence.{column_names, columns_of, place_in, with_column}

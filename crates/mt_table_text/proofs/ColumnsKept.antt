@@ -9,13 +9,13 @@ use Rattle.mt_types.specs.NameReading.{type_named}
 use Rattle.mt_types.proofs.ReadingLemmas.{name_of_type_named}
 use Rattle.mt_types.proofs.StepLemmas.{both_of, both_true}
 use Rattle.mt_types.specs.Words.{is_name}
-use Rattle.mt_syntax.specs.declared.tree.Element.{Element}
-use Rattle.mt_syntax.specs.declared.tree.Element.TheVariants.{Column as Column', Index, Projection}
-use Rattle.mt_syntax.specs.declared.tree.TypeText.{TypeText}
+use Rattle.mt_element_syntax.specs.declared.tree.Element.{Element}
+use Rattle.mt_element_syntax.specs.declared.tree.Element.TheVariants.{Column as Column', Index, Projection}
+use Rattle.mt_element_syntax.specs.declared.tree.TypeText.{TypeText}
 use Rattle.mt_table.specs.declared.column.Column.{Column}
 use Rattle.mt_table.specs.declared.limits.TheConstants.{MAX_COLUMNS, MAX_KEY}
 use Rattle.mt_table.specs.ColumnTypes.{is_column_type, is_key_type, is_state_type, named_has}
-use Rattle.mt_syntax.specs.Formed.{has_one, is_formed_element}
+use Rattle.mt_element_syntax.specs.Formed.{has_one, is_formed_element}
 use Rattle.mt_table.specs.Kept.{is_column, keeps_columns, keeps_key, names_of}
 use Rattle.mt_table.specs.Names.{are_among, begins, names_differ}
 use Rattle.mt_table_text.specs.Projections.{is_key}

@@ -5,7 +5,7 @@ use Rattle.std.specs.List.{list_all}
 use Rattle.mt_types.specs.Steps.{◌>>=◌, ok_or, require}
 use Rattle.mt_types.proofs.StepLemmas.{ok_one, ok_then, required}
 use Rattle.mt_syntax.specs.Formed.{is_formed}
-use Rattle.mt_syntax.specs.declared.tree.Element.{Element}
+use Rattle.mt_element_syntax.specs.declared.tree.Element.{Element}
 use Rattle.mt_syntax.specs.declared.tree.TableText.{TableText}
 use Rattle.mt_table.specs.declared.column.Column.{Column}
 use Rattle.mt_table.specs.declared.partition.PartExpr.{PartExpr}

@@ -6,8 +6,8 @@ use Rattle.std.proofs.lemmas.Bool.{le-leb}
 use Rattle.std.proofs.lemmas.List.{length-map}
 use Rattle.mt_types.proofs.StepLemmas.{both_of, both_true}
 use Rattle.mt_types.specs.Words.{is_name}
-use Rattle.mt_syntax.specs.declared.tree.Element.{Element}
-use Rattle.mt_syntax.specs.declared.tree.Element.TheVariants as element
+use Rattle.mt_element_syntax.specs.declared.tree.Element.{Element}
+use Rattle.mt_element_syntax.specs.declared.tree.Element.TheVariants as element
 use Rattle.mt_syntax.specs.declared.tree.SettingText.{SettingText}
 use Rattle.mt_syntax.specs.declared.tree.SettingValue.{SettingValue}
 use Rattle.mt_syntax.specs.declared.tree.SettingValue.TheVariants.{Number, Text, Word}
@@ -15,8 +15,9 @@ use Rattle.mt_syntax.specs.declared.tree.TableText.{TableText}
 use Rattle.mt_table.specs.declared.column.Column.{Column}
 use Rattle.mt_table.specs.declared.limits.TheConstants.{DEFAULT_GRANULE_BYTES, DEFAULT_GRANULE_ROWS, DEFAULT_WIDE_BYTES, DEFAULT_WIDE_ROWS, MAX_COLUMNS, MAX_GRANULE_BYTES, MAX_GRANULE_ROWS, MAX_PARTITION, MAX_PROJECTIONS, MAX_SKIPS}
 use Rattle.mt_table.specs.declared.settings.Settings.{Settings}
-use Rattle.mt_syntax.specs.Formed.{has_one, has_one_given, is_formed, is_formed_element}
-use Rattle.mt_syntax.specs.Trees.{is_column}
+use Rattle.mt_element_syntax.specs.Formed.{has_one, has_one_given, is_formed_element}
+use Rattle.mt_syntax.specs.Formed.{is_formed}
+use Rattle.mt_element_syntax.specs.Trees.{is_column}
 use Rattle.mt_table.specs.Kept.{keeps_rules, keeps_settings, names_of}
 use Rattle.mt_table.specs.Names.{are_among, are_apart, begins, names_differ}
 use Rattle.mt_table_text.specs.Projections.{is_key}

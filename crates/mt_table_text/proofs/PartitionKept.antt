@@ -6,17 +6,17 @@ use Rattle.std.proofs.lemmas.List.{length-map}
 use Rattle.std.proofs.lemmas.List.Folds.{list_all-map}
 use Rattle.mt_types.proofs.StepLemmas.{both_of, both_true}
 use Rattle.mt_types.specs.Words.{is_name}
-use Rattle.mt_syntax.specs.declared.tree.Element.{Element}
-use Rattle.mt_syntax.specs.declared.tree.Element.TheVariants as element
-use Rattle.mt_syntax.specs.declared.tree.IndexKind.{IndexKind}
-use Rattle.mt_syntax.specs.declared.tree.IndexKind.TheVariants.{Minmax, Set}
+use Rattle.mt_element_syntax.specs.declared.tree.Element.{Element}
+use Rattle.mt_element_syntax.specs.declared.tree.Element.TheVariants as element
+use Rattle.mt_element_syntax.specs.declared.tree.IndexKind.{IndexKind}
+use Rattle.mt_element_syntax.specs.declared.tree.IndexKind.TheVariants.{Minmax, Set}
 use Rattle.mt_syntax.specs.declared.tree.PartitionText.{PartitionText}
 use Rattle.mt_syntax.specs.declared.tree.PartitionText.TheVariants as part
 use Rattle.mt_table.specs.declared.column.Column.{Column}
 use Rattle.mt_table.specs.declared.limits.TheConstants.{MAX_GRANULARITY, MAX_PARTITION, MAX_SKIPS}
 use Rattle.mt_table.specs.declared.skip.Skip.{Skip}
 use Rattle.mt_table.specs.ColumnTypes.{is_date_type, is_key_type, named_has}
-use Rattle.mt_syntax.specs.Formed.{is_formed_element}
+use Rattle.mt_element_syntax.specs.Formed.{is_formed_element}
 use Rattle.mt_table.specs.Kept.{keeps_expression, keeps_kind, keeps_partition, keeps_skip, keeps_skips, month_place, names_of, plain_place, skip_names}
 use Rattle.mt_table.specs.Names.{are_among, are_apart, is_among, names_differ, places_differ}
 use Rattle.mt_table_text.specs.Rules.{expression_is_there, expression_of, is_expression, is_index, is_kind, is_partition, kind_of, skip_of}

@@ -12,19 +12,20 @@ use Rattle.std.proofs.lemmas.Slice.Eq.{bytes_eq-Decides}
 use Rattle.mt_types.specs.declared.ty.Agg.TheVariants.{Sum, Min, Max}
 use Rattle.mt_types.proofs.StepLemmas.{both_of, both_true}
 use Rattle.mt_types.specs.Words.{is_name}
-use Rattle.mt_syntax.specs.declared.tree.Element.{Element}
-use Rattle.mt_syntax.specs.declared.tree.Element.TheVariants as element
-use Rattle.mt_syntax.specs.declared.tree.Selected.{Selected}
-use Rattle.mt_syntax.specs.declared.tree.Selected.TheVariants.{All, Items}
-use Rattle.mt_syntax.specs.declared.tree.Selection.{Selection}
-use Rattle.mt_syntax.specs.declared.tree.Selection.TheVariants as selection
+use Rattle.mt_phrases.specs.declared.selection.Selected.{Selected}
+use Rattle.mt_phrases.specs.declared.selection.Selected.TheVariants.{All, Items}
+use Rattle.mt_phrases.specs.declared.selection.Selection.{Selection}
+use Rattle.mt_phrases.specs.declared.selection.Selection.TheVariants as selection
+use Rattle.mt_element_syntax.specs.declared.tree.Element.{Element}
+use Rattle.mt_element_syntax.specs.declared.tree.Element.TheVariants as element
+use Rattle.mt_element_syntax.specs.Formed.{has_one, has_one_given, is_formed_element}
 use Rattle.mt_table.specs.declared.column.Column.{Column}
 use Rattle.mt_table.specs.declared.limits.TheConstants.{MAX_KEY, MAX_PROJECTIONS}
 use Rattle.mt_table.specs.declared.projection.Aggregate.{Aggregate}
 use Rattle.mt_table.specs.declared.projection.Aggregate.TheVariants.{Count}
 use Rattle.mt_table.specs.declared.projection.Projection.{Projection}
-use Rattle.mt_table.specs.ColumnTypes.{is_integer_type, is_number_type}
-use Rattle.mt_syntax.specs.Formed.{has_one, has_one_given, is_formed_element}
+use Rattle.mt_types.specs.Numbers.{is_argument_type}
+use Rattle.mt_table.specs.ColumnTypes.{is_integer_type}
 use Rattle.mt_table.specs.Kept as kept
 use Rattle.mt_table.specs.Kept.{is_one_of, is_place, keeps_aggregate, keeps_grouped, keeps_key, keeps_normal, keeps_projection, keeps_projections, max_place, min_place, name_of, names_of, sum_place}
 use Rattle.mt_table.specs.Names.{are_among, is_among, names_differ, places_differ}
@@ -223,10 +224,10 @@ each_aggregate columns names (selection.Of Sum name ∷ items) are over =
     both_of _ _ (place_is_named is_integer_type columns names name are ∙ parts.0) (each_aggregate columns names items are parts.1)
 each_aggregate columns names (selection.Of Min name ∷ items) are over =
     let parts = both_true (is_over columns (selection.Of Min name)) _ over in
-    both_of _ _ (place_is_named is_number_type columns names name are ∙ parts.0) (each_aggregate columns names items are parts.1)
+    both_of _ _ (place_is_named is_argument_type columns names name are ∙ parts.0) (each_aggregate columns names items are parts.1)
 each_aggregate columns names (selection.Of Max name ∷ items) are over =
     let parts = both_true (is_over columns (selection.Of Max name)) _ over in
-    both_of _ _ (place_is_named is_number_type columns names name are ∙ parts.0) (each_aggregate columns names items are parts.1)
+    both_of _ _ (place_is_named is_argument_type columns names name are ∙ parts.0) (each_aggregate columns names items are parts.1)
 
 aggregates_kept : (names : List (List ℕ)) (items : List Selection) → list_all (item_is_there names) items ≡ true → aggregates_differ items ≡ true → kept.aggregates_differ (filter_map (aggregate_of names) items) ≡ true
 aggregates_kept names items there differ =

@@ -3,9 +3,9 @@ use Rattle.std.proofs.Common.{◌≡◌, ℕ, ◌-◌, ◌≤◌, arith, List, [
 use Rattle.std.specs.Prelude.{codes}
 use Rattle.std.proofs.lemmas.List.{append_assoc, drop_more, length-drop, take_all}
 use Rattle.std.specs.List.{flat_map}
-use Rattle.mt_syntax.specs.declared.tree.TypeText.{TypeText}
-use Rattle.mt_syntax.specs.declared.tree.TypeArg.{TypeArg}
-use Rattle.mt_syntax.specs.declared.tree.TypeArg.TheFolds.{fold_out-TypeText}
+use Rattle.mt_element_syntax.specs.declared.tree.TypeText.{TypeText}
+use Rattle.mt_element_syntax.specs.declared.tree.TypeArg.{TypeArg}
+use Rattle.mt_element_syntax.specs.declared.tree.TypeArg.TheFolds.{fold_out-TypeText}
 use Rattle.mt_table_text.specs.TypeTexts.{arg_step, arg_text, behind_comma, in_parentheses, text_step, type_text}
 
 pub type_text_is : (t : TypeText) → type_text t ≡ t.word ++ in_parentheses (map arg_text t.args)
@@ -34,3 +34,11 @@ pub first_and_others : (args others : List TypeArg) (first d : TypeArg) → 1 �
 first_and_others args others first d some is rest =
     let all : take (length args - 1) (drop 1 args) ≡ drop 1 args = take_all (length args - 1) (drop 1 args) (omega (arith, length-drop 1 args, some)) in
     drop_more args 0 d some ∙ ap (λ x. x ∷ drop 1 args) (sym is) ∙ ap (λ xs. first ∷ xs) (sym (rest ∙ all))
+
+quotes_regrouped : (o p x q : List ℕ) → ((o ++ p) ++ x) ++ q ≡ o ++ (p ++ (x ++ q))
+quotes_regrouped o p x q = simp append_assoc
+
+-- bytes appended between quotes
+pub quoted_is : (old bytes one two all : List ℕ) → one ≡ old ++ codes "'" → two ≡ one ++ bytes → all ≡ two ++ codes "'" → all ≡ old ++ (codes "'" ++ (bytes ++ codes "'"))
+quoted_is old bytes one two all a b c =
+    c ∙ ap (λ text. text ++ codes "'") (b ∙ ap (λ text. text ++ bytes) a) ∙ quotes_regrouped old (codes "'") bytes (codes "'")

@@ -3,20 +3,21 @@ use Rattle.std.specs.Prelude.{ℕ, Bool, true, false, not, ◌&&◌, nat_le, Lis
 use Rattle.std.specs.List.{count_by, filter_map, list_all, list_any, range_with_len}
 use Rattle.mt_types.specs.declared.ty.Agg.{Agg}
 use Rattle.mt_types.specs.declared.ty.Agg.TheVariants.{Sum, Min, Max}
-use Rattle.mt_syntax.specs.declared.tree.Selection.{Selection}
-use Rattle.mt_syntax.specs.declared.tree.Selection.TheVariants as selection
-use Rattle.mt_syntax.specs.declared.tree.Selected.{Selected}
-use Rattle.mt_syntax.specs.declared.tree.Selected.TheVariants.{All, Items}
+use Rattle.mt_phrases.specs.declared.selection.Selection.{Selection}
+use Rattle.mt_phrases.specs.declared.selection.Selection.TheVariants as selection
+use Rattle.mt_phrases.specs.declared.selection.Selected.{Selected}
+use Rattle.mt_phrases.specs.declared.selection.Selected.TheVariants.{All, Items}
 use Rattle.mt_table.specs.declared.column.Column.{Column}
 use Rattle.mt_table.specs.declared.projection.Aggregate.{Aggregate}
 use Rattle.mt_table.specs.declared.projection.Aggregate.TheVariants.{Count, Of}
 use Rattle.mt_table.specs.declared.projection.Projection.{Projection}
 use Rattle.mt_table.specs.declared.projection.Projection.TheVariants.{Normal, Grouped}
-use Rattle.mt_table.specs.ColumnTypes.{is_integer_type, is_key_type, is_number_type, named_has}
+use Rattle.mt_types.specs.Numbers.{is_argument_type}
+use Rattle.mt_table.specs.ColumnTypes.{is_integer_type, is_key_type, named_has}
 use Rattle.mt_table.specs.Names.{are_among, names_differ}
 use Rattle.mt_table_text.specs.Sentence.{is_aggregate, is_count, item_column, max_column, min_column, names_or_none, place_in, places_in, sum_column}
 
--- different names of integer, FixedString, String or Date columns
+-- different names of columns of the types of a key
 abbrev pub is_key : List Column → List (List ℕ) → Bool
 is_key columns names = names_differ names && list_all (named_has is_key_type columns) names
 
@@ -42,10 +43,10 @@ is_normal columns items sort = selects_for items sort && is_key columns sort
 -- what an aggregate may be over
 abbrev pub takes : Agg → List Column → List ℕ → Bool
 takes Sum columns name = named_has is_integer_type columns name
-takes Min columns name = named_has is_number_type columns name
-takes Max columns name = named_has is_number_type columns name
+takes Min columns name = named_has is_argument_type columns name
+takes Max columns name = named_has is_argument_type columns name
 
--- sum is over an integer, min and max over an integer or Date
+-- sum is over an integer of at most 64 bits, min and max over such an integer or a Date
 abbrev pub is_over : List Column → Selection → Bool
 is_over columns (selection.Of agg name) = takes agg columns name
 is_over columns _ = true

@@ -4,17 +4,17 @@ use Rattle.std.specs.List.{count_by, filter_map, list_all}
 use Rattle.std.specs.Option.{unwrap_or}
 use Rattle.std.specs.Str.{bytes_eq}
 use Rattle.mt_types.specs.Steps.{◌>>=◌, ok_or, require}
-use Rattle.mt_syntax.specs.declared.tree.CodecText.{CodecText}
-use Rattle.mt_syntax.specs.declared.tree.Element.{Element}
-use Rattle.mt_syntax.specs.declared.tree.Element.TheVariants as element
-use Rattle.mt_syntax.specs.declared.tree.IndexKind.{IndexKind}
-use Rattle.mt_syntax.specs.declared.tree.IndexKind.TheVariants.{Minmax, Set}
+use Rattle.mt_phrases.specs.declared.selection.Selected.{Selected}
+use Rattle.mt_phrases.specs.declared.selection.Selected.TheVariants.{All, Items}
+use Rattle.mt_phrases.specs.declared.selection.Selection.{Selection}
+use Rattle.mt_phrases.specs.declared.selection.Selection.TheVariants as selection
+use Rattle.mt_element_syntax.specs.declared.tree.CodecText.{CodecText}
+use Rattle.mt_element_syntax.specs.declared.tree.Element.{Element}
+use Rattle.mt_element_syntax.specs.declared.tree.Element.TheVariants as element
+use Rattle.mt_element_syntax.specs.declared.tree.IndexKind.{IndexKind}
+use Rattle.mt_element_syntax.specs.declared.tree.IndexKind.TheVariants.{Minmax, Set}
 use Rattle.mt_syntax.specs.declared.tree.PartitionText.{PartitionText}
 use Rattle.mt_syntax.specs.declared.tree.PartitionText.TheVariants as part
-use Rattle.mt_syntax.specs.declared.tree.Selected.{Selected}
-use Rattle.mt_syntax.specs.declared.tree.Selected.TheVariants.{All, Items}
-use Rattle.mt_syntax.specs.declared.tree.Selection.{Selection}
-use Rattle.mt_syntax.specs.declared.tree.Selection.TheVariants as selection
 use Rattle.mt_syntax.specs.declared.tree.TableText.{TableText}
 use Rattle.mt_table.specs.declared.column.Column.{Column}
 use Rattle.mt_table.specs.declared.limits.TheConstants.{MAX_COLUMNS, MAX_GRANULARITY, MAX_KEY, MAX_PARTITION, MAX_PROJECTIONS, MAX_SET_ROWS, MAX_SKIPS}
@@ -25,11 +25,11 @@ use Rattle.mt_table.specs.declared.settings.Settings.{Settings}
 use Rattle.mt_table.specs.declared.skip.Skip.{Skip}
 use Rattle.mt_table.specs.declared.skip.SkipKind.{SkipKind}
 use Rattle.mt_table.specs.declared.skip.SkipKind.TheVariants as kept
-use Rattle.mt_table_text.specs.declared.why.TableWhy.{TableWhy}
-use Rattle.mt_table_text.specs.declared.why.TableWhy.TheVariants.{BadKey, BadPartition, BadProjection, BadSkip, Codec, NoSuchColumn, NotAType, Setting, TooMany, TwoNames}
 use Rattle.mt_table.specs.ColumnTypes.{is_date_type, is_key_type, named_has}
 use Rattle.mt_table.specs.Fields.{Fields}
 use Rattle.mt_table.specs.Names.{are_among, are_apart, begins, is_among, names_differ}
+use Rattle.mt_table_text.specs.declared.why.TableWhy.{TableWhy}
+use Rattle.mt_table_text.specs.declared.why.TableWhy.TheVariants.{BadKey, BadPartition, BadProjection, BadSkip, Codec, NoSuchColumn, NotAType, Setting, TooMany, TwoNames}
 use Rattle.mt_table_text.specs.Projections.{is_key, is_projection, projection_of}
 use Rattle.mt_table_text.specs.Sentence.{column_names, columns_of, index_names, is_aggregate, month_name, names_or_none, place_in, places_in, plain_name, projection_names}
 use Rattle.mt_table_text.specs.SettingTexts.{settings_of}
@@ -84,7 +84,7 @@ all_are_there names text =
 abbrev pub primary_names : TableText → List (List ℕ)
 primary_names text = unwrap_or text.primary text.order
 
--- sort columns differ and are integers, FixedString, String or Date; the primary key is a prefix of the sort key
+-- sort columns differ and are of the types of a key; the primary key is a prefix of the sort key
 abbrev pub has_keys : List Column → TableText → Bool
 has_keys columns text = is_key columns text.order && begins (primary_names text) text.order
 

@@ -5,12 +5,12 @@ use Rattle.std.specs.Option.{unwrap_or}
 use Rattle.std.specs.Str.{bytes_eq}
 use Rattle.mt_types.specs.declared.ty.Ty.{Ty}
 use Rattle.mt_types.specs.declared.ty.Agg.TheVariants.{Sum, Min, Max}
-use Rattle.mt_syntax.specs.declared.tree.Element.{Element}
-use Rattle.mt_syntax.specs.declared.tree.Element.TheVariants as element
+use Rattle.mt_phrases.specs.declared.selection.Selection.{Selection}
+use Rattle.mt_phrases.specs.declared.selection.Selection.TheVariants as selection
+use Rattle.mt_element_syntax.specs.declared.tree.Element.{Element}
+use Rattle.mt_element_syntax.specs.declared.tree.Element.TheVariants as element
 use Rattle.mt_syntax.specs.declared.tree.PartitionText.{PartitionText}
 use Rattle.mt_syntax.specs.declared.tree.PartitionText.TheVariants as part
-use Rattle.mt_syntax.specs.declared.tree.Selection.{Selection}
-use Rattle.mt_syntax.specs.declared.tree.Selection.TheVariants as selection
 use Rattle.mt_table.specs.declared.column.Column.{Column}
 use Rattle.mt_table_text.specs.TypeTexts.{column_type_of}
 

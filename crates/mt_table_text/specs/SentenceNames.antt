@@ -1,9 +1,9 @@
 -- The names in a sentence, sorted by what they name.
 use Rattle.std.specs.Prelude.{◌≡◌, List}
 use Rattle.std.specs.List.{filter_map}
-use Rattle.mt_syntax.specs.declared.tree.Element.{Element}
+use Rattle.mt_phrases.specs.declared.selection.Selection.{Selection}
+use Rattle.mt_element_syntax.specs.declared.tree.Element.{Element}
 use Rattle.mt_syntax.specs.declared.tree.PartitionText.{PartitionText}
-use Rattle.mt_syntax.specs.declared.tree.Selection.{Selection}
 use Rattle.mt_table_text.specs.declared.sentence.ElementNames.{ElementNames}
 use Rattle.mt_table_text.specs.declared.sentence.ItemNames.{ItemNames}
 use Rattle.mt_table_text.specs.declared.sentence.PartitionNames.{PartitionNames}

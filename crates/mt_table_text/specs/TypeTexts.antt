@@ -4,16 +4,17 @@ use Rattle.std.specs.Fmt.{decimal}
 use Rattle.std.specs.List.{flat_map}
 use Rattle.mt_types.specs.declared.ty.Ty.{Ty}
 use Rattle.mt_types.specs.NameReading.{type_named}
-use Rattle.mt_syntax.specs.declared.tree.TypeText.{TypeText}
-use Rattle.mt_syntax.specs.declared.tree.TypeArg.{TypeArg}
-use Rattle.mt_syntax.specs.declared.tree.TypeArg.TheOpen.{TypeArg-F, TypeText-F}
-use Rattle.mt_syntax.specs.declared.tree.TypeArg.TheFolds.{fold-TypeArg, fold-TypeText}
+use Rattle.mt_element_syntax.specs.declared.tree.TypeText.{TypeText}
+use Rattle.mt_element_syntax.specs.declared.tree.TypeArg.{TypeArg}
+use Rattle.mt_element_syntax.specs.declared.tree.TypeArg.TheOpen.{TypeArg-F, TypeText-F}
+use Rattle.mt_element_syntax.specs.declared.tree.TypeArg.TheFolds.{fold-TypeArg, fold-TypeText}
 use Rattle.mt_table.specs.ColumnTypes.{is_state_type}
 
 -- the argument, where the types inside it are given by their texts
 abbrev pub arg_step : TypeArg-F (List ℕ) (List ℕ) → List ℕ
 arg_step (TypeArg-F.Number n) = decimal n
 arg_step (TypeArg-F.Type text) = text
+arg_step (TypeArg-F.Text bytes) = codes "'" ++ (bytes ++ codes "'")
 
 -- a text behind a comma and a blank
 abbrev pub behind_comma : List ℕ → List ℕ
@@ -28,7 +29,7 @@ in_parentheses (text ∷ texts) = codes "(" ++ (text ++ (flat_map behind_comma t
 abbrev pub text_step : TypeText-F (List ℕ) (List ℕ) → List ℕ
 text_step text = text.word ++ in_parentheses text.args
 
--- a type as its name is printed: no blanks but one after a comma, and numbers by their values
+-- a type as its name is printed: no blanks but one after a comma, numbers by their values, and the bytes of texts in quotes
 abbrev pub type_text : TypeText → List ℕ
 type_text = fold-TypeText (List ℕ) (List ℕ) arg_step text_step
 

@@ -4,7 +4,7 @@ ghost use Rattle.std.specs.Prelude.{◌≡◌};
 ghost use Rattle.std.specs.List.{list_all};
 ghost use Rattle.mt_table_text.specs.Rules as defined;
 
-use mt_syntax::{CodecText, Element};
+use mt_element_syntax::{CodecText, Element};
 
 /// Whether the codecs are the one word NONE.
 fn are_none(codecs: &[CodecText]) -> bool

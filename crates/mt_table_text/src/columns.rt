@@ -1,6 +1,7 @@
 //! The columns of a sentence, and their types by their names.
 
 ghost use Rattle.std.specs.Prelude.{◌≡◌, IfOk, option_copied};
+ghost use Rattle.mt_types.specs.Numbers as numbers;
 ghost use Rattle.mt_table.specs.ColumnTypes as types;
 ghost use Rattle.mt_table.specs.ColumnTypes.{column_named, named_has};
 ghost use Rattle.mt_table.specs.Kept.{names_of};
@@ -9,9 +10,9 @@ ghost use Rattle.mt_table_text.specs.Sentence.{columns_of};
 
 use crate::names::Names;
 use crate::type_text::column_type;
-use mt_syntax::Element;
-use mt_table::Column;
-use mt_types::{List, NoMemory, Ty};
+use mt_element_syntax::Element;
+use mt_table::{Column, is_argument_type, is_date_type, is_integer_type, is_key_type};
+use mt_types::{List, NoMemory};
 use std::alloc::Global;
 
 /// The columns of a table text, if each type is one of a column.
@@ -57,20 +58,17 @@ impl<'n, 'c> Columns<'n, 'c> {
         ensures { result ≡ named_has types.is_key_type self.now.columns.now name.now }
     {
         match self.named(name) {
-            Some(column) => matches!(
-                column.ty,
-                Ty::UInt(_) | Ty::Int(_) | Ty::FixedString(_) | Ty::Str | Ty::Date
-            ),
+            Some(column) => is_key_type(&column.ty),
             None => false,
         }
     }
 
-    /// There is such a column, of integers.
+    /// There is such a column, of integers of at most 64 bits.
     pub(crate) fn is_integer(&self, name: &[u8]) -> bool
         ensures { result ≡ named_has types.is_integer_type self.now.columns.now name.now }
     {
         match self.named(name) {
-            Some(column) => matches!(column.ty, Ty::UInt(_) | Ty::Int(_)),
+            Some(column) => is_integer_type(&column.ty),
             None => false,
         }
     }
@@ -80,17 +78,17 @@ impl<'n, 'c> Columns<'n, 'c> {
         ensures { result ≡ named_has types.is_date_type self.now.columns.now name.now }
     {
         match self.named(name) {
-            Some(column) => matches!(column.ty, Ty::Date),
+            Some(column) => is_date_type(&column.ty),
             None => false,
         }
     }
 
-    /// There is such a column, of integers or dates.
+    /// There is such a column, of integers of at most 64 bits or dates.
     pub(crate) fn is_number(&self, name: &[u8]) -> bool
-        ensures { result ≡ named_has types.is_number_type self.now.columns.now name.now }
+        ensures { result ≡ named_has numbers.is_argument_type self.now.columns.now name.now }
     {
         match self.named(name) {
-            Some(column) => matches!(column.ty, Ty::UInt(_) | Ty::Int(_) | Ty::Date),
+            Some(column) => is_argument_type(&column.ty),
             None => false,
         }
     }

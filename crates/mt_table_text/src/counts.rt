@@ -8,7 +8,9 @@ ghost use Rattle.mt_table_text.specs.SentenceNames.{AreOfElements};
 
 use crate::forms::count_of_aggregates;
 use crate::sentence::ElementNames;
-use mt_syntax::{Element, Selected, TableText};
+use mt_element_syntax::Element;
+use mt_phrases::Selected;
+use mt_syntax::TableText;
 use mt_table::{MAX_COLUMNS, MAX_KEY, MAX_PARTITION, MAX_PROJECTIONS, MAX_SKIPS};
 use mt_types::List;
 

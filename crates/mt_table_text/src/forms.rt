@@ -10,7 +10,8 @@ ghost use Rattle.mt_table_text.specs.SentenceNames.{AreOfItems};
 use crate::columns::Columns;
 use crate::names::{differ, distinct};
 use crate::sentence::{ItemNames, item_names};
-use mt_syntax::{Element, Selected, Selection};
+use mt_element_syntax::Element;
+use mt_phrases::{Selected, Selection};
 use mt_types::{Agg, List, NoMemory};
 use std::alloc::Global;
 

@@ -5,7 +5,7 @@ ghost use Rattle.std.specs.List.{list_all};
 ghost use Rattle.mt_table_text.specs.Rules as defined;
 
 use crate::columns::Columns;
-use mt_syntax::{Element, IndexKind};
+use mt_element_syntax::{Element, IndexKind};
 use mt_table::{MAX_GRANULARITY, MAX_SET_ROWS};
 
 fn is_kind(kind: IndexKind) -> bool

@@ -10,7 +10,9 @@ ghost use Rattle.mt_table_text.specs.Sentence.{item_column, names_or_none, place
 
 use crate::names::Names;
 use crate::sentence::item_names;
-use mt_syntax::{Element, IndexKind, PartitionText, Selected, Selection};
+use mt_element_syntax::{Element, IndexKind};
+use mt_phrases::{Selected, Selection};
+use mt_syntax::PartitionText;
 use mt_table::{Aggregate, MAX_COLUMNS, PartExpr, Projection, Skip, SkipKind};
 use mt_types::{List, NoMemory};
 use std::alloc::Global;

@@ -8,7 +8,9 @@ ghost use Rattle.mt_table_text.specs.Rules as defined;
 ghost use Rattle.mt_table_text.specs.Sentence.{names_or_none};
 
 use crate::names::Names;
-use mt_syntax::{Element, PartitionText, Selected, Selection, TableText};
+use mt_element_syntax::Element;
+use mt_phrases::{Selected, Selection};
+use mt_syntax::{PartitionText, TableText};
 use mt_types::List;
 
 impl<'a> Names<'a> {

@@ -8,7 +8,8 @@ ghost use Rattle.mt_table_text.specs.TextReading.{table_reading};
 
 use crate::judge::judge;
 use crate::why::{TableError, TableWhy};
-use mt_syntax::{SyntaxError, read_table_text};
+use mt_phrases::SyntaxError;
+use mt_syntax::read_table_text;
 use mt_table::Table;
 use std::alloc::Global;
 

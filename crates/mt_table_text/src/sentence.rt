@@ -1,12 +1,14 @@
 //! The names in a sentence, sorted by what they name.
 
 ghost use Rattle.std.specs.Prelude.{◌≡◌, List, [], ◌∷◌, ◌++◌, IfOk, OnOk};
-ghost use Rattle.mt_syntax.specs.declared.tree.Element.{Element};
+ghost use Rattle.mt_phrases.specs.declared.selection.Selection.{Selection};
+ghost use Rattle.mt_element_syntax.specs.declared.tree.Element.{Element};
 ghost use Rattle.mt_syntax.specs.declared.tree.PartitionText.{PartitionText};
-ghost use Rattle.mt_syntax.specs.declared.tree.Selection.{Selection};
 ghost use Rattle.mt_table_text.specs.SentenceNames.{AreOfElements, AreOfItems, AreOfPartition};
 
-use mt_syntax::{Element, PartitionText, Selection};
+use mt_element_syntax::Element;
+use mt_phrases::Selection;
+use mt_syntax::PartitionText;
 use mt_types::{Agg, List, NoMemory};
 use std::alloc::Global;
 

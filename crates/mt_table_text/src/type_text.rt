@@ -1,10 +1,10 @@
 //! The types of columns as a table text has them.
 
-ghost use Rattle.std.specs.Prelude.{◌≡◌, ◌++◌, IfOk, OnOk};
+ghost use Rattle.std.specs.Prelude.{◌≡◌, ◌++◌, IfOk, OnOk, codes};
 ghost use Rattle.mt_types.specs.NameReading.{type_named};
 ghost use Rattle.mt_table_text.specs.TypeTexts.{arg_text, column_type_if, column_type_of, type_text};
 
-use mt_syntax::{TypeArg, TypeText};
+use mt_element_syntax::{TypeArg, TypeText};
 use mt_types::{List, NoMemory, Ty, TyError};
 use std::alloc::Global;
 
@@ -26,6 +26,17 @@ fn append_type(alloc: Global, text: &TypeText, out: &mut List<u8>) -> Result<(),
     Ok(())
 }
 
+/// Appends bytes in quotes.
+#[tactic(auto, using(crate::proofs::TypeTextLemmas::quoted_is))]
+fn append_quoted(bytes: &[u8], out: &mut List<u8>) -> Result<(), NoMemory>
+    ensures { OnOk result (out.new ≡ out.old ++ (codes "'" ++ (bytes.now ++ codes "'"))) }
+{
+    out.append(b"'")?;
+    out.append(bytes)?;
+    out.append(b"'")?;
+    Ok(())
+}
+
 /// Appends an argument of a type.
 #[cycle(append_type)]
 fn append_arg(alloc: Global, arg: &TypeArg, out: &mut List<u8>) -> Result<(), NoMemory>
@@ -34,6 +45,7 @@ fn append_arg(alloc: Global, arg: &TypeArg, out: &mut List<u8>) -> Result<(), No
     match arg {
         TypeArg::Number(number) => out.append(number.to_string(alloc)?.as_bytes()),
         TypeArg::Type(text) => append_type(alloc, text, out),
+        TypeArg::Text(bytes) => append_quoted(bytes.as_slice(), out),
     }
 }
 

@@ -15,7 +15,7 @@ mod sign;
 mod split;
 mod token;
 
-pub use digits::number_of;
+pub use digits::{number_of, wide_number_of};
 pub use error::TokenError;
 pub use escape::unescaped;
 pub use keyword::{is_keyword, is_sign, is_word, name_of};

@@ -1,8 +1,8 @@
 use Rattle.std.proofs.Common.{sym}
 use Rattle.std.proofs.lemmas.Result.{err_from_is_err_and}
 use Rattle.mt_tokens.specs.Tokens.{plains}
+use Rattle.mt_phrases.proofs.LoopLemmas.{goes_on, goes_wrong, goes_out, goes_no_more}
 use Rattle.mt_syntax.specs.Reading.{setting_at}
-use Rattle.mt_syntax.proofs.LoopLemmas.{goes_on, goes_wrong, goes_out, goes_no_more}
 use Rattle.mt_syntax.proofs.setting.settings.Goals as goal
 use Rattle.mt_syntax.proofs.setting.settings.Goals.{else-loop-test, then-loop-test+in_default}
 

@@ -1,8 +1,8 @@
 use Rattle.std.proofs.Common.{◌-◌}
 use Rattle.mt_tokens.specs.Tokens.{plains}
-use Rattle.mt_syntax.specs.Readers.{chain}
+use Rattle.mt_phrases.specs.Readers.{chain}
+use Rattle.mt_phrases.proofs.LoopLemmas.{Goes}
 use Rattle.mt_syntax.specs.Reading.{setting_at}
-use Rattle.mt_syntax.proofs.LoopLemmas.{Goes}
 use Rattle.mt_syntax.proofs.setting.settings.Given as goal
 
 abbrev pub invariant-loop : goal.invariant-loop

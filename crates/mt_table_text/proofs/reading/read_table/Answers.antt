@@ -1,6 +1,6 @@
 use Rattle.std.proofs.Common.{subst}
 use Rattle.std.specs.Prelude.{Err}
-use Rattle.mt_syntax.specs.Answers.{GivesSentence}
+use Rattle.mt_phrases.specs.Answers.{GivesSentence}
 use Rattle.mt_syntax.proofs.FormedLemmas.{text_is_formed}
 use Rattle.mt_table_text.specs.TextReading.{table_reading}
 use Rattle.mt_table_text.proofs.TextReadingLemmas.{reading_defines}

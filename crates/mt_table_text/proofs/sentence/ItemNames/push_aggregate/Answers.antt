@@ -1,5 +1,5 @@
 use Rattle.std.proofs.Common.{ap}
-use Rattle.mt_syntax.specs.declared.tree.Selection.TheVariants.{Of}
+use Rattle.mt_phrases.specs.declared.selection.Selection.TheVariants.{Of}
 use Rattle.mt_table_text.specs.Sentence.{item_column, max_column, min_column, sum_column}
 use Rattle.mt_table_text.proofs.SentenceLemmas.{gains, stays}
 use Rattle.mt_table_text.proofs.sentence.ItemNames.push_aggregate.Goals as goal

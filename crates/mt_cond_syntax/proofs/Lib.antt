@@ -1,0 +1,4 @@
+pub mod JoinLoop
+pub mod JoinLaws
+pub mod QueryTests
+pub mod CondLaws

@@ -1,0 +1,6 @@
+pub mod Numbers
+pub mod Terminals
+pub mod Trees
+pub mod Joins
+pub mod Grammar
+pub mod Reading

@@ -1,0 +1,4 @@
+pub mod TokenTests
+pub mod ElementLaws
+pub mod ProjectionLaws
+pub mod FormedLemmas

@@ -1,0 +1,5 @@
+pub mod Terminals
+pub mod Phrases
+pub mod Readers
+pub mod Answers
+pub mod Selections

@@ -1,9 +1,0 @@
-use Rattle.std.proofs.Common.{◌-◌}
-use Rattle.mt_tokens.specs.Tokens.{plains}
-use Rattle.mt_syntax.specs.Readers.{chain}
-use Rattle.mt_syntax.proofs.LoopLemmas.{Goes}
-use Rattle.mt_query_syntax.specs.Reading.{literal_at}
-use Rattle.mt_query_syntax.proofs.literal.literal_items.Given as goal
-
-abbrev pub invariant-loop : goal.invariant-loop
-invariant-loop l = Goes literal_at (l.end - l.counter) l.literals (plains l.rest) (chain literal_at (plains l.fn.tokens))

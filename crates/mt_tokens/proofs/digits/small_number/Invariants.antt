@@ -1,9 +1,0 @@
-use Rattle.std.proofs.Common.{◌≡◌, ◌<◌, ◌^◌, take}
-use Rattle.std.specs.Str.Parse.{digits_value}
-use Rattle.mt_tokens.proofs.digits.small_number.Given as goal
-
-abbrev pub invariant-loop-c : goal.invariant-loop-c
-invariant-loop-c l = record {
-  so_far : l.number ≡ digits_value 10 (take l.c-index l.digits);
-  below : l.number < 2 ^ 64;
-}
