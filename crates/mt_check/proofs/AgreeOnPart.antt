@@ -5,9 +5,9 @@ use Rattle.std.specs.List.{flat_map, list_any}
 use Rattle.std.proofs.lemmas.Bool.{eqb-true}
 use Rattle.std.specs.Str.{bytes_eq}
 use Rattle.mt_types.specs.Steps.{◌>>=◌, ok_or, require}
-use Rattle.mt_shelf.specs.declared.fault.Fault.{Fault}
-use Rattle.mt_shelf.specs.declared.fault.Why.TheVariants as why
-use Rattle.mt_shelf.specs.declared.file.FileBytes.{FileBytes}
+use Rattle.mt_fault.specs.declared.fault.Fault.{Fault}
+use Rattle.mt_fault.specs.declared.fault.Why.TheVariants as why
+use Rattle.mt_fault.specs.declared.file.FileBytes.{FileBytes}
 use Rattle.mt_table.specs.declared.definition.Table.{Table}
 use Rattle.mt_table.specs.declared.skip.Skip.{Skip}
 use Rattle.mt_defs.specs.Lists.{distinct_by}
@@ -19,7 +19,8 @@ use Rattle.mt_defs.specs.SkipIndexes.{skip_data_name, skip_marks_name}
 use Rattle.mt_defs.specs.WrittenColumns.{file}
 use Rattle.mt_defs.specs.WrittenPartition.{minmax_file, partition_files}
 use Rattle.mt_definition.specs.declared.accepted.Accepted.{Accepted}
-use Rattle.mt_granules.specs.FileFaults.{file_at, blame, frame_fault, file_fault, file_reading, granule_fault}
+use Rattle.mt_fault.specs.Faults.{blame, file_fault, granule_fault}
+use Rattle.mt_granules.specs.FileFaults.{file_at, frame_fault, file_reading}
 use Rattle.mt_files.specs.Faults.{none_found}
 use Rattle.mt_files.specs.OwnNames as own
 use Rattle.mt_files.specs.OwnNames.{each_once, skip_names_in}

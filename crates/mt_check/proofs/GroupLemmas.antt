@@ -13,20 +13,21 @@ use Rattle.mt_types.specs.declared.ty.Ty.{Ty}
 use Rattle.mt_types.specs.Fits.{fits_of}
 use Rattle.mt_types.specs.Steps.{◌>>=◌, require}
 use Rattle.mt_types.proofs.StepLemmas.{passed, then_of}
-use Rattle.mt_shelf.specs.declared.fault.Fault.{Fault}
-use Rattle.mt_shelf.specs.declared.fault.ReadError.{ReadError}
-use Rattle.mt_shelf.specs.declared.fault.Why.TheVariants as why
+use Rattle.mt_fault.specs.declared.fault.Fault.{Fault}
+use Rattle.mt_fault.specs.declared.error.FileError.{FileError}
+use Rattle.mt_fault.specs.declared.fault.Why.TheVariants as why
 use Rattle.mt_table.specs.declared.column.Column.{Column}
 use Rattle.mt_table.specs.declared.skip.Skip.{Skip}
 use Rattle.mt_defs.specs.Granules.{granule_rows}
 use Rattle.mt_defs.specs.Rows.{Row, RowFits, cell, column_values}
 use Rattle.mt_defs.specs.SkipIndexes.{summarizes, entry_groups, skip_data_name}
-use Rattle.mt_granules.specs.FileFaults.{granule_fault}
+use Rattle.mt_fault.specs.Faults.{granule_fault}
 use Rattle.mt_check.specs.FolderChecks.{each, entries_checks}
-use Rattle.mt_files.specs.Results.{FailsAs, IsFault}
+use Rattle.mt_fault.specs.Results.{FailsAs}
+use Rattle.mt_fault.specs.Results.{IsFault}
 use Rattle.mt_check.specs.RowGroups.{group_sizes}
 use Rattle.mt_files.specs.SkipMarks.{pieces_at}
-use Rattle.mt_files.proofs.FaultLemmas.{fails_then, test_fails}
+use Rattle.mt_fault.proofs.FaultLemmas.{fails_then, test_fails}
 use Rattle.mt_definition.proofs.KeyLemmas.{cell_fits}
 use Rattle.mt_files.proofs.LoopLemmas.{at_index, at_end}
 
@@ -218,7 +219,7 @@ next_is skip ty sizes payload i size rest group after ahead later entry inside a
     ∙ entries_next skip ty (i * skip.granularity) group entry pairs
     ∙ ap (λ g. entry_check skip ty (i * skip.granularity) group entry >>= λ _. entries_checks skip ty g pairs) granule
 
-pub entry_differs : (skip : Skip) (ty : Ty) (sizes payload : List ℕ) (i size : ℕ) (rest group after : List Row) (ahead later entry : List ℕ) (whole : Result Unit Fault) (e : ReadError) → entries_from skip ty sizes payload i rest ahead ≡ whole
+pub entry_differs : (skip : Skip) (ty : Ty) (sizes payload : List ℕ) (i size : ℕ) (rest group after : List Row) (ahead later entry : List ℕ) (whole : Result Unit Fault) (e : FileError) → entries_from skip ty sizes payload i rest ahead ≡ whole
     → i < length sizes → size ≡ get_or sizes i size → group ≡ take size rest → after ≡ drop size rest → pieces_at payload ahead ≡ entry ∷ pieces_at payload later
     → summarizes skip.kind ty (column_values skip.column group) entry ≡ false → IsFault (granule_fault (skip_data_name skip) (i * skip.granularity) why.Value) e → FailsAs e whole
 entry_differs skip ty sizes payload i size rest group after ahead later entry whole e left inside at front back first differs fault =
@@ -240,7 +241,7 @@ cut_next sizes i size rest after inside at back cut =
 
 -- ---- indexes, one by one
 
-pub each_fails : {A : Type 0} (check : A → Result Unit Fault) (items : List A) (i : ℕ) (x : A) (whole : Result Unit Fault) (e : ReadError) → each check (drop i items) ≡ whole → i < length items → x ≡ get_or items i x → FailsAs e (check x) → FailsAs e whole
+pub each_fails : {A : Type 0} (check : A → Result Unit Fault) (items : List A) (i : ℕ) (x : A) (whole : Result Unit Fault) (e : FileError) → each check (drop i items) ≡ whole → i < length items → x ≡ get_or items i x → FailsAs e (check x) → FailsAs e whole
 each_fails check items i x whole e left inside at fails =
     subst (FailsAs e) (sym (ap (each check) (at_index items i x inside at)) ∙ left) (fails_then e (check x) (λ _. each check (drop (i + 1) items)) fails)
 

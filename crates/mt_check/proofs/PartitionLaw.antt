@@ -7,9 +7,9 @@ use Rattle.std.proofs.lemmas.Bool.{cases_Bool}
 use Rattle.std.proofs.lemmas.List.{append-nil}
 use Rattle.std.proofs.lemmas.List.Elements.{All-nil, All-cons, All-head, All-tail, All-weaker}
 use Rattle.std.proofs.lemmas.Slice.Eq.{bytes_eq-Decides}
-use Rattle.mt_shelf.specs.declared.file.FileBytes.{FileBytes}
-use Rattle.mt_shelf.specs.declared.fault.Fault.{Fault}
-use Rattle.mt_shelf.specs.declared.fault.Why.TheVariants.{Partition, Value}
+use Rattle.mt_fault.specs.declared.file.FileBytes.{FileBytes}
+use Rattle.mt_fault.specs.declared.fault.Fault.{Fault}
+use Rattle.mt_fault.specs.declared.fault.Why.TheVariants.{Partition, Value}
 use Rattle.mt_types.specs.Steps.{◌>>=◌, require}
 use Rattle.mt_types.proofs.StepLemmas.{ok_then, required, then_of, passed}
 use Rattle.mt_table.specs.declared.definition.Table.{Table}
@@ -22,7 +22,8 @@ use Rattle.mt_defs.specs.Partition.{HasPartition, HaveOnePartition, partition_by
 use Rattle.mt_defs.specs.WrittenColumns.{file}
 use Rattle.mt_defs.specs.WrittenPartition.{minmax_file, partition_files}
 use Rattle.mt_definition.specs.declared.accepted.Accepted.{Accepted}
-use Rattle.mt_granules.specs.FileFaults.{file_fault, file_reading, granule_fault}
+use Rattle.mt_fault.specs.Faults.{file_fault, granule_fault}
+use Rattle.mt_granules.specs.FileFaults.{file_reading}
 use Rattle.mt_files.specs.Faults.{none_found}
 use Rattle.mt_check.specs.PartitionReading.{files_reading, first_value, is_other, other_partition, partition_reading}
 use Rattle.mt_definition.specs.RowsReading.{granule_of}

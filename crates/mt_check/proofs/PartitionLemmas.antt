@@ -5,10 +5,10 @@ use Rattle.std.specs.Str.{bytes_eq}
 use Rattle.std.proofs.lemmas.List.{append-nil}
 use Rattle.std.proofs.lemmas.Bool.{cases_Bool}
 use Rattle.std.proofs.lemmas.Slice.Eq.{bytes_eq-Decides}
-use Rattle.mt_shelf.specs.declared.file.FileBytes.{FileBytes}
-use Rattle.mt_shelf.specs.declared.fault.Fault.{Fault}
-use Rattle.mt_shelf.specs.declared.fault.ReadError.{ReadError}
-use Rattle.mt_shelf.specs.declared.fault.Why.TheVariants.{Partition, Value}
+use Rattle.mt_fault.specs.declared.file.FileBytes.{FileBytes}
+use Rattle.mt_fault.specs.declared.fault.Fault.{Fault}
+use Rattle.mt_fault.specs.declared.error.FileError.{FileError}
+use Rattle.mt_fault.specs.declared.fault.Why.TheVariants.{Partition, Value}
 use Rattle.mt_types.specs.Steps.{◌>>=◌, require}
 use Rattle.mt_types.proofs.StepLemmas.{then_of, passed, failed}
 use Rattle.mt_table.specs.declared.definition.Table.{Table}
@@ -18,12 +18,14 @@ use Rattle.mt_defs.specs.Rows.{Row}
 use Rattle.mt_defs.specs.Partition.{partition_bytes, partition_name}
 use Rattle.mt_defs.specs.WrittenPartition.{partition_files}
 use Rattle.mt_definition.specs.declared.accepted.Accepted.{Accepted}
-use Rattle.mt_granules.specs.FileFaults.{file_fault, file_reading, granule_fault}
+use Rattle.mt_fault.specs.Faults.{file_fault, granule_fault}
+use Rattle.mt_granules.specs.FileFaults.{file_reading}
 use Rattle.mt_files.specs.Faults.{none_found}
 use Rattle.mt_check.specs.PartitionReading.{files_reading, first_value, is_other, other_partition, partition_reading}
-use Rattle.mt_files.specs.Results.{Gives, FailsAs, IsFault}
+use Rattle.mt_fault.specs.Results.{Gives, FailsAs}
+use Rattle.mt_fault.specs.Results.{IsFault}
 use Rattle.mt_definition.specs.RowsReading.{first_index, granule_of}
-use Rattle.mt_files.proofs.FaultLemmas.{fails_then, fault_gives}
+use Rattle.mt_fault.proofs.FaultLemmas.{fails_then, fault_gives}
 use Rattle.mt_files.proofs.LoopLemmas.{at_index, at_end, nonempty}
 use Rattle.mt_definition.proofs.RowLemmas.{later_by, index_here, index_step}
 
@@ -40,13 +42,13 @@ files_at : (folder : Folder) (written : List FileBytes) (i : ℕ) (file : FileBy
     → (file_reading folder file.name >>= same_bytes folder file (drop (i + 1) written)) ≡ whole
 files_at folder written i file whole ahead inside at = sym (ap (files_reading folder) (at_index written i file inside at) ∙ files_next folder file (drop (i + 1) written)) ∙ ahead
 
-pub files_fail : (folder : Folder) (written : List FileBytes) (i : ℕ) (file : FileBytes) (whole : Result Unit Fault) (name : List ℕ) (e : ReadError) → files_reading folder (drop i written) ≡ whole → i < length written → file ≡ get_or written i file
+pub files_fail : (folder : Folder) (written : List FileBytes) (i : ℕ) (file : FileBytes) (whole : Result Unit Fault) (name : List ℕ) (e : FileError) → files_reading folder (drop i written) ≡ whole → i < length written → file ≡ get_or written i file
     → name ≡ file.name → FailsAs e (file_reading folder name) → FailsAs e whole
 files_fail folder written i file whole name e ahead inside at named fails =
     subst (FailsAs e) (files_at folder written i file whole ahead inside at)
     (fails_then e (file_reading folder file.name) (same_bytes folder file (drop (i + 1) written)) (subst (λ (n : List ℕ). FailsAs e (file_reading folder n)) named fails))
 
-pub files_differ : (folder : Folder) (written : List FileBytes) (i : ℕ) (file : FileBytes) (whole : Result Unit Fault) (name other bytes : List ℕ) (e : ReadError) → files_reading folder (drop i written) ≡ whole → i < length written → file ≡ get_or written i file
+pub files_differ : (folder : Folder) (written : List FileBytes) (i : ℕ) (file : FileBytes) (whole : Result Unit Fault) (name other bytes : List ℕ) (e : FileError) → files_reading folder (drop i written) ≡ whole → i < length written → file ≡ get_or written i file
     → name ≡ file.name → file_reading folder name ≡ Ok bytes → bytes_eq bytes file.bytes ≡ false → other ≡ file.name → IsFault (file_fault other Value) e → FailsAs e whole
 files_differ folder written i file whole name other bytes e ahead inside at named is differ again fault =
     fault_gives (file_fault file.name Value) e whole (subst (λ (n : List ℕ). IsFault (file_fault n Value) e) again fault)
@@ -110,11 +112,11 @@ unfolding partition_reading
 partition_is table folder accepted some =
     ap (λ (b : Bool). if b then (let r : Result Unit Fault = Ok tt in r) else (file_reading folder partition_name >>= λ _. rest table folder accepted)) (nonempty table.partition some)
 
-pub partition_missing : (table : Table) (folder : Folder) (accepted : Accepted) (e : ReadError) → (table.partition ≡ [] → ⊥) → FailsAs e (file_reading folder partition_name) → FailsAs e (partition_reading table folder accepted)
+pub partition_missing : (table : Table) (folder : Folder) (accepted : Accepted) (e : FileError) → (table.partition ≡ [] → ⊥) → FailsAs e (file_reading folder partition_name) → FailsAs e (partition_reading table folder accepted)
 partition_missing table folder accepted e some fails =
     subst (FailsAs e) (sym (partition_is table folder accepted some)) (fails_then e (file_reading folder partition_name) (λ _. rest table folder accepted) fails)
 
-pub partition_other : (table : Table) (folder : Folder) (accepted : Accepted) (bytes : List ℕ) (row granule : ℕ) (e : ReadError) → (table.partition ≡ [] → ⊥) → file_reading folder partition_name ≡ Ok bytes
+pub partition_other : (table : Table) (folder : Folder) (accepted : Accepted) (bytes : List ℕ) (row granule : ℕ) (e : FileError) → (table.partition ≡ [] → ⊥) → file_reading folder partition_name ≡ Ok bytes
     → Some row ≡ other_partition table accepted.rows → granule ≡ granule_of accepted.granules row → IsFault (granule_fault partition_name granule Partition) e → FailsAs e (partition_reading table folder accepted)
 partition_other table folder accepted bytes row granule e some is found at fault =
     fault_gives (granule_fault partition_name granule Partition) e (partition_reading table folder accepted) fault
@@ -122,7 +124,7 @@ partition_other table folder accepted bytes row granule e some is found at fault
     ∙ ap (λ (o : Option ℕ). none_found o (λ row. granule_fault partition_name (granule_of accepted.granules row) Partition) >>= λ _. files_reading folder (partition_files table accepted.rows)) (sym found)
     ∙ ap (λ g. Err (granule_fault partition_name g Partition)) (sym at))
 
-pub partition_rest : (table : Table) (folder : Folder) (accepted : Accepted) (bytes : List ℕ) (written : List FileBytes) (r : Result Unit ReadError) → (table.partition ≡ [] → ⊥) → file_reading folder partition_name ≡ Ok bytes
+pub partition_rest : (table : Table) (folder : Folder) (accepted : Accepted) (bytes : List ℕ) (written : List FileBytes) (r : Result Unit FileError) → (table.partition ≡ [] → ⊥) → file_reading folder partition_name ≡ Ok bytes
     → None ≡ other_partition table accepted.rows → written ≡ partition_files table accepted.rows → Gives r (files_reading folder written) → Gives r (partition_reading table folder accepted)
 partition_rest table folder accepted bytes written r some is none are gives =
     let whole : files_reading folder written ≡ partition_reading table folder accepted =

@@ -6,10 +6,12 @@ use Rattle.std.proofs.lemmas.List.Elements.{All-head, All-tail, filter_map-appen
 use Rattle.std.proofs.lemmas.List.{map-append, take_more}
 use Rattle.mt_shelf.specs.Files.{Files, entries_below}
 use Rattle.mt_shelf.specs.declared.file.Entry.{Entry}
-use Rattle.mt_files.specs.Listings.{listed_folder, is_known}
-use Rattle.mt_files.proofs.KnownLemmas.{layout_listed}
-use Rattle.mt_shelf.specs.declared.file.FileBytes.{FileBytes}
-use Rattle.mt_table.specs.declared.definition.PartDef.{PartDef}
+use Rattle.mt_files.specs.Listings.{has_below, listed_folder}
+use Rattle.mt_files.specs.PartTexts.{order_reading}
+use Rattle.mt_files.proofs.ListingLemmas.{layout_listed}
+use Rattle.mt_strays.specs.Strays.{is_known}
+use Rattle.mt_fault.specs.declared.file.FileBytes.{FileBytes}
+use Rattle.mt_table.specs.declared.column.Column.{Column}
 use Rattle.mt_table.specs.declared.definition.Table.{Table}
 use Rattle.mt_table.specs.declared.projection.Projection.{Projection}
 use Rattle.mt_defs.specs.Compact.{compact_marks_name}
@@ -18,15 +20,17 @@ use Rattle.mt_defs.specs.Part.{is_compact}
 use Rattle.mt_defs.specs.Projections.{base_of, inner_of, projection_prefix}
 use Rattle.mt_definition.specs.declared.accepted.Accepted.{Accepted}
 use Rattle.mt_types.specs.Steps.{◌>>=◌}
-use Rattle.mt_shelf.specs.declared.fault.Fault.{Fault}
+use Rattle.mt_fault.specs.declared.fault.Fault.{Fault}
 use Rattle.mt_files.specs.Definitions.{IsDefinition}
-use Rattle.mt_check.specs.FolderChecks.{files_checks, projection_checks, projection_folders, projections_checks}
+use Rattle.mt_check.specs.FolderChecks.{projection_checks, files_checks, stored_checks, projection_folder_in, projection_folders, projection_is_there, projections_checks}
 use Rattle.mt_files.specs.OwnNames as own
 use Rattle.mt_files.specs.OwnNames.{base_names, own_names, skip_names_in}
 use Rattle.mt_check.specs.PartFiles.{base_files, inner_files, part_files, projection_files}
 use Rattle.mt_files.specs.NamedFiles.{file_names, files_named, part_folder}
 use Rattle.mt_definition.proofs.AgreeLemmas.{AgreeAt}
+use Rattle.mt_definition.proofs.AgreeOnData.{order_same}
 use Rattle.mt_check.proofs.AgreeOnChecks.{part_same, projection_same}
+use Rattle.mt_check.proofs.FolderLemmas.{as_folders}
 use Rattle.mt_files.proofs.FileLemmas.{name_is, same_name}
 use Rattle.mt_files.proofs.TableLemmas.{base_checked, projections_checked}
 
@@ -72,15 +76,15 @@ agrees folder names = each_name (λ name. folder_of (files_named folder names) n
 
 -- ---- its layout
 
-has_marks : (definition : PartDef) (more : List (List ℕ)) (f g : Folder) (compact : Bool) → compact ≡ true → AgreeAt f g (own_names definition compact ++ more) → f compact_marks_name ≡ g compact_marks_name
-has_marks definition more f g true is all = all.1.1.1.1.0
-has_marks definition more f g false is all = cc
+has_marks : (columns : List Column) (more : List (List ℕ)) (f g : Folder) (compact : Bool) → compact ≡ true → AgreeAt f g (own_names columns compact ++ more) → f compact_marks_name ≡ g compact_marks_name
+has_marks columns more f g true is all = all.1.1.1.1.0
+has_marks columns more f g false is all = cc
 
-same_marks : (definition : PartDef) (more : List (List ℕ)) (folder : Folder) → folder_of (files_named folder (own_names definition (is_compact folder) ++ more)) compact_marks_name ≡ folder compact_marks_name
-same_marks definition more folder = by_marks (folder compact_marks_name) refl
+same_marks : (columns : List Column) (more : List (List ℕ)) (folder : Folder) → folder_of (files_named folder (own_names columns (is_compact folder) ++ more)) compact_marks_name ≡ folder compact_marks_name
+same_marks columns more folder = by_marks (folder compact_marks_name) refl
   where
     names : List (List ℕ)
-    names = own_names definition (is_compact folder) ++ more
+    names = own_names columns (is_compact folder) ++ more
 
     nothing : (b : Bool) (o : Option (List ℕ)) → o ≡ None → (if b then o else None) ≡ o
     nothing true o is = refl
@@ -88,10 +92,10 @@ same_marks definition more folder = by_marks (folder compact_marks_name) refl
 
     by_marks : (o : Option (List ℕ)) → folder compact_marks_name ≡ o → folder_of (files_named folder names) compact_marks_name ≡ folder compact_marks_name
     by_marks None is = only_named folder names compact_marks_name ∙ nothing (is_known names compact_marks_name) (folder compact_marks_name) is
-    by_marks (Some bytes) is = has_marks definition more (folder_of (files_named folder names)) folder (is_compact folder) (ap is_some is) (agrees folder names)
+    by_marks (Some bytes) is = has_marks columns more (folder_of (files_named folder names)) folder (is_compact folder) (ap is_some is) (agrees folder names)
 
-same_layout : (definition : PartDef) (more : List (List ℕ)) (folder : Folder) → is_compact (folder_of (files_named folder (own_names definition (is_compact folder) ++ more))) ≡ is_compact folder
-same_layout definition more folder = ap is_some (same_marks definition more folder)
+same_layout : (columns : List Column) (more : List (List ℕ)) (folder : Folder) → is_compact (folder_of (files_named folder (own_names columns (is_compact folder) ++ more))) ≡ is_compact folder
+same_layout columns more folder = ap is_some (same_marks columns more folder)
 
 -- ---- projections
 
@@ -101,37 +105,54 @@ no_more (name ∷ names) = ap (λ (ns : List (List ℕ)). name ∷ ns) (no_more 
 
 pub inner_layout : (table : Table) (projection : Projection) (folder : Folder) → is_compact (folder_of (inner_files table projection folder)) ≡ is_compact folder
 inner_layout table projection folder =
-    let own = own_names (inner_of table projection) (is_compact folder) in
-    ap (λ names. is_compact (folder_of (files_named folder names))) (sym (no_more own)) ∙ same_layout (inner_of table projection) [] folder
+    let own = own_names (inner_of table projection).columns (is_compact folder) in
+    ap (λ names. is_compact (folder_of (files_named folder names))) (sym (no_more own)) ∙ same_layout (inner_of table projection).columns [] folder
 
 inner_same : (table : Table) (accepted : Accepted) (projection : Projection) (folder : Folder) → IsDefinition (inner_of table projection)
-    → projection_checks table accepted projection (folder_of (inner_files table projection folder)) ≡ projection_checks table accepted projection folder
+    → stored_checks table accepted projection (folder_of (inner_files table projection folder)) ≡ stored_checks table accepted projection folder
 inner_same table accepted projection folder is =
     let kind = inner_layout table projection folder in
     projection_same (folder_of (inner_files table projection folder)) folder table accepted projection is kind
-    (subst (λ b. AgreeAt (folder_of (inner_files table projection folder)) folder (own_names (inner_of table projection) b)) (sym kind) (agrees folder (own_names (inner_of table projection) (is_compact folder))))
+    (subst (λ b. AgreeAt (folder_of (inner_files table projection folder)) folder (own_names (inner_of table projection).columns b)) (sym kind) (agrees folder (own_names (inner_of table projection).columns (is_compact folder))))
 
-projections_same : (table : Table) (folder : Folder) (accepted : Accepted) (projections : List Projection) → All (λ projection. IsDefinition (inner_of table projection)) projections
-    → projections_checks table accepted (zip projections (map folder_of (map (projection_files table folder) projections))) ≡ projections_checks table accepted (zip projections (map (λ projection. folder_below folder (projection_prefix projection)) projections))
-projections_same table folder accepted [] are = refl
-projections_same table folder accepted (projection ∷ projections) are =
-    ap (λ (first : Result Unit Fault). first >>= λ _. projections_checks table accepted (zip projections (map folder_of (map (projection_files table folder) projections))))
-    (inner_same table accepted projection (folder_below folder (projection_prefix projection)) (All-head (λ projection. IsDefinition (inner_of table projection)) projection projections are))
-    ∙ ap (λ (later : Result Unit Fault). projection_checks table accepted projection (folder_below folder (projection_prefix projection)) >>= λ _. later)
-    (projections_same table folder accepted projections (All-tail (λ projection. IsDefinition (inner_of table projection)) projection projections are))
+-- one that is there is checked alike, and one that isn't not at all
+one_same : (table : Table) (folder : Folder) (names : List (List ℕ)) (accepted : Accepted) (projection : Projection) → IsDefinition (inner_of table projection)
+    → projection_checks table accepted projection (option_map folder_of (projection_files table folder names projection)) ≡ projection_checks table accepted projection (projection_folder_in folder names projection)
+one_same table folder names accepted projection is = by_test (projection_is_there names projection)
+  where
+    below : Folder
+    below = folder_below folder (projection_prefix projection)
+
+    by_test : (b : Bool) → projection_checks table accepted projection (option_map folder_of (if b then Some (inner_files table projection below) else None)) ≡ projection_checks table accepted projection (if b then Some below else None)
+    by_test true = inner_same table accepted projection below is
+    by_test false = refl
+
+projections_same : (table : Table) (folder : Folder) (names : List (List ℕ)) (accepted : Accepted) (projections : List Projection) → All (λ projection. IsDefinition (inner_of table projection)) projections
+    → projections_checks table accepted (zip projections (as_folders (map (projection_files table folder names) projections))) ≡ projections_checks table accepted (zip projections (map (projection_folder_in folder names) projections))
+projections_same table folder names accepted [] are = refl
+projections_same table folder names accepted (projection ∷ projections) are =
+    ap (λ (first : Result Unit Fault). first >>= λ _. projections_checks table accepted (zip projections (as_folders (map (projection_files table folder names) projections))))
+    (one_same table folder names accepted projection (All-head (λ projection. IsDefinition (inner_of table projection)) projection projections are))
+    ∙ ap (λ (later : Result Unit Fault). projection_checks table accepted projection (projection_folder_in folder names projection) >>= λ _. later)
+    (projections_same table folder names accepted projections (All-tail (λ projection. IsDefinition (inner_of table projection)) projection projections are))
 
 -- ---- the part
 
 pub base_layout : (table : Table) (folder : Folder) → is_compact (folder_of (base_files table folder)) ≡ is_compact folder
-base_layout table folder = same_layout (base_of table) (own.partition_files table ++ flat_map (skip_names_in (is_compact folder)) table.skips) folder
+base_layout table folder = same_layout table.columns (own.partition_files table ++ flat_map (skip_names_in (is_compact folder)) table.skips) folder
 
 -- the files that are read are checked like the part
-pub part_read : (table : Table) (folder : Folder) → files_checks table (folder_of (part_files table folder).base) (map folder_of (part_files table folder).projections) ≡ files_checks table folder (projection_folders table folder)
-part_read table folder =
+pub part_read : (table : Table) (folder : Folder) (names : List (List ℕ))
+    → files_checks table (folder_of (part_files table folder names).base) (as_folders (part_files table folder names).projections) ≡ files_checks table folder (projection_folders table folder names)
+part_read table folder names =
     let kind = base_layout table folder in
-    part_same (folder_of (base_files table folder)) folder table (map folder_of (part_files table folder).projections) (projection_folders table folder) (base_checked table) kind
+    part_same (folder_of (base_files table folder)) folder table (as_folders (part_files table folder names).projections) (projection_folders table folder names) (base_checked table) kind
     (subst (λ b. AgreeAt (folder_of (base_files table folder)) folder (base_names table b)) (sym kind) (agrees folder (base_names table (is_compact folder))))
-    (λ accepted. projections_same table folder accepted table.projections (projections_checked table))
+    (λ accepted. projections_same table folder names accepted table.projections (projections_checked table))
+
+-- and list the same columns
+pub order_read : (table : Table) (folder : Folder) → order_reading (base_of table) (folder_of (base_files table folder)) ≡ order_reading (base_of table) folder
+order_read table folder = order_same (base_of table) (folder_of (base_files table folder)) folder (agrees folder (base_names table (is_compact folder))).0
 
 -- ---- the files of a folder of a part, by the listing
 
@@ -153,19 +174,45 @@ folder_names prefix target own listing compact names kind are same read named =
     named ∙ ap (λ (ns : List (List ℕ)). file_names (files_named (folder_below (listed_folder listing) prefix) ns)) (are ∙ ap own kind)
     ∙ ap (λ (p : List ℕ). file_names (own_files own (folder_below (listed_folder listing) p))) same
 
+-- ---- a projection
+
+pub projection_read : (table : Table) (names : List (List ℕ)) (projection : Projection) (prefix : List ℕ) (folder : Folder) (read : List FileBytes) → prefix ≡ projection_prefix projection → has_below names prefix ≡ true
+    → read ≡ inner_files table projection (folder_below folder prefix) → Some read ≡ projection_files table folder names projection
+projection_read table names projection prefix folder read same there is =
+    ap (λ (fs : List FileBytes). let o : Option (List FileBytes) = Some fs in o) (is ∙ ap (λ (p : List ℕ). inner_files table projection (folder_below folder p)) same)
+    ∙ ap (λ b. if b then Some (inner_files table projection (folder_below folder (projection_prefix projection))) else None) (sym there ∙ ap (has_below names) same)
+
+pub projection_lacking : (table : Table) (names : List (List ℕ)) (projection : Projection) (prefix : List ℕ) (folder : Folder) → prefix ≡ projection_prefix projection → has_below names prefix ≡ false
+    → None ≡ projection_files table folder names projection
+projection_lacking table names projection prefix folder same absent =
+    ap (λ b. if b then Some (inner_files table projection (folder_below folder (projection_prefix projection))) else None) (sym absent ∙ ap (has_below names) same)
+
+pub lacking_known : (table : Table) (part : List ℕ) (names : List (List ℕ)) (projection : Projection) (prefix : List ℕ) (stored : Option Files) → prefix ≡ projection_prefix projection → has_below names prefix ≡ false
+    → IfSome stored (λ files. None ≡ projection_files table (part_folder part files) names projection)
+lacking_known table part names projection prefix None same absent = tt
+lacking_known table part names projection prefix (Some files) same absent = projection_lacking table names projection prefix (part_folder part files) same absent
+
+pub read_known : (table : Table) (part : List ℕ) (names : List (List ℕ)) (projection : Projection) (prefix : List ℕ) (read : List FileBytes) (stored : Option Files) → prefix ≡ projection_prefix projection → has_below names prefix ≡ true
+    → IfSome stored (λ files. read ≡ inner_files table projection (folder_below (part_folder part files) prefix)) → IfSome stored (λ files. Some read ≡ projection_files table (part_folder part files) names projection)
+read_known table part names projection prefix read None same there known = tt
+read_known table part names projection prefix read (Some files) same there known = projection_read table names projection prefix (part_folder part files) read same there known
+
 -- ---- one projection more
 
-pub inner_push : (F : Files → Projection → List FileBytes) (stored : Option Files) (projections : List Projection) (i : ℕ) (d : Projection) (done new : List (List FileBytes)) (read : List FileBytes) → i < length projections
+pub inner_push : {X : Type 0} (F : Files → Projection → X) (stored : Option Files) (projections : List Projection) (i : ℕ) (d : Projection) (done new : List X) (read : X) → i < length projections
     → IfSome stored (λ s. done ≡ map (F s) (take i projections)) → IfSome stored (λ s. read ≡ F s (get_or projections i d)) → new ≡ done ++ read ∷ [] → IfSome stored (λ s. new ≡ map (F s) (take (i + 1) projections))
 inner_push F None projections i d done new read inside before here more = tt
-inner_push F (Some s) projections i d done new read inside before here more =
-    more ∙ ap (λ (fs : List (List FileBytes)). fs ++ read ∷ []) before ∙ ap (λ (r : List FileBytes). map (F s) (take i projections) ++ r ∷ []) here
+inner_push {X} F (Some s) projections i d done new read inside before here more =
+    more ∙ ap (λ (fs : List X). fs ++ read ∷ []) before ∙ ap (λ (r : X). map (F s) (take i projections) ++ r ∷ []) here
     ∙ sym (ap (map (F s)) (take_more projections i d inside) ∙ map-append (F s) (take i projections) (get_or projections i d ∷ []))
 
-pub inner_names : (G : Projection → List FileBytes) (projections : List Projection) (i : ℕ) (d : Projection) (done new : List (List FileBytes)) (read : List FileBytes) → i < length projections
-    → map file_names done ≡ map file_names (map G (take i projections)) → file_names read ≡ file_names (G (get_or projections i d)) → new ≡ done ++ read ∷ [] → map file_names new ≡ map file_names (map G (take (i + 1) projections))
+abbrev names_in : Option (List FileBytes) → Option (List (List ℕ))
+names_in files = option_map file_names files
+
+pub inner_names : (G : Projection → Option (List FileBytes)) (projections : List Projection) (i : ℕ) (d : Projection) (done new : List (Option (List FileBytes))) (read : Option (List FileBytes)) → i < length projections
+    → map names_in done ≡ map names_in (map G (take i projections)) → names_in read ≡ names_in (G (get_or projections i d)) → new ≡ done ++ read ∷ [] → map names_in new ≡ map names_in (map G (take (i + 1) projections))
 inner_names G projections i d done new read inside before here more =
-    ap (map file_names) more ∙ map-append file_names done (read ∷ [])
-    ∙ ap (λ (names : List (List (List ℕ))). names ++ file_names read ∷ []) before ∙ ap (λ (names : List (List ℕ)). map file_names (map G (take i projections)) ++ names ∷ []) here
-    ∙ sym (map-append file_names (map G (take i projections)) (G (get_or projections i d) ∷ []))
-    ∙ sym (ap (λ (ps : List Projection). map file_names (map G ps)) (take_more projections i d inside) ∙ ap (map file_names) (map-append G (take i projections) (get_or projections i d ∷ [])))
+    ap (map names_in) more ∙ map-append names_in done (read ∷ [])
+    ∙ ap (λ (names : List (Option (List (List ℕ)))). names ++ names_in read ∷ []) before ∙ ap (λ (names : Option (List (List ℕ))). map names_in (map G (take i projections)) ++ names ∷ []) here
+    ∙ sym (map-append names_in (map G (take i projections)) (G (get_or projections i d) ∷ []))
+    ∙ sym (ap (λ (ps : List Projection). map names_in (map G ps)) (take_more projections i d inside) ∙ ap (map names_in) (map-append G (take i projections) (get_or projections i d ∷ [])))

@@ -2,9 +2,9 @@
 use Rattle.std.specs.Prelude.{ℕ, not, ◌==◌, Bool, if◌then◌else◌, List, [], ◌∷◌, length, take, Option, Result, Ok}
 use Rattle.std.specs.List.{flat_map}
 use Rattle.std.specs.Str.{bytes_eq}
-use Rattle.mt_shelf.specs.declared.file.FileBytes.{FileBytes}
-use Rattle.mt_shelf.specs.declared.fault.Fault.{Fault}
-use Rattle.mt_shelf.specs.declared.fault.Why.TheVariants.{Partition, Value}
+use Rattle.mt_fault.specs.declared.file.FileBytes.{FileBytes}
+use Rattle.mt_fault.specs.declared.fault.Fault.{Fault}
+use Rattle.mt_fault.specs.declared.fault.Why.TheVariants.{Partition, Value}
 use Rattle.mt_types.specs.Steps.{◌>>=◌, require}
 use Rattle.mt_table.specs.declared.definition.Table.{Table}
 use Rattle.mt_defs.specs.Folder.{Folder}
@@ -12,7 +12,8 @@ use Rattle.mt_defs.specs.Rows.{Row}
 use Rattle.mt_defs.specs.Partition.{partition_name, partition_bytes}
 use Rattle.mt_defs.specs.WrittenPartition.{partition_files}
 use Rattle.mt_definition.specs.declared.accepted.Accepted.{Accepted}
-use Rattle.mt_granules.specs.FileFaults.{file_fault, file_reading, granule_fault}
+use Rattle.mt_fault.specs.Faults.{file_fault, granule_fault}
+use Rattle.mt_granules.specs.FileFaults.{file_reading}
 use Rattle.mt_files.specs.Faults.{none_found}
 use Rattle.mt_definition.specs.RowsReading.{first_index, granule_of}
 

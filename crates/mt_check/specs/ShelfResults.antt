@@ -1,8 +1,8 @@
 -- What the check of a part on a shelf returns.
 use Rattle.std.specs.Prelude.{◌≡◌, Result, Ok, Err}
-use Rattle.mt_shelf.specs.declared.fault.Fault.{Fault}
-use Rattle.mt_shelf.specs.declared.fault.ReadError.{ReadError}
-use Rattle.mt_shelf.specs.declared.fault.ReadError.TheVariants.{AtFault, Shelf, NoMemory}
+use Rattle.mt_fault.specs.declared.fault.Fault.{Fault}
+use Rattle.mt_shelf.specs.declared.error.ReadError.{ReadError}
+use Rattle.mt_shelf.specs.declared.error.ReadError.TheVariants.{AtFault, Shelf, NoMemory}
 
 -- what was returned is what was read, unless the shelf failed or memory ran out
 abbrev pub GivesFrom : {A : Type 0} → Result A ReadError → Result A Fault → Type 0

@@ -5,17 +5,16 @@ ghost use Rattle.mt_defs.specs.Folder.{folder_of};
 ghost use Rattle.mt_defs.specs.Rows.{RowFits};
 ghost use Rattle.mt_meta.specs.PartitionKeys.{ArePartitionKeys};
 ghost use Rattle.mt_check.specs.PartitionReading.{files_reading, other_partition, partition_reading};
-ghost use Rattle.mt_files.specs.Results.{Gives};
+ghost use Rattle.mt_fault.specs.Results.{Gives};
 
 use mt_definition::{Accepted, granule_of};
-use mt_files::{bytes_of, fault_in, fault_of};
+use mt_fault::{FileBytes, FileError, Why, file_fault, granule_fault};
+use mt_files::bytes_of;
 use mt_meta::{partition_files, same_partition};
-use mt_shelf::{FileBytes, ReadError, Why};
+use mt_names::PARTITION_FILE;
 use mt_table::Table;
 use mt_types::Row;
 use std::alloc::Global;
-
-const PARTITION_FILE: &[u8] = b"partition.dat";
 
 /// That the rows have one partition value, and that the partition's files are theirs.
 pub(crate) fn check_partition(
@@ -23,7 +22,7 @@ pub(crate) fn check_partition(
     table: &Table,
     files: &[FileBytes],
     accepted: &Accepted,
-) -> Result<(), ReadError>
+) -> Result<(), FileError>
     requires key { ArePartitionKeys table.now.columns table.now.partition }
     requires some { accepted.now.rows ≢ [] }
     requires fit { All (RowFits table.now.columns) accepted.now.rows }
@@ -36,11 +35,11 @@ pub(crate) fn check_partition(
     let rows = accepted.rows.as_slice();
     if let Some(row) = other_partition(table, rows) {
         let granule = granule_of(accepted.granules.as_slice(), row);
-        return Err(fault_in(alloc, PARTITION_FILE, granule, Why::Partition));
+        return Err(granule_fault(alloc, PARTITION_FILE, granule, Why::Partition));
     }
     match partition_files(alloc, table, rows) {
         Ok(written) => check_files(alloc, files, written.as_slice()),
-        Err(_) => Err(ReadError::NoMemory),
+        Err(_) => Err(FileError::NoMemory),
     }
 }
 
@@ -60,13 +59,13 @@ fn other_partition(table: &Table, rows: &[Row]) -> Option<usize>
 }
 
 /// That the folder has these files, byte by byte.
-fn check_files(alloc: Global, files: &[FileBytes], written: &[FileBytes]) -> Result<(), ReadError>
+fn check_files(alloc: Global, files: &[FileBytes], written: &[FileBytes]) -> Result<(), FileError>
     ensures { Gives result (files_reading (folder_of files.now) written.now) }
 {
     for file in written {
         let bytes = bytes_of(alloc, files, file.name.as_slice())?;
         if bytes != file.bytes.as_slice() {
-            return Err(fault_of(alloc, file.name.as_slice(), Why::Value));
+            return Err(file_fault(alloc, file.name.as_slice(), Why::Value));
         }
     }
     Ok(())

@@ -12,27 +12,29 @@ ghost use Rattle.mt_defs.specs.SkipIndexes.{summarizes, skip_data_name};
 ghost use Rattle.mt_item.specs.ItemTypes.{has_items};
 ghost use Rattle.mt_skip.specs.Items.{AllFit};
 ghost use Rattle.mt_files.specs.Definitions.{HasSkips, IsSkip};
-ghost use Rattle.mt_check.specs.FolderChecks.{each, entries_checks, skip_checks};
-ghost use Rattle.mt_granules.specs.FileFaults.{granule_fault};
-ghost use Rattle.mt_files.specs.Results.{Gives, IsFault};
+ghost use Rattle.mt_check.specs.FolderChecks.{each, entries_checks, index_checks, skip_checks};
+ghost use Rattle.mt_fault.specs.Faults.{granule_fault};
+ghost use Rattle.mt_fault.specs.Results.{Gives};
+ghost use Rattle.mt_fault.specs.Results.{IsFault};
 ghost use Rattle.mt_check.specs.RowGroups.{group_sizes};
 ghost use Rattle.mt_files.specs.SkipMarks.{IsFirstEntry, pieces_at};
 
 use mt_definition::Accepted;
-use mt_files::{SkipEntries, data_name, fault_in, is_compact, read_entries};
-use mt_shelf::{FileBytes, ReadError, Why};
+use mt_fault::{FileBytes, FileError, Why, granule_fault};
+use mt_files::{SkipEntries, has_files, is_compact, read_entries};
+use mt_names::skip_data_name;
 use mt_skip::agrees;
 use mt_table::{Skip, Table};
 use mt_types::{List, NoMemory, Row, Ty, Value};
 use std::alloc::Global;
 
-/// That the files of each skip index are those of the rows.
+/// That the files of each skip index that is there are those of the rows.
 pub(crate) fn check_skips(
     alloc: Global,
     table: &Table,
     files: &[FileBytes],
     accepted: &Accepted,
-) -> Result<(), ReadError>
+) -> Result<(), FileError>
     requires skips { HasSkips table.now }
     requires few { length accepted.now.rows ≤ MAX_ROWS }
     requires fit { All (RowFits table.now.columns) accepted.now.rows }
@@ -46,7 +48,8 @@ pub(crate) fn check_skips(
     Ok(())
 }
 
-/// That the files of a skip index are those of the rows.
+/// That the files of a skip index are those of the rows, if it is there.
+#[tactic(auto, using(crate::proofs::SkipLemmas::index_there, crate::proofs::SkipLemmas::index_absent))]
 fn check_skip(
     alloc: Global,
     table: &Table,
@@ -54,7 +57,7 @@ fn check_skip(
     compact: bool,
     accepted: &Accepted,
     skip: &Skip,
-) -> Result<(), ReadError>
+) -> Result<(), FileError>
     requires layout { compact ≡ is_compact (folder_of files.now) }
     requires skip { IsSkip table.now.columns skip.now }
     requires few { length accepted.now.rows ≤ MAX_ROWS }
@@ -62,8 +65,31 @@ fn check_skip(
     requires cut { AreGranules accepted.now.granules accepted.now.rows }
     ensures { Gives result (skip_checks table.now (folder_of files.now) accepted.now skip.now) }
 {
+    match has_files(alloc, files, compact, skip) {
+        Ok(true) => check_index(alloc, table, files, compact, accepted, skip),
+        Ok(false) => Ok(()),
+        Err(_) => Err(FileError::NoMemory),
+    }
+}
+
+/// That the files of a skip index are those of the rows.
+fn check_index(
+    alloc: Global,
+    table: &Table,
+    files: &[FileBytes],
+    compact: bool,
+    accepted: &Accepted,
+    skip: &Skip,
+) -> Result<(), FileError>
+    requires layout { compact ≡ is_compact (folder_of files.now) }
+    requires skip { IsSkip table.now.columns skip.now }
+    requires few { length accepted.now.rows ≤ MAX_ROWS }
+    requires fit { All (RowFits table.now.columns) accepted.now.rows }
+    requires cut { AreGranules accepted.now.granules accepted.now.rows }
+    ensures { Gives result (index_checks table.now (folder_of files.now) accepted.now skip.now) }
+{
     let Ok(sizes) = group_sizes(alloc, skip.granularity, accepted.granules.as_slice()) else {
-        return Err(ReadError::NoMemory);
+        return Err(FileError::NoMemory);
     };
     let entries = read_entries(alloc, files, compact, skip, sizes.len())?;
     let ty = &table.columns.as_slice()[skip.column as usize].ty;
@@ -109,7 +135,7 @@ fn check_entries(
     sizes: &[u64],
     rows: &[Row],
     entries: &SkipEntries,
-) -> Result<(), ReadError>
+) -> Result<(), FileError>
     requires items { IsTrue (has_items ty.now) }
     requires fit { AllFit ty.now (column_values skip.now.column rows.now) }
     requires cut { sum sizes.now ≡ length rows.now }
@@ -127,7 +153,7 @@ fn check_entries(
         match is_entry_of(alloc, skip, ty, group, entry) {
             Ok(true) => {}
             Ok(false) => return Err(value_fault(alloc, skip, index as u64 * skip.granularity)),
-            Err(_) => return Err(ReadError::NoMemory),
+            Err(_) => return Err(FileError::NoMemory),
         }
         rest = after;
         ahead = later;
@@ -136,12 +162,12 @@ fn check_entries(
 }
 
 /// The fault of an entry, whose first granule this is.
-fn value_fault(alloc: Global, skip: &Skip, granule: u64) -> ReadError
+fn value_fault(alloc: Global, skip: &Skip, granule: u64) -> FileError
     ensures { IsFault (granule_fault (skip_data_name skip.now) granule Why.Value) result }
 {
-    match data_name(alloc, skip) {
-        Ok(file) => fault_in(alloc, file.as_slice(), granule, Why::Value),
-        Err(_) => ReadError::NoMemory,
+    match skip_data_name(alloc, skip) {
+        Ok(file) => granule_fault(alloc, file.as_slice(), granule, Why::Value),
+        Err(_) => FileError::NoMemory,
     }
 }
 

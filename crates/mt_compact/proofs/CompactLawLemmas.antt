@@ -11,7 +11,7 @@ use Rattle.mt_types.specs.declared.value.Value.TheVariants.{Null}
 use Rattle.mt_types.specs.Fits.{fits_of}
 use Rattle.mt_types.specs.Profile.{is_profile}
 use Rattle.mt_types.proofs.StepLemmas.{ok_pair, ok_one, ok_then, passed, required, then_of}
-use Rattle.mt_shelf.specs.declared.fault.Why.TheVariants as why
+use Rattle.mt_fault.specs.declared.fault.Why.TheVariants as why
 use Rattle.mt_table.specs.Rows.{Pointwise, RowFits}
 use Rattle.mt_table.specs.declared.column.Column.{Column}
 use Rattle.mt_table.specs.declared.limits.TheConstants.{MAX_COLUMNS, MAX_ROWS}
@@ -26,7 +26,8 @@ use Rattle.mt_codec.specs.ColumnReading.{front_reading, is_empty}
 use Rattle.mt_codec.proofs.TypeLemmas.{encoded_front, front_encodes}
 use Rattle.mt_item.proofs.ExactLemmas.{small_of}
 use Rattle.mt_granules.specs.ColumnRows.{all_values, row_at, rows_of}
-use Rattle.mt_granules.specs.FileFaults.{Judged, blame, file_fault, granule_fault, in_order}
+use Rattle.mt_fault.specs.Faults.{Judged, blame, file_fault, granule_fault}
+use Rattle.mt_granules.specs.FileFaults.{in_order}
 use Rattle.mt_granules.specs.PayloadReading.{GranulePayloads, granules_reading, payloads_reading}
 use Rattle.mt_granules.proofs.CutLemmas.{AreRuns, flat, length-flat}
 use Rattle.mt_granules.proofs.GranuleLemmas.{length-granule_rows}
@@ -35,7 +36,7 @@ use Rattle.mt_granules.proofs.OrderLemmas.{order_all, order_each}
 use Rattle.mt_granules.proofs.PayloadsHeldLemmas.{AreHeld, HoldsPayloads, payloads_held}
 use Rattle.mt_granules.proofs.PayloadsReadLemmas.{payloads_read}
 use Rattle.mt_granules.proofs.RowLemmas.{length-all_values, length-rows_of, sum-cons}
-use Rattle.mt_granules.proofs.StepLemmas.{blame_ok}
+use Rattle.mt_fault.proofs.FaultLemmas.{blame_ok}
 use Rattle.mt_compact.specs.CompactReading.{column_reading, compact_reading, granule_reading, payload_reading, rows_reading, value_fault}
 use Rattle.mt_compact.specs.HeldRows.{HoldsRows}
 

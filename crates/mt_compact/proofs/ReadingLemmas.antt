@@ -10,7 +10,8 @@ use Rattle.mt_table.specs.declared.column.Column.{Column}
 use Rattle.mt_defs.specs.Folder.{Folder}
 use Rattle.mt_defs.specs.Rows.{Row}
 use Rattle.mt_defs.specs.Compact.{compact_data_name, compact_marks_name}
-use Rattle.mt_granules.specs.FileFaults.{Judged, in_order}
+use Rattle.mt_fault.specs.Faults.{Judged}
+use Rattle.mt_granules.specs.FileFaults.{in_order}
 use Rattle.mt_granules.specs.PayloadReading.{GranulePayloads, granules_reading}
 use Rattle.mt_granules.specs.ColumnRows.{all_values, rows_of, with_column}
 use Rattle.mt_granules.proofs.OrderLemmas.{numbered_continues, numbered_ends, order_next}

@@ -6,13 +6,14 @@ use Rattle.mt_types.specs.declared.value.Value.{Value}
 use Rattle.mt_types.specs.Steps.{◌>>=◌, require}
 use Rattle.mt_table.specs.declared.column.Column.{Column}
 use Rattle.mt_item.specs.declared.fault.CodecWhy.{CodecWhy}
-use Rattle.mt_shelf.specs.declared.fault.Fault.{Fault}
-use Rattle.mt_shelf.specs.declared.fault.Why.TheVariants as why
+use Rattle.mt_fault.specs.declared.fault.Fault.{Fault}
+use Rattle.mt_fault.specs.declared.fault.Why.TheVariants as why
 use Rattle.mt_defs.specs.Folder.{Folder}
 use Rattle.mt_defs.specs.Rows.{Row}
 use Rattle.mt_defs.specs.Compact.{compact_data_name, compact_marks_name}
 use Rattle.mt_codec.specs.ColumnReading.{front_reading, is_empty}
-use Rattle.mt_granules.specs.FileFaults.{Judged, blame, codec_why, granule_fault, in_order}
+use Rattle.mt_fault.specs.Faults.{Judged, blame, granule_fault}
+use Rattle.mt_granules.specs.FileFaults.{codec_why, in_order}
 use Rattle.mt_granules.specs.PayloadReading.{GranulePayloads, granules_reading}
 use Rattle.mt_granules.specs.ColumnRows.{all_values, rows_of}
 

@@ -10,15 +10,12 @@ ghost use Rattle.mt_defs.specs.Rows.{RowFits};
 ghost use Rattle.mt_granules.specs.ColumnRows.{all_values};
 ghost use Rattle.mt_granules.specs.PayloadReading.{mark_count};
 ghost use Rattle.mt_granules.specs.PayloadView.{payloads_in};
-ghost use Rattle.mt_granules.specs.Results.{Gives, GivesRead, Shows};
+ghost use Rattle.mt_fault.specs.Results.{Gives, Shows};
 ghost use Rattle.mt_compact.specs.CompactReading.{column_reading, compact_reading, payload_reading, rows_reading};
 
 use mt_codec::{CodecError, decode_front};
-use mt_granules::{
-    FileError, FileIndex, Payloads, append_column, codec_why, first_rows, granule_fault,
-    read_granules,
-};
-use mt_shelf::{FileBytes, ReadError, Why};
+use mt_fault::{FileBytes, FileError, Why, granule_fault};
+use mt_granules::{FileIndex, Payloads, append_column, codec_why, first_rows, read_granules};
 use mt_table::Column;
 use mt_types::{List, Row, Value};
 use std::alloc::Global;
@@ -31,27 +28,8 @@ const MARKS_NAME: &[u8] = b"data.mrk3";
 /// The rows and granules of the files of a Compact part with these columns, in the order of columns.txt, and so
 /// many rows (docs/FORMAT.md, "Compact parts"; ClickHouse: `MergeTreeReaderCompact`). `AtFault` is the first
 /// fault of the two files in docs/FORMAT.md's order: the frames, the marks, and then column by column the values
-/// of each granule. It never returns `Shelf`.
+/// of each granule.
 pub fn read_compact(
-    alloc: Global,
-    columns: &[Column],
-    count: u64,
-    files: &[FileBytes],
-) -> Result<(List<Row>, List<u64>), ReadError>
-    requires some { 1 ≤ length columns.now }
-    requires few { length columns.now ≤ MAX_COLUMNS }
-    requires profile { All (λ column. IsTrue (is_profile column.ty)) columns.now }
-    requires row { 1 ≤ count }
-    requires rows { count ≤ MAX_ROWS }
-    requires cells { count * length columns.now ≤ MAX_CELLS }
-    ensures reads { GivesRead result (compact_reading (folder_of files.now) count columns.now) }
-    ensures fit { IfOk result (λ read. All (RowFits columns.now) read.0) }
-{
-    let read = read_rows(alloc, columns, count, files)?;
-    Ok(read)
-}
-
-fn read_rows(
     alloc: Global,
     columns: &[Column],
     count: u64,

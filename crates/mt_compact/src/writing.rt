@@ -11,8 +11,8 @@ ghost use Rattle.mt_defs.specs.WrittenStreams.{written_streams};
 ghost use Rattle.mt_granules.specs.CellColumns.{HasValues};
 ghost use Rattle.mt_granules.specs.DataFiles.{data_file_of};
 
+use mt_fault::FileBytes;
 use mt_granules::{DataFile, encode_column};
-use mt_shelf::FileBytes;
 use mt_table::Column;
 use mt_types::{List, NoMemory, Row};
 use std::alloc::Global;

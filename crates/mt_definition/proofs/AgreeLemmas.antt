@@ -7,7 +7,7 @@ use Rattle.mt_types.specs.declared.value.Value.{Value}
 use Rattle.mt_granules.specs.ColumnRows.{all_values, rows_of}
 use Rattle.mt_types.specs.Bytes.{is_byte}
 use Rattle.mt_types.specs.Steps.{◌>>=◌, onto, ok_or, require}
-use Rattle.mt_shelf.specs.declared.fault.Why.TheVariants as why
+use Rattle.mt_fault.specs.declared.fault.Why.TheVariants as why
 use Rattle.mt_table.specs.declared.column.Column.{Column}
 use Rattle.mt_defs.specs.Folder.{Folder}
 use Rattle.mt_defs.specs.Compact.{compact_data_name, compact_marks_name}
@@ -15,7 +15,8 @@ use Rattle.mt_defs.specs.FileNames.{stream_names, data_name, marks_name}
 use Rattle.mt_defs.specs.Part.{wide_names}
 use Rattle.mt_defs.specs.Rows.{Row}
 use Rattle.mt_frame.specs.declared.frames.Frames.{Frames}
-use Rattle.mt_granules.specs.FileFaults.{Judged, blame, file_at, file_fault, frame_fault, in_order, marks_fault}
+use Rattle.mt_fault.specs.Faults.{Judged, blame, file_fault}
+use Rattle.mt_granules.specs.FileFaults.{file_at, frame_fault, in_order, marks_fault}
 use Rattle.mt_granules.specs.PayloadReading.{GranulePayloads, frames_in, granules_reading, payloads_of, payloads_reading}
 use Rattle.mt_marks.specs.MarkReading.{marks_reading}
 use Rattle.mt_wide.specs.WideReading as wide

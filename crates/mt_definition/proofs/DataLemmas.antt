@@ -5,9 +5,8 @@ use Rattle.std.specs.List.{enumerate_from}
 use Rattle.std.proofs.lemmas.Bool.{eqb-true}
 use Rattle.mt_types.specs.declared.value.Value.{Value}
 use Rattle.mt_types.proofs.StepLemmas.{ok_then, ok_one, ok_pair, required}
-use Rattle.mt_shelf.specs.declared.fault.Why.TheVariants as why
-use Rattle.mt_shelf.specs.declared.fault.ReadError.{ReadError}
-use Rattle.mt_shelf.specs.declared.fault.ReadError.TheVariants as read
+use Rattle.mt_fault.specs.declared.fault.Why.TheVariants as why
+use Rattle.mt_fault.specs.declared.error.FileError.{FileError}
 use Rattle.mt_table.specs.declared.column.Column.{Column}
 use Rattle.mt_defs.specs.Folder.{Folder}
 use Rattle.mt_defs.specs.Granules.{AreGranules}
@@ -17,19 +16,19 @@ use Rattle.mt_defs.specs.FileNames.{data_name, marks_name}
 use Rattle.mt_defs.specs.Compact.{compact_data_name, compact_marks_name}
 use Rattle.mt_marks.specs.MarkReading.{marks_reading}
 use Rattle.mt_granules.specs.ColumnRows.{all_values, rows_of}
-use Rattle.mt_granules.specs.FileFaults.{Judged, blame, file_fault, file_reading, frame_fault, in_order, marks_fault}
+use Rattle.mt_fault.specs.Faults.{Judged, blame, file_fault}
+use Rattle.mt_granules.specs.FileFaults.{file_reading, frame_fault, in_order, marks_fault}
 use Rattle.mt_granules.specs.PayloadReading.{GranulePayloads, frames_in, granules_reading, payloads_of, payloads_reading}
-use Rattle.mt_granules.specs.Results.{GivesRead}
+use Rattle.mt_fault.specs.Results.{Gives}
 use Rattle.mt_granules.proofs.MarksFileLemmas.{marks_keep}
 use Rattle.mt_granules.proofs.PayloadLemmas.{granules_some}
 use Rattle.mt_granules.proofs.RowLemmas.{length-rows_of}
-use Rattle.mt_granules.proofs.StepLemmas.{blame_ok}
+use Rattle.mt_fault.proofs.FaultLemmas.{blame_ok}
 use Rattle.mt_wide.specs.WideReading as wide
 use Rattle.mt_wide.specs.WideReading.{wide_granules, wide_reading, first_stream}
 use Rattle.mt_compact.specs.CompactReading as compact
 use Rattle.mt_compact.specs.CompactReading.{compact_reading}
 use Rattle.mt_definition.specs.DataReading.{data_reading}
-use Rattle.mt_files.specs.Results.{Gives}
 
 -- each granule of a data file has a row
 payloads_some : (folder : Folder) (data_file marks : List ℕ) (per : ℕ) (read : GranulePayloads) → payloads_reading folder data_file marks per ≡ Ok read → All (λ n. 1 ≤ n) read.granules
@@ -91,24 +90,21 @@ unfolding data_reading
 of_layout folder count columns b e = ap (λ (b : Bool). if b then compact_reading folder count columns else wide_reading folder count columns) e
 
 -- a reader's answer that is the layout's
-pub gives_data : (r : Result (List Row × List ℕ) ReadError) (reading other : Judged (List Row × List ℕ)) → other ≡ reading → GivesRead r reading → Gives r other
-gives_data (Ok found) reading other same gives = same ∙ gives
-gives_data (Err (read.AtFault fault)) reading other same gives = same ∙ gives
-gives_data (Err read.Shelf) reading other same gives = gives
-gives_data (Err read.NoMemory) reading other same gives = tt
+pub gives_data : (r : Result (List Row × List ℕ) FileError) (reading other : Judged (List Row × List ℕ)) → other ≡ reading → Gives r reading → Gives r other
+gives_data r reading other same gives = subst (λ (j : Judged (List Row × List ℕ)). Gives r j) (sym same) gives
 
-module _ (r : Result (List Row × List ℕ) ReadError) (reading : Judged (List Row × List ℕ)) (count : ℕ) (gives : GivesRead r reading)
+module _ (r : Result (List Row × List ℕ) FileError) (reading : Judged (List Row × List ℕ)) (count : ℕ) (gives : Gives r reading)
     (data_is : (rows : List Row) (granules : List ℕ) → reading ≡ Ok (rows, granules) → AreData count rows granules) where
   pub many_of : IfOk r (λ found. length found.0 ≡ count)
   many_of = by r gives
     where
-      by : (r : Result (List Row × List ℕ) ReadError) → GivesRead r reading → IfOk r (λ found. length found.0 ≡ count)
+      by : (r : Result (List Row × List ℕ) FileError) → Gives r reading → IfOk r (λ found. length found.0 ≡ count)
       by (Ok (rows, granules)) gives = (data_is rows granules gives).many
       by (Err e) gives = tt
 
   pub cut_of : IfOk r (λ found. AreGranules found.1 found.0)
   cut_of = by r gives
     where
-      by : (r : Result (List Row × List ℕ) ReadError) → GivesRead r reading → IfOk r (λ found. AreGranules found.1 found.0)
+      by : (r : Result (List Row × List ℕ) FileError) → Gives r reading → IfOk r (λ found. AreGranules found.1 found.0)
       by (Ok (rows, granules)) gives = (data_is rows granules gives).cut
       by (Err e) gives = tt

@@ -3,8 +3,8 @@ use Rattle.std.proofs.Common.{◌≡◌, ◌≢◌, ℕ, suc, ◌+◌, ◌≤◌
 use Rattle.std.specs.Prelude.{All, IsSorted, Ok, Option, Some, None, nat_le}
 use Rattle.std.specs.Ordering.{is_lt}
 use Rattle.std.proofs.lemmas.Bool.{leb-true}
-use Rattle.mt_shelf.specs.declared.fault.Fault.{Fault}
-use Rattle.mt_shelf.specs.declared.fault.Why.TheVariants as why
+use Rattle.mt_fault.specs.declared.fault.Fault.{Fault}
+use Rattle.mt_fault.specs.declared.fault.Why.TheVariants as why
 use Rattle.mt_types.specs.Steps.{require}
 use Rattle.mt_table.specs.declared.definition.PartDef.{PartDef}
 use Rattle.mt_table.specs.declared.limits.TheConstants.{MAX_CELLS, MAX_ROWS}
@@ -12,7 +12,7 @@ use Rattle.mt_defs.specs.Folder.{Folder}
 use Rattle.mt_defs.specs.Rows.{ArePartRows, Row, RowFits, cell_count, key_cmp}
 use Rattle.mt_definition.specs.declared.accepted.Accepted.{Accepted}
 use Rattle.mt_definition.specs.DefinitionReading.{cells_reading, sort_file, sorted_reading}
-use Rattle.mt_granules.specs.FileFaults.{granule_fault}
+use Rattle.mt_fault.specs.Faults.{granule_fault}
 use Rattle.mt_files.specs.Faults.{none_found}
 use Rattle.mt_definition.specs.RowsReading.{first_fall, granule_of}
 use Rattle.mt_definition.proofs.RowLemmas.{fall_free}

@@ -5,9 +5,9 @@ use Rattle.std.specs.Borrow.{Bor}
 use Rattle.std.specs.List.{flat_map}
 use Rattle.std.specs.Str.{bytes_eq}
 use Rattle.std.proofs.lemmas.List.Elements.{All-nil, All-cons, All-head, All-tail, All-append, All-take, All-drop}
-use Rattle.mt_shelf.specs.declared.fault.Fault.{Fault}
-use Rattle.mt_shelf.specs.declared.fault.ReadError.{ReadError}
-use Rattle.mt_shelf.specs.declared.fault.Why.TheVariants.{Key, Over}
+use Rattle.mt_fault.specs.declared.fault.Fault.{Fault}
+use Rattle.mt_fault.specs.declared.error.FileError.{FileError}
+use Rattle.mt_fault.specs.declared.fault.Why.TheVariants.{Key, Over}
 use Rattle.mt_types.specs.declared.value.Value.TheVariants.{Null}
 use Rattle.mt_types.specs.Fits.{fits_of}
 use Rattle.mt_types.specs.Steps.{◌>>=◌, require}
@@ -17,11 +17,12 @@ use Rattle.mt_defs.specs.Granules.{granule_rows}
 use Rattle.mt_defs.specs.Lists.{Pointwise}
 use Rattle.mt_defs.specs.PrimaryIndex.{index_name, index_rows}
 use Rattle.mt_defs.specs.Rows.{Row, RowFits, cell}
-use Rattle.mt_granules.specs.FileFaults.{file_fault, granule_fault}
-use Rattle.mt_files.specs.Results.{FailsAs, IsFault}
+use Rattle.mt_fault.specs.Faults.{file_fault, granule_fault}
+use Rattle.mt_fault.specs.Results.{FailsAs}
+use Rattle.mt_fault.specs.Results.{IsFault}
 use Rattle.mt_definition.specs.RowRefs.{rows_in}
 use Rattle.mt_definition.specs.RowsReading.{keys_reading}
-use Rattle.mt_files.proofs.FaultLemmas.{fault_gives}
+use Rattle.mt_fault.proofs.FaultLemmas.{fault_gives}
 use Rattle.mt_files.proofs.LoopLemmas.{at_index, at_end}
 
 -- ---- values
@@ -59,7 +60,7 @@ keys_at key_of rows i row bytes key whole ahead inside at is =
     ap (λ (k : List ℕ). keys_later i k (map key_of (rows_in (drop (i + 1) rows))) bytes) is
     ∙ sym (ap (λ (rs : List Row). keys_reading i (map key_of rs) bytes) (rows_at rows i row inside at) ∙ keys_next i (key_of row.now) (map key_of (rows_in (drop (i + 1) rows))) bytes) ∙ ahead
 
-pub keys_differ : (key_of : Row → List ℕ) (rows : List (Bor Row)) (i : ℕ) (row : Bor Row) (bytes key : List ℕ) (whole : Result Unit Fault) (e : ReadError) → keys_reading i (map key_of (rows_in (drop i rows))) bytes ≡ whole → i < length rows
+pub keys_differ : (key_of : Row → List ℕ) (rows : List (Bor Row)) (i : ℕ) (row : Bor Row) (bytes key : List ℕ) (whole : Result Unit Fault) (e : FileError) → keys_reading i (map key_of (rows_in (drop i rows))) bytes ≡ whole → i < length rows
     → row ≡ get_or rows i row → key ≡ key_of row.now → bytes_eq (take (length key) bytes) key ≡ false → IsFault (granule_fault index_name i Key) e → FailsAs e whole
 keys_differ key_of rows i row bytes key whole e ahead inside at is differ fault =
     fault_gives (granule_fault index_name i Key) e whole fault
@@ -79,7 +80,7 @@ keys_over key_of rows i bytes whole ahead over = sym (ap (λ (rs : List (Bor Row
 pub keys_done : (key_of : Row → List ℕ) (rows : List (Bor Row)) (i : ℕ) (bytes : List ℕ) (whole : Result Unit Fault) → keys_reading i (map key_of (rows_in (drop i rows))) bytes ≡ whole → length rows ≤ i → (length bytes == 0) ≡ true → whole ≡ Ok tt
 keys_done key_of rows i bytes whole ahead over none = sym (keys_over key_of rows i bytes whole ahead over) ∙ ap (λ (b : Bool). require b (file_fault index_name Over)) none
 
-pub keys_left : (key_of : Row → List ℕ) (rows : List (Bor Row)) (i : ℕ) (bytes : List ℕ) (whole : Result Unit Fault) (e : ReadError) → keys_reading i (map key_of (rows_in (drop i rows))) bytes ≡ whole → length rows ≤ i → (length bytes == 0) ≡ false
+pub keys_left : (key_of : Row → List ℕ) (rows : List (Bor Row)) (i : ℕ) (bytes : List ℕ) (whole : Result Unit Fault) (e : FileError) → keys_reading i (map key_of (rows_in (drop i rows))) bytes ≡ whole → length rows ≤ i → (length bytes == 0) ≡ false
     → IsFault (file_fault index_name Over) e → FailsAs e whole
 keys_left key_of rows i bytes whole e ahead over some fault =
     fault_gives (file_fault index_name Over) e whole fault (sym (keys_over key_of rows i bytes whole ahead over) ∙ ap (λ (b : Bool). require b (file_fault index_name Over)) some)

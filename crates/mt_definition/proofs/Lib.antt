@@ -2,7 +2,9 @@ pub mod DataLemmas
 pub mod RowLemmas
 pub mod OrderLemmas
 pub mod KeyLemmas
+pub mod WholeRows
 pub mod StoredLemmas
+pub mod WholeLemmas
 pub mod DefinitionLaw
 pub mod AgreeLemmas
 pub mod AgreeOnData

@@ -1,12 +1,13 @@
 -- Orders of columns.
-use Rattle.std.proofs.Common.{◌≡◌, ℕ, zero, suc, ◌+◌, ◌<◌, List, [], ◌∷◌, ◌++◌, length, map, take, drop, refl, ap, sym, ◌∙◌, get_or, arith}
+use Rattle.std.proofs.Common.{◌≡◌, ℕ, zero, suc, ◌+◌, ◌<◌, ◌≤◌, List, [], ◌∷◌, ◌++◌, length, map, take, drop, refl, ap, sym, ◌∙◌, get_or, arith}
 use Rattle.std.specs.Prelude.{slice_set}
 use Rattle.mt_defs.specs.Rows.{Row}
 use Rattle.std.specs.List.{range_with_len}
 use Rattle.mt_files.proofs.LoopLemmas.{drop_drop}
-use Rattle.std.proofs.lemmas.List.{take_more, take_more_set, map-append}
+use Rattle.std.proofs.lemmas.List.{take_all, take_more, take_more_set, map-append}
+use Rattle.std.proofs.lemmas.List.FromFn.{length-range_with_len}
 
-range_push : (a n : ℕ) → range_with_len a (suc n) ≡ range_with_len a n ++ (a + n) ∷ []
+pub range_push : (a n : ℕ) → range_with_len a (suc n) ≡ range_with_len a n ++ (a + n) ∷ []
 range_push a zero = ap (λ k. k ∷ []) (omega arith)
 range_push a (suc n) = ap (λ l. a ∷ l) (range_push (a + 1) n ∙ ap (λ k. range_with_len (a + 1) n ++ k ∷ []) (omega arith))
 
@@ -14,6 +15,13 @@ pub in_place_more : (order : List ℕ) (i : ℕ) → i < length order → get_or
 in_place_more order i inside same ahead =
     take_more order i 0 inside ∙ ap (λ l. l ++ get_or order i 0 ∷ []) ahead ∙ ap (λ k. range_with_len 0 i ++ k ∷ []) (same ∙ (let e : i ≡ 0 + i = omega arith in e)) ∙ sym (range_push 0 i)
     ∙ ap (range_with_len 0) (let e : suc i ≡ i + 1 = omega arith in e)
+
+-- all columns are at their places
+pub all_in_place : {X : Type 0} (order : List ℕ) (columns : List X) (i : ℕ) → take i order ≡ range_with_len 0 i → length order ≤ i → length order ≡ length columns → order ≡ range_with_len 0 (length columns)
+all_in_place order columns i ahead over same =
+    let all : order ≡ range_with_len 0 i = sym (take_all i order over) ∙ ahead in
+    let count : i ≡ length columns = let size : length order ≡ i = ap length all ∙ length-range_with_len 0 i in omega (arith, size, same) in
+    all ∙ ap (range_with_len 0) count
 
 -- ---- rows moved one by one
 

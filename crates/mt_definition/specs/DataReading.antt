@@ -1,6 +1,6 @@
 -- The data and marks of columns, in a folder's own layout.
 use Rattle.std.specs.Prelude.{ℕ, if◌then◌else◌, List, Result}
-use Rattle.mt_shelf.specs.declared.fault.Fault.{Fault}
+use Rattle.mt_fault.specs.declared.fault.Fault.{Fault}
 use Rattle.mt_table.specs.declared.column.Column.{Column}
 use Rattle.mt_defs.specs.Folder.{Folder}
 use Rattle.mt_defs.specs.Part.{is_compact}

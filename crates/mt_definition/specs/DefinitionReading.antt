@@ -1,13 +1,14 @@
 -- The folder of a definition, of the part itself or of a projection: what its rows and granules are, or its first fault,
 -- docs/FORMAT.md, "The first fault".
 use Rattle.std.specs.Prelude.{ℕ, nat_le, if◌then◌else◌, List, map, take, slice_index_or, Result, Ok}
-use Rattle.mt_shelf.specs.declared.fault.Why.TheVariants as why
-use Rattle.mt_shelf.specs.declared.fault.Fault.{Fault}
+use Rattle.mt_fault.specs.declared.fault.Why.TheVariants as why
+use Rattle.mt_fault.specs.declared.fault.Fault.{Fault}
 use Rattle.mt_types.specs.Steps.{◌>>=◌, require}
+use Rattle.mt_table.specs.declared.column.Column.{Column}
 use Rattle.mt_table.specs.declared.definition.PartDef.{PartDef}
 use Rattle.mt_table.specs.declared.limits.TheConstants.{MAX_CELLS}
 use Rattle.mt_defs.specs.Folder.{Folder}
-use Rattle.mt_defs.specs.Rows.{Row, key_of, cell_count}
+use Rattle.mt_defs.specs.Rows.{Row, cell_count}
 use Rattle.mt_defs.specs.FileNames.{file_name, data_name}
 use Rattle.mt_defs.specs.Metadata.{column_at, count_name}
 use Rattle.mt_defs.specs.Compact.{compact_data_name}
@@ -15,22 +16,23 @@ use Rattle.mt_defs.specs.PrimaryIndex.{index_name, index_rows, key_bytes}
 use Rattle.mt_defs.specs.Part.{is_compact}
 use Rattle.mt_definition.specs.declared.accepted.Accepted.{Accepted}
 use Rattle.mt_files.specs.PartTexts.{order_reading, rows_reading}
-use Rattle.mt_granules.specs.FileFaults.{file_fault, file_reading, granule_fault}
+use Rattle.mt_fault.specs.Faults.{file_fault, granule_fault}
+use Rattle.mt_granules.specs.FileFaults.{file_reading}
 use Rattle.mt_files.specs.Faults.{none_found}
-use Rattle.mt_definition.specs.RowsReading.{places_in, granule_of, first_fall, keys_reading}
+use Rattle.mt_definition.specs.RowsReading.{whole_row, granule_of, first_fall, keys_reading}
 use Rattle.mt_definition.specs.DataReading.{data_reading}
 
--- the rows that were read, each with the columns in the definition's order
-abbrev pub in_definition_order : List ℕ → List Row × List ℕ → Accepted
-in_definition_order order (rows, granules) = record { rows = map (key_of (places_in order)) rows; granules = granules }
+-- the rows that were read of the listed columns, each with all columns in the definition's order
+abbrev pub in_definition_order : List Column → List ℕ → List Row × List ℕ → Accepted
+in_definition_order columns order (rows, granules) = record { rows = map (whole_row columns order) rows; granules = granules }
 
--- columns.txt, count.txt, and the data and marks of the columns (1 to 3)
+-- columns.txt, count.txt, and the data and marks of the listed columns (1 to 3)
 unfoldable pub stored_reading : PartDef → Folder → Result Accepted Fault
 stored_reading definition folder = do
   order ← order_reading definition folder
   count ← rows_reading definition folder
   stored ← data_reading folder count (map (column_at definition.columns) order)
-  Ok (in_definition_order order stored)
+  Ok (in_definition_order definition.columns order stored)
 
 -- the limit on cells (4)
 abbrev pub cells_reading : PartDef → Accepted → Result Unit Fault

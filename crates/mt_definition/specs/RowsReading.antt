@@ -3,17 +3,26 @@ use Rattle.std.specs.Prelude.{ℕ, suc, ◌+◌, ◌-◌, nat_lt, ◌==◌, Bool
 use Rattle.std.specs.List.{range_with_len}
 use Rattle.std.specs.Str.{bytes_eq}
 use Rattle.std.specs.Ordering.{is_lt}
-use Rattle.mt_shelf.specs.declared.fault.Fault.{Fault}
-use Rattle.mt_shelf.specs.declared.fault.Why.TheVariants.{Key, Over}
+use Rattle.mt_types.specs.declared.value.Value.{Value}
+use Rattle.mt_types.specs.Defaults.{default_of}
+use Rattle.mt_fault.specs.declared.fault.Fault.{Fault}
+use Rattle.mt_fault.specs.declared.fault.Why.TheVariants.{Key, Over}
 use Rattle.mt_types.specs.Steps.{◌>>=◌, require}
-use Rattle.mt_defs.specs.Rows.{Row, key_cmp}
+use Rattle.mt_table.specs.declared.column.Column.{Column}
+use Rattle.mt_table.specs.Kept.{is_one_of}
+use Rattle.mt_defs.specs.Metadata.{column_at}
+use Rattle.mt_defs.specs.Rows.{Row, cell, key_cmp}
 use Rattle.mt_defs.specs.PrimaryIndex.{index_name}
 use Rattle.mt_defs.specs.Projections.{index_in}
-use Rattle.mt_granules.specs.FileFaults.{file_fault, granule_fault}
+use Rattle.mt_fault.specs.Faults.{file_fault, granule_fault}
 
--- where each column of a definition stands in an order of its columns
-abbrev pub places_in : List ℕ → List ℕ
-places_in order = map (index_in order) (range_with_len 0 (length order))
+-- a row's value in a column of the definition: that of the file where the folder lists the column, or else the default of its type
+abbrev pub value_in : List Column → List ℕ → Row → ℕ → Value
+value_in columns order row i = if is_one_of order i then cell row (index_in order i) else default_of (column_at columns i).ty
+
+-- a row of all columns, of one of those that the folder lists
+abbrev pub whole_row : List Column → List ℕ → Row → Row
+whole_row columns order row = map (value_in columns order row) (range_with_len 0 (length columns))
 
 -- the granule of a row, by the row's index
 abbrev pub granule_of : List ℕ → ℕ → ℕ

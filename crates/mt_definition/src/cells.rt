@@ -6,11 +6,11 @@ ghost use Rattle.mt_table.specs.Rows.{element_count};
 ghost use Rattle.mt_table.specs.declared.limits.TheConstants.{MAX_COLUMNS, MAX_ROWS};
 ghost use Rattle.mt_definition.specs.Cells.{room_after};
 ghost use Rattle.mt_definition.specs.DefinitionReading.{cells_reading};
-ghost use Rattle.mt_files.specs.Results.{Gives};
+ghost use Rattle.mt_fault.specs.Results.{Gives};
 
 use crate::accepted::Accepted;
-use mt_files::{COUNT_FILE, fault_of};
-use mt_shelf::{ReadError, Why};
+use mt_fault::{FileError, Why, file_fault};
+use mt_names::COUNT_FILE;
 use mt_table::{MAX_CELLS, PartDef};
 use mt_types::{Row, Value};
 use std::alloc::Global;
@@ -20,7 +20,7 @@ pub(crate) fn check_cells(
     alloc: Global,
     definition: &PartDef,
     accepted: &Accepted,
-) -> Result<(), ReadError>
+) -> Result<(), FileError>
     requires few { length definition.now.columns ≤ MAX_COLUMNS }
     requires rows { length accepted.now.rows ≤ MAX_ROWS }
     ensures { Gives result (cells_reading definition.now accepted.now) }
@@ -32,7 +32,7 @@ pub(crate) fn check_cells(
         rows.len() * definition.columns.len(),
     ) {
         Some(_) => Ok(()),
-        None => Err(fault_of(alloc, COUNT_FILE, Why::TooLong)),
+        None => Err(file_fault(alloc, COUNT_FILE, Why::TooLong)),
     }
 }
 

@@ -7,23 +7,23 @@ ghost use Rattle.mt_defs.specs.Folder.{folder_of};
 ghost use Rattle.mt_defs.specs.Granules.{AreGranules};
 ghost use Rattle.mt_defs.specs.Rows.{RowFits};
 ghost use Rattle.mt_definition.specs.DataReading.{data_reading};
-ghost use Rattle.mt_files.specs.Results.{Gives};
+ghost use Rattle.mt_fault.specs.Results.{Gives};
 
 use mt_compact::read_compact;
+use mt_fault::{FileBytes, FileError};
 use mt_files::is_compact;
-use mt_shelf::{FileBytes, ReadError};
 use mt_table::Column;
 use mt_types::{List, Row};
 use mt_wide::read_wide;
 use std::alloc::Global;
 
-/// The rows and granules of the columns' files, Wide or Compact. It never returns `Shelf`.
+/// The rows and granules of the columns' files, Wide or Compact.
 pub(crate) fn read_data(
     alloc: Global,
     columns: &[Column],
     count: u64,
     files: &[FileBytes],
-) -> Result<(List<Row>, List<u64>), ReadError>
+) -> Result<(List<Row>, List<u64>), FileError>
     requires some { 1 ≤ length columns.now }
     requires few { length columns.now ≤ MAX_COLUMNS }
     requires profile { All (λ column. IsTrue (is_profile column.ty)) columns.now }

@@ -7,26 +7,26 @@ ghost use Rattle.mt_defs.specs.Granules.{AreGranules};
 ghost use Rattle.mt_defs.specs.Rows.{ArePartRows, RowFits};
 ghost use Rattle.mt_files.specs.Definitions.{IsDefinition};
 ghost use Rattle.mt_definition.specs.DefinitionReading.{definition_reading, stored_reading};
-ghost use Rattle.mt_files.specs.Results.{Gives};
+ghost use Rattle.mt_fault.specs.Results.{Gives};
 
 use crate::accepted::Accepted;
 use crate::cells::check_cells;
-use crate::column_order::{ordered_columns, rows_in_place};
 use crate::data::read_data;
 use crate::primary_index::check_index;
 use crate::sort_order::check_order;
-use mt_files::{read_order, read_row_count};
-use mt_shelf::{FileBytes, ReadError};
+use crate::whole_rows::whole_rows;
+use mt_fault::{FileBytes, FileError};
+use mt_files::{listed_columns, read_order, read_row_count};
 use mt_table::PartDef;
 use std::alloc::Global;
 
 /// The rows and granules that a definition's folder holds, or its first fault (docs/FORMAT.md, "The first
-/// fault"). It never returns `Shelf`.
+/// fault").
 pub fn read_definition(
     alloc: Global,
     definition: &PartDef,
     files: &[FileBytes],
-) -> Result<Accepted, ReadError>
+) -> Result<Accepted, FileError>
     requires { IsDefinition definition.now }
     ensures gives { Gives result (definition_reading definition.now (folder_of files.now)) }
     ensures rows { IfOk result (λ accepted. ArePartRows definition.now accepted.rows) }
@@ -44,7 +44,7 @@ fn read_stored(
     alloc: Global,
     definition: &PartDef,
     files: &[FileBytes],
-) -> Result<Accepted, ReadError>
+) -> Result<Accepted, FileError>
     requires { IsDefinition definition.now }
     ensures gives { Gives result (stored_reading definition.now (folder_of files.now)) }
     ensures some { IfOk result (λ accepted. accepted.rows ≢ []) }
@@ -54,12 +54,12 @@ fn read_stored(
 {
     let order = read_order(alloc, definition, files)?;
     let count = read_row_count(alloc, definition, files)?;
-    let Ok(columns) = ordered_columns(alloc, definition.columns.as_slice(), order.as_slice()) else {
-        return Err(ReadError::NoMemory);
+    let Ok(columns) = listed_columns(alloc, definition.columns.as_slice(), order.as_slice()) else {
+        return Err(FileError::NoMemory);
     };
     let (rows, granules) = read_data(alloc, columns.as_slice(), count, files)?;
-    match rows_in_place(alloc, order.as_slice(), rows) {
+    match whole_rows(alloc, definition.columns.as_slice(), order.as_slice(), rows) {
         Ok(rows) => Ok(Accepted { rows, granules }),
-        Err(_) => Err(ReadError::NoMemory),
+        Err(_) => Err(FileError::NoMemory),
     }
 }

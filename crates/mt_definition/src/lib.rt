@@ -5,11 +5,11 @@
 
 mod accepted;
 mod cells;
-mod column_order;
 mod data;
 mod definition;
 mod primary_index;
 mod sort_order;
+mod whole_rows;
 
 pub use accepted::Accepted;
 pub use definition::read_definition;

@@ -10,19 +10,18 @@ ghost use Rattle.mt_defs.specs.Rows.{RowFits, cell};
 ghost use Rattle.mt_meta.specs.Keys.{AreKeys, is_scalar};
 ghost use Rattle.mt_files.specs.Definitions.{IsDefinition};
 ghost use Rattle.mt_definition.specs.DefinitionReading.{index_reading};
-ghost use Rattle.mt_files.specs.Results.{Gives};
+ghost use Rattle.mt_fault.specs.Results.{Gives};
 ghost use Rattle.mt_definition.specs.RowRefs.{rows_in};
 ghost use Rattle.mt_definition.specs.RowsReading.{keys_reading};
 
 use crate::accepted::Accepted;
-use mt_files::{bytes_of, fault_in, fault_of};
+use mt_fault::{FileBytes, FileError, Why, file_fault, granule_fault};
+use mt_files::bytes_of;
 use mt_item::put_item;
-use mt_shelf::{FileBytes, ReadError, Why};
+use mt_names::INDEX_FILE;
 use mt_table::{Column, PartDef};
 use mt_types::{List, NoMemory, Row, Ty, Value};
 use std::alloc::Global;
-
-const INDEX_FILE: &[u8] = b"primary.idx";
 
 /// That primary.idx is the keys of the first row of each granule, and of the last row.
 pub(crate) fn check_index(
@@ -30,7 +29,7 @@ pub(crate) fn check_index(
     definition: &PartDef,
     files: &[FileBytes],
     accepted: &Accepted,
-) -> Result<(), ReadError>
+) -> Result<(), FileError>
     requires definition { IsDefinition definition.now }
     requires fit { All (RowFits definition.now.columns) accepted.now.rows }
     requires cut { AreGranules accepted.now.granules accepted.now.rows }
@@ -46,7 +45,7 @@ pub(crate) fn check_index(
         accepted.rows.as_slice(),
         accepted.granules.as_slice(),
     ) else {
-        return Err(ReadError::NoMemory);
+        return Err(FileError::NoMemory);
     };
     check_keys(
         alloc,
@@ -86,7 +85,7 @@ fn check_keys(
     key: &[u32],
     rows: &[&Row],
     bytes: &[u8],
-) -> Result<(), ReadError>
+) -> Result<(), FileError>
     requires keys { AreKeys columns.now key.now }
     requires fit { All (RowFits columns.now) (rows_in rows.now) }
     ensures { Gives result (keys_reading 0 (map (key_bytes columns.now key.now) (rows_in rows.now)) bytes.now) }
@@ -94,17 +93,17 @@ fn check_keys(
     let mut rest = bytes;
     for (granule, row) in rows.iter().enumerate() {
         let Ok(expected) = key_of(alloc, columns, key, row) else {
-            return Err(ReadError::NoMemory);
+            return Err(FileError::NoMemory);
         };
         let Some(after) = rest.strip_prefix(expected.as_slice()) else {
-            return Err(fault_in(alloc, INDEX_FILE, granule as u64, Why::Key));
+            return Err(granule_fault(alloc, INDEX_FILE, granule as u64, Why::Key));
         };
         rest = after;
     }
     if rest.is_empty() {
         Ok(())
     } else {
-        Err(fault_of(alloc, INDEX_FILE, Why::Over))
+        Err(file_fault(alloc, INDEX_FILE, Why::Over))
     }
 }
 

@@ -6,19 +6,18 @@ ghost use Rattle.mt_defs.specs.Folder.{folder_of};
 ghost use Rattle.mt_defs.specs.Rows.{key_cmp};
 ghost use Rattle.mt_files.specs.Definitions.{IsDefinition};
 ghost use Rattle.mt_definition.specs.DefinitionReading.{sort_file, sorted_reading};
-ghost use Rattle.mt_files.specs.Results.{Gives};
+ghost use Rattle.mt_fault.specs.Results.{Gives};
 ghost use Rattle.mt_definition.specs.RowsReading as defined;
 ghost use Rattle.std.specs.Prelude.{IfOk};
 
 use crate::accepted::Accepted;
-use mt_files::{fault_in, file_name, is_compact};
-use mt_shelf::{FileBytes, ReadError, Why};
+use mt_fault::{FileBytes, FileError, Why, granule_fault};
+use mt_files::is_compact;
+use mt_names::{DATA_FILE, data_name};
 use mt_table::PartDef;
 use mt_types::{List, NoMemory, Row, Value, compare};
 use std::alloc::Global;
 use std::cmp::Ordering;
-
-const COMPACT_DATA_FILE: &[u8] = b"data.bin";
 
 /// That no row is below the row before it.
 pub(crate) fn check_order(
@@ -26,7 +25,7 @@ pub(crate) fn check_order(
     definition: &PartDef,
     files: &[FileBytes],
     accepted: &Accepted,
-) -> Result<(), ReadError>
+) -> Result<(), FileError>
     requires { IsDefinition definition.now }
     ensures { Gives result (sorted_reading definition.now (folder_of files.now) accepted.now) }
 {
@@ -35,8 +34,8 @@ pub(crate) fn check_order(
     };
     let granule = granule_of(accepted.granules.as_slice(), row);
     match sort_file(alloc, definition, files) {
-        Ok(file) => Err(fault_in(alloc, file.as_slice(), granule, Why::Sorted)),
-        Err(_) => Err(ReadError::NoMemory),
+        Ok(file) => Err(granule_fault(alloc, file.as_slice(), granule, Why::Sorted)),
+        Err(_) => Err(FileError::NoMemory),
     }
 }
 
@@ -46,10 +45,10 @@ fn sort_file(alloc: Global, definition: &PartDef, files: &[FileBytes]) -> Result
     ensures { IfOk result (λ file. file ≡ sort_file definition.now (folder_of files.now)) }
 {
     if is_compact(files) {
-        return List::of_bytes(alloc, COMPACT_DATA_FILE);
+        return List::of_bytes(alloc, DATA_FILE);
     }
     let column = &definition.columns.as_slice()[definition.sort.as_slice()[0] as usize];
-    file_name(alloc, b"", column.name.as_slice(), b".bin")
+    data_name(alloc, column)
 }
 
 /// The first row that is below the row before it, by its index.

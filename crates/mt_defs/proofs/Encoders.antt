@@ -13,6 +13,7 @@ step_natural X type_of encoding (Ty-F.Int w) = refl
 step_natural X type_of encoding (Ty-F.FixedString n) = refl
 step_natural X type_of encoding Ty-F.Str = refl
 step_natural X type_of encoding Ty-F.Date = refl
+step_natural X type_of encoding Ty-F.Moment = refl
 step_natural X type_of encoding (Ty-F.Nullable u) = refl
 step_natural X type_of encoding (Ty-F.Array u) = refl
 step_natural X type_of encoding (Ty-F.State agg u) = refl

@@ -3,3 +3,4 @@ pub mod Numbers
 pub mod Examples
 pub mod Sorted
 pub mod WrittenNames
+pub mod ListedColumns

@@ -5,6 +5,7 @@ use Rattle.std.specs.Fmt.{decimal}
 use Rattle.mt_types.specs.declared.ty.Ty.{Ty}
 use Rattle.mt_types.specs.declared.ty.Ty.TheOpen.{Ty-F}
 use Rattle.mt_types.specs.declared.ty.Ty.TheFolds.{fold-Ty}
+use Rattle.mt_types.specs.Profile.{Kind, Nested, kind_of}
 use Rattle.mt_table.specs.declared.column.Column.{Column}
 
 -- a byte from `low` to `high`
@@ -36,6 +37,15 @@ suffix_step _ level = [] ∷ []
 -- what follows the column's name in the file name of each substream, the outermost sizes at level 0
 abbrev pub stream_suffixes : Ty → List (List ℕ)
 stream_suffixes ty = fold-Ty (ℕ → List (List ℕ)) suffix_step ty 0
+
+-- how many arrays a type of this kind has inside each other
+abbrev pub levels_of_kind : Kind → ℕ
+levels_of_kind (Nested depth) = depth
+levels_of_kind _ = 0
+
+-- how many arrays a type has inside each other
+abbrev pub array_levels : Ty → ℕ
+array_levels ty = levels_of_kind (kind_of ty)
 
 -- the file names of a column's substreams, without `.bin` and `.mrk2`
 abbrev pub stream_names : Column → List (List ℕ)

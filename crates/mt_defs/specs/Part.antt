@@ -1,5 +1,5 @@
 -- The folder of a part, and the rows for which it stands: docs/FORMAT.md, "Parts".
-use Rattle.std.specs.Prelude.{◌≡◌, ℕ, Bool, false, ◌==◌, if◌then◌else◌, List, [], ◌∷◌, ◌++◌, length, map, codes, Some, is_some, All, IsTrue, Contains, IsSome, ◌⊎◌}
+use Rattle.std.specs.Prelude.{◌≡◌, ℕ, Bool, false, ◌==◌, if◌then◌else◌, List, [], ◌∷◌, ◌++◌, length, map, codes, Some, None, is_some, All, IsTrue, Contains, IsSome, ◌⊎◌}
 use Rattle.std.specs.List.{flat_map}
 use Rattle.mt_table.specs.declared.column.Column.{Column}
 use Rattle.mt_table.specs.declared.skip.Skip.{Skip}
@@ -11,10 +11,10 @@ use Rattle.mt_defs.specs.Rows.{Row, key_of, ArePartRows}
 use Rattle.mt_defs.specs.FileNames.{stream_names, data_name, marks_name}
 use Rattle.mt_defs.specs.Wide.{IsWide}
 use Rattle.mt_defs.specs.Compact.{IsCompact, compact_data_name, compact_marks_name}
-use Rattle.mt_defs.specs.Metadata.{HasMetadata, column_at, columns_name, count_name}
+use Rattle.mt_defs.specs.Metadata.{HasDefaults, HasMetadata, column_at, columns_name, count_name}
 use Rattle.mt_defs.specs.PrimaryIndex.{primary_index_of, index_name}
 use Rattle.mt_defs.specs.Partition.{HasPartition, HaveOnePartition, minmax_name, partition_name, expression_column}
-use Rattle.mt_defs.specs.SkipIndexes.{HasSkipIndex, skip_data_name, skip_marks_name}
+use Rattle.mt_defs.specs.SkipIndexes.{MayHaveSkipIndex, skip_data_name, skip_marks_name}
 use Rattle.mt_defs.specs.Projections.{base_of, inner_of, projection_prefix, IsProjectionOf}
 
 -- ---- one folder: the part's own, or a projection's
@@ -32,11 +32,12 @@ abbrev pub HasColumns : List Column → List Row → List ℕ → Folder → Typ
 HasColumns columns rows granules folder =
     (IsTrue (is_compact folder) × IsCompact columns rows granules folder) ⊎ ((is_compact folder ≡ false) × IsWide columns rows granules folder)
 
--- the folder holds these rows of a definition, its columns in some order
+-- the folder holds these rows of a definition: the columns that it lists, in this order, and the defaults of all others
 pub record HoldsRows (definition : PartDef) (folder : Folder) (rows : List Row) (granules : List ℕ) : Type 0 where
   pub part_rows : ArePartRows definition rows
   pub order : List ℕ
   pub metadata : HasMetadata definition order rows folder
+  pub defaults : All (HasDefaults definition.columns order) rows
   pub columns : HasColumns (map (column_at definition.columns) order) (map (key_of order) rows) granules folder
   pub index : folder index_name ≡ Some (primary_index_of definition rows granules)
 
@@ -52,13 +53,13 @@ side_names =
 abbrev pub wide_names : Column → List (List ℕ)
 wide_names column = flat_map (λ name. data_name name ∷ marks_name name ∷ []) (stream_names column)
 
--- the data and marks files of a definition's columns
-abbrev pub column_names : PartDef → Folder → List (List ℕ)
-column_names definition folder = if is_compact folder then compact_data_name ∷ compact_marks_name ∷ [] else flat_map wide_names definition.columns
+-- the data and marks files of the columns that a folder lists
+abbrev pub column_names : List Column → Folder → List (List ℕ)
+column_names columns folder = if is_compact folder then compact_data_name ∷ compact_marks_name ∷ [] else flat_map wide_names columns
 
--- the names that may stand in the folder of a definition, side files among them
-abbrev pub definition_names : PartDef → Folder → List (List ℕ)
-definition_names definition folder = columns_name ∷ count_name ∷ index_name ∷ (column_names definition folder ++ side_names)
+-- the names that may stand in the folder that lists these columns, side files among them
+abbrev pub definition_names : List Column → Folder → List (List ℕ)
+definition_names columns folder = columns_name ∷ count_name ∷ index_name ∷ (column_names columns folder ++ side_names)
 
 -- the files of a table's partition key
 abbrev pub partition_names : Table → List (List ℕ)
@@ -72,14 +73,18 @@ skip_names folder skip = skip_data_name skip ∷ skip_marks_name skip (marks_end
 -- the names that may stand in the folder of a projection
 abbrev pub projection_names : Table → Folder → Projection → List (List ℕ)
 projection_names table folder projection =
-    map (λ name. projection_prefix projection ++ name) (definition_names (inner_of table projection) (folder_below folder (projection_prefix projection)))
+    map (λ name. projection_prefix projection ++ name) (definition_names (inner_of table projection).columns (folder_below folder (projection_prefix projection)))
 
--- the names that may stand below a part, side files among them
-abbrev pub known_names : Table → Folder → List (List ℕ)
-known_names table folder =
-    definition_names (base_of table) folder ++ partition_names table ++ flat_map (skip_names folder) table.skips ++ flat_map (projection_names table folder) table.projections
+-- the names that may stand below a part that lists these columns of the table, side files among them
+abbrev pub known_names : Table → List ℕ → Folder → List (List ℕ)
+known_names table order folder =
+    definition_names (map (column_at table.columns) order) folder ++ partition_names table ++ flat_map (skip_names folder) table.skips ++ flat_map (projection_names table folder) table.projections
 
 -- ---- the part
+
+-- no file is in a projection's folder
+abbrev pub LacksProjection : Folder → Projection → Type 0
+LacksProjection folder projection = (name : List ℕ) → folder (projection_prefix projection ++ name) ≡ None
 
 -- a projection's folder holds rows that stand for these
 pub record HasProjection (table : Table) (folder : Folder) (rows : List Row) (projection : Projection) : Type 0 where
@@ -88,14 +93,18 @@ pub record HasProjection (table : Table) (folder : Folder) (rows : List Row) (pr
   pub holds : HoldsRows (inner_of table projection) (folder_below folder (projection_prefix projection)) stored granules
   pub stands : IsProjectionOf table projection rows stored
 
--- the folder holds these rows in these granules, with all that belongs to them, and nothing else
+-- a projection is absent or holds rows that stand for these
+abbrev pub MayHaveProjection : Table → Folder → List Row → Projection → Type 0
+MayHaveProjection table folder rows projection = LacksProjection folder projection ⊎ HasProjection table folder rows projection
+
+-- the folder holds these rows in these granules, with all that belongs to them and is there, and nothing else
 pub record StandsForIn (table : Table) (folder : Folder) (rows : List Row) (granules : List ℕ) : Type 0 where
   pub holds : HoldsRows (base_of table) folder rows granules
   pub one_partition : HaveOnePartition table rows
   pub partition : HasPartition table rows folder
-  pub skips : All (λ skip. HasSkipIndex table skip (marks_ending (is_compact folder)) rows granules folder) table.skips
-  pub projections : All (HasProjection table folder rows) table.projections
-  pub known : (name : List ℕ) → IsSome (folder name) → Contains (known_names table folder) name
+  pub skips : All (MayHaveSkipIndex table (marks_ending (is_compact folder)) rows granules folder) table.skips
+  pub projections : All (MayHaveProjection table folder rows) table.projections
+  pub known : (name : List ℕ) → IsSome (folder name) → Contains (known_names table holds.order folder) name
 
 -- the folder stands for these rows
 abbrev pub StandsFor : Table → Folder → List Row → Type 0

@@ -16,6 +16,7 @@ use Rattle.mt_table.specs.declared.partition.PartExpr.TheVariants.{Plain, Month}
 use Rattle.mt_defs.specs.Folder.{Folder}
 use Rattle.mt_defs.specs.Rows.{Row, cell, column_values}
 use Rattle.mt_defs.specs.FileNames.{file_name}
+pub use Rattle.mt_table.specs.Stored.{expression_column}
 use Rattle.mt_defs.specs.Metadata.{column_at}
 
 -- ---- partition values
@@ -87,11 +88,6 @@ is_minmax_of ty values bytes =
 -- the file of the partition value
 abbrev pub partition_name : List ℕ
 partition_name = codes "partition.dat"
-
--- the column that a partition expression is over, by its index
-abbrev pub expression_column : PartExpr → ℕ
-expression_column (Plain i) = i
-expression_column (Month i) = i
 
 -- the file of a column's least and greatest value
 abbrev pub minmax_name : Table → ℕ → List ℕ

@@ -1,5 +1,5 @@
 -- Skip indexes: their entries and files, docs/FORMAT.md, "Skip indexes" (ClickHouse: IMergeTreeIndexGranule). The bytes of a set entry are this project's.
-use Rattle.std.specs.Prelude.{◌≡◌, ◌≢◌, ℕ, zero, suc, ◌^◌, ◌<◌, nat_lt, Bool, true, ◌&&◌, if◌then◌else◌, List, [], ◌∷◌, ◌++◌, length, map, take, drop, codes, Some, All, AllPairs, IsTrue, IsPermutation}
+use Rattle.std.specs.Prelude.{◌≡◌, ◌≢◌, ℕ, zero, suc, ◌^◌, ◌<◌, ◌⊎◌, nat_lt, Bool, true, ◌&&◌, if◌then◌else◌, List, [], ◌∷◌, ◌++◌, length, map, take, drop, codes, Some, None, All, AllPairs, IsTrue, IsPermutation}
 use Rattle.std.specs.Bool.{MatchBool}
 use Rattle.std.specs.List.{flat_map, list_all, list_any, concat}
 use Rattle.std.specs.List.Sorted.{IsNonDecreasingBy}
@@ -116,6 +116,11 @@ pub record SkipMark : Type 0 where
 abbrev pub skip_mark_bytes : SkipMark → List ℕ
 skip_mark_bytes skip_mark = mark_bytes skip_mark.mark ++ u64_bytes skip_mark.rows
 
+-- neither file of an index is there
+pub record LacksSkipIndex (skip : Skip) (marks_ending : List ℕ) (folder : Folder) : Type 0 where
+  pub no_data : folder (skip_data_name skip) ≡ None
+  pub no_marks : folder (skip_marks_name skip marks_ending) ≡ None
+
 -- the two files of an index: an entry, and a mark where it begins, for each of its groups of granules
 pub record HasSkipIndex (table : Table) (skip : Skip) (marks_ending : List ℕ) (rows : List Row) (granules : List ℕ) (folder : Folder) : Type 0 where
   pub entries : List (List ℕ)
@@ -128,3 +133,8 @@ pub record HasSkipIndex (table : Table) (skip : Skip) (marks_ending : List ℕ) 
   pub positions : Pointwise (λ skip_mark position. MarksPosition data_file skip_mark.mark position) marks (offsets_from 0 (map length entries))
   pub order : IsNonDecreasingBy (λ skip_mark. skip_mark.mark.offset) marks
   pub summaries : Pointwise (λ group entry. Summarizes skip.kind (column_at table.columns skip.column).ty (column_values skip.column group) entry) (entry_rows skip rows granules) entries
+
+-- an index is absent or has its two files
+abbrev pub MayHaveSkipIndex : Table → List ℕ → List Row → List ℕ → Folder → Skip → Type 0
+MayHaveSkipIndex table marks_ending rows granules folder skip =
+    LacksSkipIndex skip marks_ending folder ⊎ HasSkipIndex table skip marks_ending rows granules folder

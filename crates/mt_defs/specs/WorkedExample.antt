@@ -4,7 +4,7 @@ use Rattle.std.proofs.Common.{inl, refl}
 use Rattle.mt_types.specs.declared.ty.Ty.TheVariants.{UInt}
 use Rattle.mt_types.specs.declared.ty.Width.TheVariants.{W64}
 use Rattle.mt_types.specs.declared.value.Value.TheVariants.{Num}
-use Rattle.mt_shelf.specs.declared.file.FileBytes.{FileBytes}
+use Rattle.mt_fault.specs.declared.file.FileBytes.{FileBytes}
 use Rattle.mt_table.specs.declared.column.Column.{Column}
 use Rattle.mt_table.specs.declared.settings.Settings.{Settings}
 use Rattle.mt_table.specs.declared.definition.Table.{Table}

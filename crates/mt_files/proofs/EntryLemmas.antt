@@ -1,8 +1,8 @@
 -- The files of a skip index, step by step.
 use Rattle.std.proofs.Common.{◌≡◌, ℕ, List, length, refl, ap, sym, subst, ◌∙◌}
 use Rattle.std.specs.Prelude.{None, Result, Ok}
-use Rattle.mt_shelf.specs.declared.fault.Fault.{Fault}
-use Rattle.mt_shelf.specs.declared.fault.ReadError.{ReadError}
+use Rattle.mt_fault.specs.declared.fault.Fault.{Fault}
+use Rattle.mt_fault.specs.declared.error.FileError.{FileError}
 use Rattle.mt_types.specs.Steps.{◌>>=◌}
 use Rattle.mt_types.proofs.StepLemmas.{then_of}
 use Rattle.mt_table.specs.declared.skip.Skip.{Skip}
@@ -12,10 +12,11 @@ use Rattle.mt_defs.specs.Folder.{Folder}
 use Rattle.mt_defs.specs.Frames.{Block, IsFileOf, file_of, payload_of}
 use Rattle.mt_defs.specs.SkipIndexes.{skip_data_name, skip_marks_name}
 use Rattle.mt_frame.specs.FrameReading.{frames_reading, layout}
-use Rattle.mt_granules.specs.FileFaults.{blame, file_reading, frame_fault}
-use Rattle.mt_files.specs.Results.{FailsAs}
+use Rattle.mt_fault.specs.Faults.{blame}
+use Rattle.mt_granules.specs.FileFaults.{file_reading, frame_fault}
+use Rattle.mt_fault.specs.Results.{FailsAs}
 use Rattle.mt_files.specs.SkipMarks.{blocks_reading, index_entries, marks_reading, pieces_at, positions_reading}
-use Rattle.mt_files.proofs.FaultLemmas.{fails_then}
+use Rattle.mt_fault.proofs.FaultLemmas.{fails_then}
 
 abbrev Entries : Type 0
 Entries = Result (List (List ℕ)) Fault
@@ -49,7 +50,7 @@ module _ (folder : Folder) (ending : List ℕ) (skip : Skip) (count : ℕ) where
   abbrev marks_file : List ℕ
   marks_file = skip_marks_name skip ending
 
-  pub data_fails : (name : List ℕ) (e : ReadError) → name ≡ data_file → FailsAs e (file_reading folder name) → FailsAs e whole
+  pub data_fails : (name : List ℕ) (e : FileError) → name ≡ data_file → FailsAs e (file_reading folder name) → FailsAs e whole
   data_fails name e named fails =
       subst (FailsAs e) (sym (entries_are folder ending skip count))
       (fails_then e (blocks_reading folder data_file) (after_blocks folder marks_file skip.granularity count)
@@ -58,7 +59,7 @@ module _ (folder : Folder) (ending : List ℕ) (skip : Skip) (count : ℕ) where
   blocks_are : (name bytes : List ℕ) → name ≡ data_file → file_reading folder name ≡ Ok bytes → blocks_reading folder data_file ≡ frames_of data_file bytes
   blocks_are name bytes named is = then_of (file_reading folder data_file) bytes (frames_of data_file) (ap (file_reading folder) (sym named) ∙ is)
 
-  pub frames_fail : (name again bytes : List ℕ) (e : ReadError) → name ≡ data_file → file_reading folder name ≡ Ok bytes → again ≡ data_file → FailsAs e (blame (frame_fault again) (frames_reading bytes)) → FailsAs e whole
+  pub frames_fail : (name again bytes : List ℕ) (e : FileError) → name ≡ data_file → file_reading folder name ≡ Ok bytes → again ≡ data_file → FailsAs e (blame (frame_fault again) (frames_reading bytes)) → FailsAs e whole
   frames_fail name again bytes e named is same fails =
       subst (FailsAs e) (sym (entries_are folder ending skip count))
       (fails_then e (blocks_reading folder data_file) (after_blocks folder marks_file skip.granularity count)
@@ -71,7 +72,7 @@ module _ (folder : Folder) (ending : List ℕ) (skip : Skip) (count : ℕ) where
       entries_are folder ending skip count
       ∙ then_of (blocks_reading folder data_file) blocks (after_blocks folder marks_file skip.granularity count) (blocks_are name bytes named is ∙ ap (λ (n : List ℕ). frames_of n bytes) (sym same) ∙ reads)
 
-  pub marks_missing : (name again bytes other : List ℕ) (blocks : List Block) (e : ReadError) → name ≡ data_file → file_reading folder name ≡ Ok bytes → again ≡ data_file → blame (frame_fault again) (frames_reading bytes) ≡ Ok blocks
+  pub marks_missing : (name again bytes other : List ℕ) (blocks : List Block) (e : FileError) → name ≡ data_file → file_reading folder name ≡ Ok bytes → again ≡ data_file → blame (frame_fault again) (frames_reading bytes) ≡ Ok blocks
       → other ≡ marks_file → FailsAs e (file_reading folder other) → FailsAs e whole
   marks_missing name again bytes other blocks e named is same reads marked fails =
       subst (FailsAs e) (sym (behind_blocks name again bytes blocks named is same reads))
@@ -84,7 +85,7 @@ module _ (folder : Folder) (ending : List ℕ) (skip : Skip) (count : ℕ) where
       behind_blocks name again bytes blocks named is same reads
       ∙ then_of (file_reading folder marks_file) marks (after_bytes marks_file skip.granularity count blocks) (ap (file_reading folder) (sym marked) ∙ there)
 
-  pub marks_fail : (bytes name : List ℕ) (blocks : List Block) (e : ReadError) → whole ≡ after_bytes marks_file skip.granularity count blocks bytes → name ≡ marks_file → FailsAs e (marks_reading name count bytes) → FailsAs e whole
+  pub marks_fail : (bytes name : List ℕ) (blocks : List Block) (e : FileError) → whole ≡ after_bytes marks_file skip.granularity count blocks bytes → name ≡ marks_file → FailsAs e (marks_reading name count bytes) → FailsAs e whole
   marks_fail bytes name blocks e ahead named fails =
       subst (FailsAs e) (sym ahead)
       (fails_then e (marks_reading marks_file count bytes) (after_marks marks_file skip.granularity blocks) (subst (λ (n : List ℕ). FailsAs e (marks_reading n count bytes)) named fails))
@@ -100,7 +101,7 @@ module _ (folder : Folder) (ending : List ℕ) (skip : Skip) (count : ℕ) where
       ap (λ (n : List ℕ). positions_reading n skip.granularity end frames 0 None items) named ∙ ap (λ (fs : List Frame). positions_reading marks_file skip.granularity end fs 0 None items) laid
       ∙ ap (λ n. positions_reading marks_file skip.granularity n (layout blocks) 0 None items) (ends ∙ ap length is.bytes) ∙ ap (positions_of marks_file skip.granularity blocks) same
 
-  pub positions_fail : (file data_bytes : List ℕ) (end : ℕ) (frames : List Frame) (blocks : List Block) (marks items : List Mark) (e : ReadError) → whole ≡ after_marks marks_file skip.granularity blocks marks → file ≡ marks_file → IsFileOf blocks data_bytes
+  pub positions_fail : (file data_bytes : List ℕ) (end : ℕ) (frames : List Frame) (blocks : List Block) (marks items : List Mark) (e : FileError) → whole ≡ after_marks marks_file skip.granularity blocks marks → file ≡ marks_file → IsFileOf blocks data_bytes
       → frames ≡ layout blocks → end ≡ length data_bytes → items ≡ marks → FailsAs e (positions_reading file skip.granularity end frames 0 None items) → FailsAs e whole
   positions_fail file data_bytes end frames blocks marks items e ahead named is laid ends same fails =
       subst (FailsAs e) (sym ahead)

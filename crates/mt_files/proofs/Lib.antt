@@ -1,4 +1,3 @@
-pub mod FaultLemmas
 pub mod LoopLemmas
 pub mod FileLemmas
 pub mod PlaceLemmas
@@ -13,5 +12,3 @@ pub mod TableLemmas
 pub mod OnceLemmas
 pub mod ListingLemmas
 pub mod NamedLemmas
-pub mod KnownLemmas
-pub mod SetLemmas

@@ -1,6 +1,6 @@
 -- Listings: how a name is found there, and what they say of a part's files.
-use Rattle.std.proofs.Common.{◌≡◌, ℕ, zero, suc, ◌+◌, ◌<◌, ◌≤◌, Bool, true, false, List, [], ◌∷◌, length, map, refl, ap, sym, subst, ◌∙◌, get_or, arith}
-use Rattle.std.specs.Prelude.{Option, Some, None, option_map, if◌then◌else◌, cond, nat_lt, IfSome}
+use Rattle.std.proofs.Common.{◌≡◌, ℕ, zero, suc, ◌+◌, ◌<◌, ◌≤◌, Bool, true, false, List, [], ◌∷◌, ◌++◌, length, map, refl, ap, sym, subst, ◌∙◌, get_or, arith}
+use Rattle.std.specs.Prelude.{Option, Some, None, is_some, option_map, if◌then◌else◌, cond, nat_lt, IfSome}
 use Rattle.std.proofs.lemmas.Bool.{ltb-false, ltb-true}
 use Rattle.std.specs.List.{cons_option, filter_map, list_all}
 use Rattle.std.specs.Ordering.{nat_cmp, is_eq, is_lt, ordering_reverse}
@@ -15,8 +15,10 @@ use Rattle.mt_shelf.specs.declared.file.Entry.{Entry}
 use Rattle.mt_shelf.specs.Files.{Files, entries_below, entry_of, is_file_name}
 use Rattle.mt_shelf.specs.Paths.{joined_path, name_below}
 use Rattle.mt_shelf.proofs.Puts.{below_joined, joined_below}
-use Rattle.mt_defs.specs.Folder.{is_name}
-use Rattle.mt_files.specs.Listings.{size_in}
+use Rattle.mt_defs.specs.Compact.{compact_marks_name}
+use Rattle.mt_defs.specs.Folder.{folder_below, is_name}
+use Rattle.mt_defs.specs.Part.{is_compact}
+use Rattle.mt_files.specs.Listings.{listed_folder, size_in}
 use Rattle.mt_files.specs.NamedFiles.{part_folder}
 use Rattle.mt_files.proofs.FileLemmas.{name_is, other_name, same_name}
 use Rattle.mt_files.proofs.LoopLemmas.{same_default}
@@ -200,3 +202,17 @@ pub known_absence : (part name : List ℕ) (listing : List Entry) (stored : Opti
     → IfSome stored (λ files. None ≡ part_folder part files name)
 known_absence part name listing None is none = tt
 known_absence part name listing (Some files) is none = no_file (part_folder part files name) (sym (size_of_file part name files) ∙ ap (λ es. size_in es name) (sym is) ∙ none)
+
+-- ---- what a listing tells of a folder
+
+same_some : (o : Option (List ℕ)) → is_some (option_map (λ size. let none : List ℕ = [] in none) (option_map (length {A = ℕ}) o)) ≡ is_some o
+same_some None = refl
+same_some (Some bytes) = refl
+
+-- a file is there where it is listed
+pub listed_there : (part name : List ℕ) (files : Files) → is_some (listed_folder (entries_below part files) name) ≡ is_some (part_folder part files name)
+listed_there part name files = ap (λ s. is_some (option_map (λ size. let none : List ℕ = [] in none) s)) (size_of_file part name files) ∙ same_some (part_folder part files name)
+
+-- a folder's layout is known by the listing
+pub layout_listed : (part prefix : List ℕ) (files : Files) → is_compact (folder_below (listed_folder (entries_below part files)) prefix) ≡ is_compact (folder_below (part_folder part files) prefix)
+layout_listed part prefix files = listed_there part (prefix ++ compact_marks_name) files

@@ -5,7 +5,7 @@ use Rattle.std.specs.List.{cons_option}
 use Rattle.std.proofs.lemmas.List.Elements.{filter_map-append}
 use Rattle.std.proofs.lemmas.List.{map-append, take_more}
 use Rattle.mt_shelf.specs.Files.{Files}
-use Rattle.mt_shelf.specs.declared.file.FileBytes.{FileBytes}
+use Rattle.mt_fault.specs.declared.file.FileBytes.{FileBytes}
 use Rattle.mt_defs.specs.Folder.{Folder, folder_below}
 use Rattle.mt_files.specs.NamedFiles.{file_named, file_names, files_named, part_folder}
 

@@ -2,19 +2,20 @@
 use Rattle.std.proofs.Common.{◌≡◌, ℕ, suc, ◌+◌, ◌*◌, ◌<◌, ◌≤◌, false, List, [], ◌∷◌, ◌++◌, length, drop, refl, ap, sym, ◌∙◌, get_or, arith}
 use Rattle.std.specs.Prelude.{Option, Some, Result, Ok, Err}
 use Rattle.std.proofs.lemmas.List.{append-nil, append_assoc}
-use Rattle.mt_shelf.specs.declared.fault.Fault.{Fault}
-use Rattle.mt_shelf.specs.declared.fault.ReadError.{ReadError}
-use Rattle.mt_shelf.specs.declared.fault.Why.{Why}
+use Rattle.mt_fault.specs.declared.fault.Fault.{Fault}
+use Rattle.mt_fault.specs.declared.error.FileError.{FileError}
+use Rattle.mt_fault.specs.declared.fault.Why.{Why}
 use Rattle.mt_types.specs.Steps.{◌>>=◌, onto}
 use Rattle.mt_types.proofs.StepLemmas.{then_of, then_bad}
 use Rattle.mt_defs.specs.declared.frame.Frame.{Frame}
 use Rattle.mt_defs.specs.declared.mark.Mark.{Mark}
 use Rattle.mt_marks.specs.declared.rules.Former.{Former}
 use Rattle.mt_marks.specs.MarkReading.{mark_reading}
-use Rattle.mt_granules.specs.FileFaults.{blame, granule_fault}
-use Rattle.mt_files.specs.Results.{FailsAs, IsFault}
+use Rattle.mt_fault.specs.Faults.{blame, granule_fault}
+use Rattle.mt_fault.specs.Results.{FailsAs}
+use Rattle.mt_fault.specs.Results.{IsFault}
 use Rattle.mt_files.specs.SkipMarks.{positions_reading}
-use Rattle.mt_files.proofs.FaultLemmas.{fault_gives}
+use Rattle.mt_fault.proofs.FaultLemmas.{fault_gives}
 use Rattle.mt_files.proofs.LoopLemmas.{at_index, at_end}
 
 -- the positions before, and what is read of the other marks
@@ -42,7 +43,7 @@ positions_at : (file : List ℕ) (per end : ℕ) (frames : List Frame) (marks : 
 positions_at file per end frames marks i former mark inside at =
     ap (positions_reading file per end frames (i * per) former) (at_index marks i mark inside at) ∙ positions_next file per end frames (i * per) former mark (drop (i + 1) marks)
 
-pub mark_fails : (file : List ℕ) (per end : ℕ) (frames : List Frame) (marks : List Mark) (i : ℕ) (former : Option Former) (mark : Mark) (positions : List ℕ) (whole : Result (List ℕ) Fault) (why : Why) (e : ReadError)
+pub mark_fails : (file : List ℕ) (per end : ℕ) (frames : List Frame) (marks : List Mark) (i : ℕ) (former : Option Former) (mark : Mark) (positions : List ℕ) (whole : Result (List ℕ) Fault) (why : Why) (e : FileError)
     → behind positions (positions_reading file per end frames (i * per) former (drop i marks)) ≡ whole → i < length marks → mark ≡ get_or marks i mark → mark_reading end frames false former mark ≡ Err why → IsFault (granule_fault file (i * per) why) e → FailsAs e whole
 mark_fails file per end frames marks i former mark positions whole why e ahead inside at fails fault =
     let step = ap (blame (granule_fault file (i * per))) fails in

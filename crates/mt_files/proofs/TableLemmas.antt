@@ -1,9 +1,9 @@
 -- What the rules of a table give its checks.
-use Rattle.std.proofs.Common.{◌≡◌, ◌≤◌, true, List, length, refl, sym, ◌∙◌, arith}
+use Rattle.std.proofs.Common.{◌≡◌, ◌≤◌, true, List, length, map, refl, sym, ◌∙◌, arith}
 use Rattle.std.specs.Prelude.{nat_le, ◌&&◌}
 use Rattle.std.specs.List.{list_all, filter_map}
 use Rattle.std.proofs.lemmas.Bool.{leb-true}
-use Rattle.std.proofs.lemmas.List.{length-map}
+use Rattle.std.proofs.lemmas.List.{length-append, length-map}
 use Rattle.std.proofs.lemmas.List.FromFn.{length-range_with_len}
 use Rattle.std.proofs.lemmas.List.Elements.{All-weaker}
 use Rattle.mt_types.specs.declared.ty.Ty.{Ty, out-Ty}
@@ -24,6 +24,7 @@ use Rattle.mt_table.specs.declared.skip.Skip.{Skip}
 use Rattle.mt_table.specs.ColumnTypes.{is_date_at, is_date_type, is_key_type, place_has}
 use Rattle.mt_table.specs.Kept.{is_one_of, keeps_expression, keeps_grouped, keeps_key, keeps_kind, keeps_normal, keeps_projection, keeps_skip, month_place, plain_place}
 use Rattle.mt_table.specs.Names.{places_differ}
+use Rattle.mt_table.specs.Stored.{expression_column}
 use Rattle.mt_table.specs.Tables.{fields_of_table}
 use Rattle.mt_table.proofs.KeptLemmas.{each_of, key_length}
 use Rattle.mt_defs.specs.Metadata.{column_at}
@@ -36,11 +37,26 @@ use Rattle.mt_files.proofs.PartDefs.{IsPartDef}
 
 -- ---- definitions
 
-flat : (definition : PartDef) → IsPartDef definition → 1 ≤ length definition.sort → IsDefinition definition
-flat definition is sorted = record { some = is.columns.some; few = is.columns.few; profile = is.columns.profile; keys = is.keys; sorted = sorted; primary = is.primary }
+flat : (definition : PartDef) → IsPartDef definition → 1 ≤ length definition.must → 1 ≤ length definition.sort → IsDefinition definition
+flat definition is listed sorted =
+    record { some = is.columns.some; few = is.columns.few; profile = is.columns.profile; listed = listed; keys = is.keys; sorted = sorted; primary = is.primary }
 
 pub base_checked : (table : Table) → IsDefinition (base_of table)
-base_checked table = flat (base_of table) (base_is table) (key_length table.columns table.sort (each_of (fields_of_table table) table.rules).sort).0
+base_checked table =
+    let some = (key_length table.columns table.sort (each_of (fields_of_table table) table.rules).sort).0 in
+    let long = length-append table.sort (map expression_column table.partition) in
+    flat (base_of table) (base_is table) (omega (arith, some, long)) some
+
+-- the folder of a projection lists all its columns
+inner_listed : (table : Table) (projection : Projection) → IsPartDef (inner_of table projection) → 1 ≤ length (inner_of table projection).must
+inner_listed table (Normal name columns sort) is =
+    let some = is.columns.some in
+    let all = length-range_with_len 0 (length (inner_of table (Normal name columns sort)).columns) in
+    omega (arith, some, all)
+inner_listed table (Grouped name keys aggs) is =
+    let some = is.columns.some in
+    let all = length-range_with_len 0 (length (inner_of table (Grouped name keys aggs)).columns) in
+    omega (arith, some, all)
 
 inner_sorted : (table : Table) (projection : Projection) → keeps_projection table.columns projection ≡ true → 1 ≤ length (inner_of table projection).sort
 inner_sorted table (Normal name columns sort) keeps =
@@ -57,7 +73,7 @@ inner_sorted table (Grouped name keys aggs) keeps =
 pub projections_checked : (table : Table) → HasProjections table
 projections_checked table =
     All-weaker (λ projection. keeps_projection table.columns projection ≡ true) (λ projection. IsDefinition (inner_of table projection))
-    (λ projection keeps. flat (inner_of table projection) (inner_is table projection keeps) (inner_sorted table projection keeps)) table.projections (projections_kept table)
+    (λ projection keeps. let is = inner_is table projection keeps in flat (inner_of table projection) is (inner_listed table projection is) (inner_sorted table projection keeps)) table.projections (projections_kept table)
 
 -- ---- skip indexes
 

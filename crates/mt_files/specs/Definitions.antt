@@ -10,11 +10,12 @@ use Rattle.mt_defs.specs.Metadata.{column_at}
 use Rattle.mt_defs.specs.Projections.{inner_of}
 use Rattle.mt_meta.specs.Keys.{AreKeys, is_scalar}
 
--- columns of the profile's types, and a key of scalar ones
+-- columns of the profile's types, some of which each folder lists, and a key of scalar ones
 pub record IsDefinition (definition : PartDef) : Type 0 where
   pub some : 1 ≤ length definition.columns
   pub few : length definition.columns ≤ MAX_COLUMNS
   pub profile : All (λ column. IsTrue (is_profile column.ty)) definition.columns
+  pub listed : 1 ≤ length definition.must
   pub keys : AreKeys definition.columns definition.sort
   pub sorted : 1 ≤ length definition.sort
   pub primary : definition.primary ≤ length definition.sort

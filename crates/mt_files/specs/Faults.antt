@@ -1,6 +1,6 @@
 -- Steps with faults that the readers of a folder share: docs/FORMAT.md, "The first fault".
 use Rattle.std.specs.Prelude.{ℕ, List, ◌++◌, Option, Some, None, Result, Ok, Err}
-use Rattle.mt_shelf.specs.declared.fault.Fault.{Fault}
+use Rattle.mt_fault.specs.declared.fault.Fault.{Fault}
 
 -- nothing was found, or what was found is a fault
 abbrev pub none_found : {A : Type 0} → Option A → (A → Fault) → Result Unit Fault

@@ -1,10 +1,8 @@
 pub mod Faults
 pub mod Definitions
-pub mod Orders
 pub mod OwnNames
 pub mod Listings
 pub mod NamedFiles
-pub mod NameSets
 pub mod PartTexts
 pub mod SkipMarks
 pub mod Results

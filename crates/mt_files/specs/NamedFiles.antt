@@ -2,7 +2,7 @@
 use Rattle.std.specs.Prelude.{ℕ, List, map, Option, option_map}
 use Rattle.std.specs.List.{filter_map}
 use Rattle.std.specs.FinMap.{get}
-use Rattle.mt_shelf.specs.declared.file.FileBytes.{FileBytes}
+use Rattle.mt_fault.specs.declared.file.FileBytes.{FileBytes}
 use Rattle.mt_shelf.specs.Files.{Files}
 use Rattle.mt_shelf.specs.Paths.{joined_path}
 use Rattle.mt_defs.specs.Folder.{Folder}

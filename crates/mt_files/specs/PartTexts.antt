@@ -1,8 +1,8 @@
 -- columns.txt and count.txt, which every folder of rows has: docs/FORMAT.md, "The first fault".
 use Rattle.std.specs.Prelude.{ℕ, List, length, Result, Ok, Err}
-use Rattle.mt_shelf.specs.declared.fault.Why.{Why}
-use Rattle.mt_shelf.specs.declared.fault.Why.TheVariants as why
-use Rattle.mt_shelf.specs.declared.fault.Fault.{Fault}
+use Rattle.mt_fault.specs.declared.fault.Why.{Why}
+use Rattle.mt_fault.specs.declared.fault.Why.TheVariants as why
+use Rattle.mt_fault.specs.declared.fault.Fault.{Fault}
 use Rattle.mt_types.specs.Steps.{◌>>=◌}
 use Rattle.mt_table.specs.declared.definition.PartDef.{PartDef}
 use Rattle.mt_defs.specs.Folder.{Folder}
@@ -11,14 +11,14 @@ use Rattle.mt_meta.specs.declared.count.CountWhy.{CountWhy}
 use Rattle.mt_meta.specs.declared.count.CountWhy.TheVariants.{Syntax, TooLong}
 use Rattle.mt_meta.specs.ColumnsReading.{columns_reading}
 use Rattle.mt_meta.specs.CountReading.{count_reading}
-use Rattle.mt_meta.specs.Results.{in_file}
+use Rattle.mt_fault.specs.Faults.{blame, file_fault}
 use Rattle.mt_granules.specs.FileFaults.{file_reading}
 
--- columns.txt: the columns in the order of the folder's files, by their indexes in the definition (1.1 to 1.3)
+-- columns.txt: the columns that the folder lists, in the order of its files, by their indexes in the definition (1.1 to 1.3)
 abbrev pub order_reading : PartDef → Folder → Result (List ℕ) Fault
 order_reading definition folder = do
   text ← file_reading folder columns_name
-  in_file columns_name (columns_reading definition.columns text)
+  blame (file_fault columns_name) (columns_reading definition.columns definition.must text)
 
 -- why a count is none, as it is named of a part
 abbrev pub count_why : {A : Type 0} → Result A CountWhy → Result A Why
@@ -30,4 +30,4 @@ count_why (Err TooLong) = Err why.TooLong
 abbrev pub rows_reading : PartDef → Folder → Result ℕ Fault
 rows_reading definition folder = do
   text ← file_reading folder count_name
-  in_file count_name (count_why (count_reading (length definition.columns) text))
+  blame (file_fault count_name) (count_why (count_reading (length definition.columns) text))

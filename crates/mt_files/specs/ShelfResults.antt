@@ -1,8 +1,8 @@
 -- What is known of a shelf's faults after a call that reads.
 use Rattle.std.specs.Prelude.{◌≡◌, ℕ, Result, Ok, Err}
 use Rattle.mt_shelf.specs.Causes.{Rose}
-use Rattle.mt_shelf.specs.declared.fault.ReadError.{ReadError}
-use Rattle.mt_shelf.specs.declared.fault.ReadError.TheVariants.{AtFault, Shelf, NoMemory}
+use Rattle.mt_shelf.specs.declared.error.ReadError.{ReadError}
+use Rattle.mt_shelf.specs.declared.error.ReadError.TheVariants.{AtFault, Shelf, NoMemory}
 
 -- the count of faults rose where the shelf failed, and else stayed
 abbrev pub ReadFails : {A : Type 0} → ℕ → ℕ → Result A ReadError → Type 0

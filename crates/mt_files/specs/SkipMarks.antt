@@ -1,8 +1,8 @@
 -- The marks of a skip index, and the entries between them: docs/FORMAT.md, "Skip indexes" and "The first fault".
-use Rattle.std.specs.Prelude.{◌≡◌, ℕ, ◌+◌, ◌-◌, ◌==◌, false, List, [], ◌∷◌, length, take, drop, Option, Some, None, option_map, Result, Ok}
+use Rattle.std.specs.Prelude.{◌≡◌, ℕ, ◌+◌, ◌-◌, ◌==◌, ◌||◌, Bool, false, List, [], ◌∷◌, length, take, drop, Option, Some, None, is_some, option_map, Result, Ok}
 use Rattle.mt_types.specs.Steps.{◌>>=◌, ok_or, onto, require}
-use Rattle.mt_shelf.specs.declared.fault.Fault.{Fault}
-use Rattle.mt_shelf.specs.declared.fault.Why.TheVariants as why
+use Rattle.mt_fault.specs.declared.fault.Fault.{Fault}
+use Rattle.mt_fault.specs.declared.fault.Why.TheVariants as why
 use Rattle.mt_table.specs.declared.skip.Skip.{Skip}
 use Rattle.mt_defs.specs.declared.frame.Frame.{Frame}
 use Rattle.mt_defs.specs.declared.mark.Mark.{Mark}
@@ -12,7 +12,12 @@ use Rattle.mt_defs.specs.SkipIndexes.{skip_data_name, skip_marks_name}
 use Rattle.mt_frame.specs.FrameReading.{frames_reading, layout}
 use Rattle.mt_marks.specs.declared.rules.Former.{Former}
 use Rattle.mt_marks.specs.MarkReading.{entries_reading, mark_reading, marks_of}
-use Rattle.mt_granules.specs.FileFaults.{blame, file_fault, file_reading, frame_fault, granule_fault}
+use Rattle.mt_fault.specs.Faults.{blame, file_fault, granule_fault}
+use Rattle.mt_granules.specs.FileFaults.{file_reading, frame_fault}
+
+-- a skip index is there: its data file or its marks file is
+abbrev pub has_files : Folder → List ℕ → Skip → Bool
+has_files folder marks_ending skip = is_some (folder (skip_data_name skip)) || is_some (folder (skip_marks_name skip marks_ending))
 
 -- ---- frames
 

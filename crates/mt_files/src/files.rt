@@ -6,12 +6,10 @@ ghost use Rattle.mt_defs.specs.Part.{is_compact};
 ghost use Rattle.mt_granules.specs.FileFaults.{file_reading};
 ghost use Rattle.mt_files.specs.Results.{GivesBytes};
 
-use crate::fault::fault_of;
 use mt_codec::know_bytes;
-use mt_shelf::{FileBytes, ReadError, Why};
+use mt_fault::{FileBytes, FileError, Why, file_fault};
+use mt_names::MARKS_FILE;
 use std::alloc::Global;
-
-const COMPACT_MARKS_FILE: &[u8] = b"data.mrk3";
 
 /// The bytes of the file of a name, if there is one. It is asked for a few files alone.
 pub fn find<'a>(files: &'a [FileBytes], name: &[u8]) -> Option<&'a [u8]>
@@ -30,7 +28,7 @@ pub fn bytes_of<'a>(
     alloc: Global,
     files: &'a [FileBytes],
     name: &[u8],
-) -> Result<&'a [u8], ReadError>
+) -> Result<&'a [u8], FileError>
     ensures { GivesBytes result (file_reading (folder_of files.now) name.now) }
 {
     match find(files, name) {
@@ -38,7 +36,7 @@ pub fn bytes_of<'a>(
             know_bytes(bytes);
             Ok(bytes)
         }
-        None => Err(fault_of(alloc, name, Why::Missing)),
+        None => Err(file_fault(alloc, name, Why::Missing)),
     }
 }
 
@@ -46,5 +44,5 @@ pub fn bytes_of<'a>(
 pub fn is_compact(files: &[FileBytes]) -> bool
     ensures { result ≡ is_compact (folder_of files.now) }
 {
-    find(files, COMPACT_MARKS_FILE).is_some()
+    find(files, MARKS_FILE).is_some()
 }

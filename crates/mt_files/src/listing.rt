@@ -1,12 +1,13 @@
 //! The files of a listing, by their names.
 
-ghost use Rattle.std.specs.Prelude.{◌≡◌, IfOk};
+ghost use Rattle.std.specs.Prelude.{◌≡◌, is_some, IfOk};
 ghost use Rattle.mt_defs.specs.Folder.{folder_below};
 ghost use Rattle.mt_defs.specs.Part.{is_compact};
 ghost use Rattle.mt_shelf.specs.Files.{IsListing};
-ghost use Rattle.mt_files.specs.Listings.{listed_folder, size_in};
+ghost use Rattle.mt_types.specs.NameReading.{after_prefix};
+ghost use Rattle.mt_files.specs.Listings.{has_below, listed_folder, names_of, size_in};
 
-use crate::names::with_ending;
+use mt_names::{MARKS_FILE, with_ending};
 use mt_shelf::Entry;
 use mt_types::NoMemory;
 use std::alloc::Global;
@@ -35,6 +36,25 @@ pub fn is_compact_below(alloc: Global, listing: &[Entry], prefix: &[u8]) -> Resu
     requires { IsListing listing.now }
     ensures { IfOk result (λ compact. compact ≡ is_compact (folder_below (listed_folder listing.now) prefix.now)) }
 {
-    let marks = with_ending(alloc, prefix, b"data.mrk3")?;
+    let marks = with_ending(alloc, prefix, MARKS_FILE)?;
     Ok(size_of(listing, marks.as_slice()).is_some())
+}
+
+/// Whether a listed name begins with a prefix.
+pub fn has_below(listing: &[Entry], prefix: &[u8]) -> bool
+    ensures { result ≡ has_below (names_of listing.now) prefix.now }
+{
+    for entry in listing {
+        if is_below(entry, prefix) {
+            return true;
+        }
+    }
+    false
+}
+
+/// Whether the name of an entry begins with a prefix.
+fn is_below(entry: &Entry, prefix: &[u8]) -> bool
+    ensures { result ≡ is_some (after_prefix prefix.now entry.now.name) }
+{
+    entry.name.as_slice().strip_prefix(prefix).is_some()
 }

@@ -12,8 +12,9 @@ ghost use Rattle.mt_files.specs.Listings.{listed_folder, size_in};
 ghost use Rattle.mt_files.specs.NamedFiles.{file_named, file_names, files_named, part_folder};
 
 use crate::listing::size_of;
-use crate::names::with_ending;
-use mt_shelf::{CallError, Entry, FileBytes, Shelf, read_file};
+use mt_fault::FileBytes;
+use mt_names::with_ending;
+use mt_shelf::{CallError, Entry, Shelf, read_file};
 use mt_types::{List, NoMemory};
 use std::alloc::Global;
 

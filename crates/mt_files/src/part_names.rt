@@ -7,17 +7,17 @@ ghost use Rattle.mt_meta.specs.PartitionKeys.{ArePartitionKeys};
 ghost use Rattle.mt_files.specs.OwnNames as defined;
 
 use crate::definition_names::{own_names, push_name, push_skip_names};
-use crate::names::file_name;
+use mt_names::{PARTITION_FILE, minmax_name};
 use mt_table::{PartExpr, Table};
 use mt_types::{List, NoMemory};
 use std::alloc::Global;
 
-/// The files of a part that are read, but for those of projections; `compact` is its layout.
+/// The files of a part that are read where they are there, but for those of projections; `compact` is its
+/// layout.
 pub fn base_names(alloc: Global, table: &Table, compact: bool) -> Result<Vec<List<u8>>, NoMemory>
     ensures { IfOk result (λ names. names.items ≡ defined.base_names table.now compact) }
 {
-    let definition = table.base(alloc)?;
-    let mut names = own_names(alloc, &definition, compact)?;
+    let mut names = own_names(alloc, table.columns.as_slice(), compact)?;
     push_partition(alloc, table, &mut names)?;
     push_skip_names(alloc, table, compact, &mut names)?;
     Ok(names)
@@ -31,7 +31,7 @@ fn push_partition(alloc: Global, table: &Table, names: &mut Vec<List<u8>>) -> Re
     if table.partition.is_empty() {
         return Ok(());
     }
-    push_name(alloc, b"partition.dat", names)?;
+    push_name(alloc, PARTITION_FILE, names)?;
     push_minmax(alloc, table, names)
 }
 
@@ -63,8 +63,7 @@ fn push_last_use(
     if is_used(later, place) {
         return Ok(());
     }
-    let column = &table.columns.as_slice()[place as usize];
-    names.push(file_name(alloc, b"minmax_", column.name.as_slice(), b".idx")?)?;
+    names.push(minmax_name(alloc, table, place)?)?;
     Ok(())
 }
 

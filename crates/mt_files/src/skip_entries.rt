@@ -4,21 +4,21 @@ ghost use Rattle.std.specs.Prelude.{◌≡◌, ◌*◌, ◌<◌, ◌^◌, ℕ, L
 ghost use Rattle.mt_defs.specs.Folder.{folder_of};
 ghost use Rattle.mt_defs.specs.Frames.{Block, IsFileOf, payload_of};
 ghost use Rattle.mt_defs.specs.Part.{marks_ending};
-ghost use Rattle.mt_defs.specs.SkipIndexes as index;
 ghost use Rattle.mt_frame.specs.FrameReading.{frames_reading, layout};
 ghost use Rattle.mt_frame.specs.Results.{AreFramesOf};
 ghost use Rattle.mt_files.specs.Results.{GivesEntries, GivesFramesOf, IsFrameError};
-ghost use Rattle.mt_granules.specs.FileFaults.{blame, frame_fault, frame_why};
-ghost use Rattle.mt_files.specs.SkipMarks.{index_entries};
+ghost use Rattle.mt_fault.specs.Faults.{blame};
+ghost use Rattle.mt_granules.specs.FileFaults.{frame_fault, frame_why};
+ghost use Rattle.mt_files.specs.SkipMarks.{has_files, index_entries};
 
-use crate::fault::fault_at;
-use crate::files::bytes_of;
-use crate::names::file_name;
+use crate::files::{bytes_of, find};
 use crate::skip_marks::{read_marks, read_positions};
 use mt_defs::HEADER_BYTES;
-use mt_frame::{FrameError, FrameWhy, Frames, frames_of};
-use mt_shelf::{FileBytes, ReadError, Why};
-use mt_table::{Skip, SkipKind};
+use mt_fault::{FileBytes, FileError, Why, offset_fault};
+use mt_frame::{FrameError, Frames, frames_of};
+use mt_granules::frame_why;
+use mt_names::{skip_data_name, skip_marks_name};
+use mt_table::Skip;
 use mt_types::{List, NoMemory};
 use std::alloc::Global;
 
@@ -31,6 +31,22 @@ pub struct SkipEntries {
     pub positions: List<u64>,
 }
 
+/// Whether a skip index is there: its data file or its marks file is; `compact` is the part's layout.
+pub fn has_files(
+    alloc: Global,
+    files: &[FileBytes],
+    compact: bool,
+    skip: &Skip,
+) -> Result<bool, NoMemory>
+    ensures { IfOk result (λ has. has ≡ has_files (folder_of files.now) (marks_ending compact) skip.now) }
+{
+    let data = skip_data_name(alloc, skip)?;
+    let marks = skip_marks_name(alloc, skip, compact)?;
+    let has_data = find(files, data.as_slice()).is_some();
+    let has_marks = find(files, marks.as_slice()).is_some();
+    Ok(has_data || has_marks)
+}
+
 /// The entries of a skip index, so many; `compact` is the part's layout.
 pub fn read_entries(
     alloc: Global,
@@ -38,13 +54,15 @@ pub fn read_entries(
     compact: bool,
     skip: &Skip,
     count: usize,
-) -> Result<SkipEntries, ReadError>
+) -> Result<SkipEntries, FileError>
     requires { count * skip.now.granularity < 2 ^ 64 }
     ensures { GivesEntries result (index_entries (folder_of files.now) (marks_ending compact) skip.now count) }
 {
-    let (Ok(data_name), Ok(marks_name)) = (data_name(alloc, skip), marks_name(alloc, skip, compact))
-    else {
-        return Err(ReadError::NoMemory);
+    let (Ok(data_name), Ok(marks_name)) = (
+        skip_data_name(alloc, skip),
+        skip_marks_name(alloc, skip, compact),
+    ) else {
+        return Err(FileError::NoMemory);
     };
     let data = bytes_of(alloc, files, data_name.as_slice())?;
     let frames = read_frames(alloc, data_name.as_slice(), data)?;
@@ -59,33 +77,12 @@ pub fn read_entries(
     )?;
     match payload_of(alloc, data, &frames) {
         Ok(payload) => Ok(SkipEntries { payload, positions }),
-        Err(_) => Err(ReadError::NoMemory),
-    }
-}
-
-/// The name of an index's data file.
-pub fn data_name(alloc: Global, skip: &Skip) -> Result<List<u8>, NoMemory>
-    ensures { IfOk result (λ name. name ≡ index.skip_data_name skip.now) }
-{
-    match skip.kind {
-        SkipKind::Minmax => file_name(alloc, b"skp_idx_", skip.name.as_slice(), b".idx2"),
-        SkipKind::Set(_) => file_name(alloc, b"skp_idx_", skip.name.as_slice(), b".idx"),
-    }
-}
-
-/// The name of an index's marks file.
-pub(crate) fn marks_name(alloc: Global, skip: &Skip, compact: bool) -> Result<List<u8>, NoMemory>
-    ensures { IfOk result (λ name. name ≡ index.skip_marks_name skip.now (marks_ending compact)) }
-{
-    if compact {
-        file_name(alloc, b"skp_idx_", skip.name.as_slice(), b".mrk3")
-    } else {
-        file_name(alloc, b"skp_idx_", skip.name.as_slice(), b".mrk2")
+        Err(_) => Err(FileError::NoMemory),
     }
 }
 
 /// The frames of a data file of this name.
-fn read_frames(alloc: Global, file: &[u8], bytes: &[u8]) -> Result<Frames, ReadError>
+fn read_frames(alloc: Global, file: &[u8], bytes: &[u8]) -> Result<Frames, FileError>
     ensures { GivesFramesOf bytes.now result (blame (frame_fault file.now) (frames_reading bytes.now)) }
 {
     match frames_of(alloc, bytes) {
@@ -95,24 +92,12 @@ fn read_frames(alloc: Global, file: &[u8], bytes: &[u8]) -> Result<Frames, ReadE
 }
 
 /// Why frames weren't read, as a fault of a file of this name.
-fn frame_error(alloc: Global, file: &[u8], error: FrameError) -> ReadError
+fn frame_error(alloc: Global, file: &[u8], error: FrameError) -> FileError
     ensures { IsFrameError file.now error result }
 {
     match error {
-        FrameError::At { offset, why } => fault_at(alloc, file, offset, why_of(why)),
-        _ => ReadError::NoMemory,
-    }
-}
-
-/// Why no frame stands there, as a fault's reason.
-fn why_of(why: FrameWhy) -> Why
-    ensures { result ≡ frame_why why }
-{
-    match why {
-        FrameWhy::Cut => Why::Cut,
-        FrameWhy::Method => Why::Method,
-        FrameWhy::Sizes => Why::Sizes,
-        FrameWhy::TooLong => Why::TooLong,
+        FrameError::At { offset, why } => offset_fault(alloc, file, offset, frame_why(why)),
+        FrameError::NoMemory => FileError::NoMemory,
     }
 }
 

@@ -1,14 +1,13 @@
 //! The marks of a skip index.
 
 ghost use Rattle.std.specs.Prelude.{◌≡◌, ◌+◌, ◌*◌, ◌<◌, ◌≤◌, ◌^◌, None, length};
-ghost use Rattle.mt_files.specs.Results.{Gives};
+ghost use Rattle.mt_fault.specs.Results.{Gives};
 ghost use Rattle.mt_files.specs.SkipMarks as defined;
 
-use crate::fault::{fault_in, fault_of};
 use mt_defs::Mark;
+use mt_fault::{FileError, Why, file_fault, granule_fault};
 use mt_frame::Frames;
 use mt_marks::{check_mark, raw_marks};
-use mt_shelf::{ReadError, Why};
 use mt_types::List;
 use std::alloc::Global;
 
@@ -18,18 +17,18 @@ pub(crate) fn read_marks(
     file: &[u8],
     count: usize,
     bytes: &[u8],
-) -> Result<List<Mark>, ReadError>
+) -> Result<List<Mark>, FileError>
     ensures { Gives result (defined.marks_reading file.now count bytes.now) }
 {
     match raw_marks(alloc, bytes, 1) {
         Ok(Some(marks)) => {
             if marks.places.len() != count {
-                return Err(fault_of(alloc, file, Why::Length));
+                return Err(file_fault(alloc, file, Why::Length));
             }
             Ok(marks.places)
         }
-        Ok(None) => Err(fault_of(alloc, file, Why::Length)),
-        Err(_) => Err(ReadError::NoMemory),
+        Ok(None) => Err(file_fault(alloc, file, Why::Length)),
+        Err(_) => Err(FileError::NoMemory),
     }
 }
 
@@ -40,23 +39,23 @@ pub(crate) fn read_positions(
     per_entry: u64,
     frames: &Frames,
     marks: &[Mark],
-) -> Result<List<u64>, ReadError>
+) -> Result<List<u64>, FileError>
     requires { length marks.now * per_entry < 2 ^ 64 }
     ensures { Gives result (defined.positions_reading file.now per_entry frames.now.end frames.now.list 0 None marks.now) }
 {
     let Ok(mut positions) = List::with_capacity(alloc, marks.len()) else {
-        return Err(ReadError::NoMemory);
+        return Err(FileError::NoMemory);
     };
     let mut former = None;
     for (index, mark) in marks.iter().enumerate() {
         match check_mark(frames, false, former, mark) {
             Ok(here) => {
                 let Ok(()) = positions.push(here.position) else {
-                    return Err(ReadError::NoMemory);
+                    return Err(FileError::NoMemory);
                 };
                 former = Some(here);
             }
-            Err(why) => return Err(fault_in(alloc, file, index as u64 * per_entry, why)),
+            Err(why) => return Err(granule_fault(alloc, file, index as u64 * per_entry, why)),
         }
     }
     Ok(positions)

@@ -1,39 +1,38 @@
 //! columns.txt and count.txt.
 
-ghost use Rattle.std.specs.Prelude.{◌≡◌, ◌*◌, ◌≤◌, length, IfOk};
+ghost use Rattle.std.specs.Prelude.{◌≡◌, ◌*◌, ◌≤◌, length, IfOk, IsTrue};
 ghost use Rattle.mt_table.specs.declared.limits.TheConstants.{MAX_CELLS, MAX_COLUMNS, MAX_ROWS};
 ghost use Rattle.mt_defs.specs.Folder.{folder_of};
+ghost use Rattle.mt_defs.specs.Metadata.{may_list};
 ghost use Rattle.mt_files.specs.PartTexts.{count_why, order_reading, rows_reading};
-ghost use Rattle.mt_files.specs.Orders.{IsOrder};
-ghost use Rattle.mt_files.specs.Results.{Gives};
+ghost use Rattle.mt_fault.specs.Results.{Gives};
 
-use crate::fault::fault_of;
 use crate::files::bytes_of;
+use mt_fault::{FileBytes, FileError, Why, file_fault};
 use mt_meta::{CountWhy, counts_are_read, only_lists_are_read, read_columns, read_count};
-use mt_shelf::{FileBytes, ReadError, Why};
+use mt_names::{COLUMNS_FILE, COUNT_FILE};
 use mt_table::PartDef;
 use mt_types::List;
 use std::alloc::Global;
 
-const COLUMNS_FILE: &[u8] = b"columns.txt";
-
-/// The file that counts the rows.
-pub const COUNT_FILE: &[u8] = b"count.txt";
-
-/// The columns in the order of the folder's files, by their places in the definition.
+/// The columns that the folder lists, in the order of its files, by their places in the definition.
 pub fn read_order(
     alloc: Global,
     definition: &PartDef,
     files: &[FileBytes],
-) -> Result<List<u32>, ReadError>
+) -> Result<List<u32>, FileError>
     requires { length definition.now.columns ≤ MAX_COLUMNS }
     ensures gives { Gives result (order_reading definition.now (folder_of files.now)) }
-    ensures order { IfOk result IsOrder }
-    ensures long { IfOk result (λ order. length order ≡ length definition.now.columns) }
+    ensures listed { IfOk result (λ order. IsTrue (may_list definition.now.columns definition.now.must order)) }
 {
     let text = bytes_of(alloc, files, COLUMNS_FILE)?;
     only_lists_are_read();
-    read_columns(alloc, definition.columns.as_slice(), text)
+    read_columns(
+        alloc,
+        definition.columns.as_slice(),
+        definition.must.as_slice(),
+        text,
+    )
 }
 
 /// The rows of the folder.
@@ -41,7 +40,7 @@ pub fn read_row_count(
     alloc: Global,
     definition: &PartDef,
     files: &[FileBytes],
-) -> Result<u64, ReadError>
+) -> Result<u64, FileError>
     requires some { 1 ≤ length definition.now.columns }
     requires few { length definition.now.columns ≤ MAX_COLUMNS }
     ensures gives { Gives result (rows_reading definition.now (folder_of files.now)) }
@@ -53,7 +52,7 @@ pub fn read_row_count(
     counts_are_read();
     match read_count(text, definition.columns.len() as u64) {
         Ok(count) => Ok(count),
-        Err(CountWhy::Syntax) => Err(fault_of(alloc, COUNT_FILE, Why::Syntax)),
-        Err(CountWhy::TooLong) => Err(fault_of(alloc, COUNT_FILE, Why::TooLong)),
+        Err(CountWhy::Syntax) => Err(file_fault(alloc, COUNT_FILE, Why::Syntax)),
+        Err(CountWhy::TooLong) => Err(file_fault(alloc, COUNT_FILE, Why::TooLong)),
     }
 }

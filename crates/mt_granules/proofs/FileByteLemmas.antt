@@ -10,7 +10,7 @@ use Rattle.std.proofs.lemmas.Option.{option_and_then_some}
 use Rattle.mt_types.specs.Bytes.{is_byte}
 use Rattle.mt_types.specs.Steps.{ok_or}
 use Rattle.mt_types.proofs.StepLemmas.{ok_one}
-use Rattle.mt_shelf.specs.declared.fault.Why.TheVariants as why
+use Rattle.mt_fault.specs.declared.fault.Why.TheVariants as why
 use Rattle.mt_defs.specs.declared.frame.TheConstants.{METHOD_NONE, SIZES_EXTRA}
 use Rattle.mt_defs.specs.declared.mark.Mark.{Mark}
 use Rattle.mt_defs.specs.Folder.{Folder}
@@ -18,7 +18,8 @@ use Rattle.mt_defs.specs.Frames.{Block, IsBlock, IsFileOf, block_bytes, file_of}
 use Rattle.mt_defs.specs.Lists.{AreBytes}
 use Rattle.mt_defs.specs.Marks.{entry_bytes, mark_bytes, marks_bytes, u64_bytes}
 use Rattle.mt_item.proofs.ItemBytes.{number_bytes}
-use Rattle.mt_granules.specs.FileFaults.{file_at, file_fault, file_reading}
+use Rattle.mt_fault.specs.Faults.{file_fault}
+use Rattle.mt_granules.specs.FileFaults.{file_at, file_reading}
 
 abbrev IsByte : ℕ → Type 0
 IsByte byte = byte < 256

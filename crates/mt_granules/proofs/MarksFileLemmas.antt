@@ -3,8 +3,8 @@ use Rattle.std.proofs.Common.{◌≡◌, ℕ, zero, suc, ◌*◌, ◌/◌, ◌%�
 use Rattle.std.specs.Prelude.{Result, Ok, Err, if◌then◌else◌, ◌==◌, nat_le}
 use Rattle.std.proofs.lemmas.Bool.{leb-true, eqb-true}
 use Rattle.std.proofs.lemmas.List.{take_at, drop_at, length-append}
-use Rattle.mt_shelf.specs.declared.fault.Why.{Why}
-use Rattle.mt_shelf.specs.declared.fault.Why.TheVariants as why
+use Rattle.mt_fault.specs.declared.fault.Why.{Why}
+use Rattle.mt_fault.specs.declared.fault.Why.TheVariants as why
 use Rattle.mt_types.specs.Steps.{ok_or}
 use Rattle.mt_types.proofs.StepLemmas.{ok_then, ok_one, required}
 use Rattle.mt_defs.specs.declared.mark.Mark.{Mark}

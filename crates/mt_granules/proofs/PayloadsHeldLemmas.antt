@@ -24,10 +24,11 @@ use Rattle.mt_marks.specs.Positions.{position_of}
 use Rattle.mt_marks.proofs.DenotedLemmas.{position_denotes}
 use Rattle.mt_marks.proofs.RawLemmas.{all_marks, all_rows}
 use Rattle.mt_marks.proofs.WordLemmas.{HasWords, places_fit}
-use Rattle.mt_granules.specs.FileFaults.{blame, file_reading, frame_fault, marks_fault}
+use Rattle.mt_fault.specs.Faults.{blame}
+use Rattle.mt_granules.specs.FileFaults.{file_reading, frame_fault, marks_fault}
 use Rattle.mt_granules.specs.PayloadReading.{GranulePayloads, frames_in, granules_of, mark_count, payloads_of, payloads_reading, pieces, positions_of}
 use Rattle.std.specs.List.Sorted.{IsNonDecreasingBy}
-use Rattle.mt_granules.proofs.StepLemmas.{blame_ok}
+use Rattle.mt_fault.proofs.FaultLemmas.{blame_ok}
 use Rattle.mt_granules.proofs.DataFileLemmas.{length-offsets}
 use Rattle.mt_granules.proofs.RowLemmas.{sum-cons}
 use Rattle.mt_granules.proofs.RuleLemmas.{Rises, all_entries, climb_all, entries_rows, joined}

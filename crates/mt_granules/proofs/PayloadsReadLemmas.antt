@@ -8,8 +8,8 @@ use Rattle.std.proofs.lemmas.Nat.{mul-le}
 use Rattle.std.proofs.lemmas.List.Elements.{All-nil, All-cons, All-head, All-tail, All-append}
 use Rattle.mt_types.specs.Steps.{◌>>=◌, require, ok_or}
 use Rattle.mt_types.proofs.StepLemmas.{passed, then_of}
-use Rattle.mt_shelf.specs.declared.fault.Why.{Why}
-use Rattle.mt_shelf.specs.declared.fault.Why.TheVariants as why
+use Rattle.mt_fault.specs.declared.fault.Why.{Why}
+use Rattle.mt_fault.specs.declared.fault.Why.TheVariants as why
 use Rattle.mt_table.specs.Rows.{Pointwise}
 use Rattle.mt_defs.specs.declared.frame.Frame.{Frame}
 use Rattle.mt_defs.specs.declared.frame.TheConstants.{MAX_PAYLOAD}
@@ -31,7 +31,8 @@ use Rattle.mt_marks.specs.Positions.{position_of}
 use Rattle.mt_marks.proofs.DenotedLemmas.{position_denotes}
 use Rattle.mt_marks.proofs.RawLemmas.{all_marks, all_rows}
 use Rattle.mt_marks.proofs.WrittenLemmas.{written_read}
-use Rattle.mt_granules.specs.FileFaults.{blame, file_reading, frame_fault, marks_fault}
+use Rattle.mt_fault.specs.Faults.{blame}
+use Rattle.mt_granules.specs.FileFaults.{file_reading, frame_fault, marks_fault}
 use Rattle.mt_granules.specs.PayloadReading.{GranulePayloads, frames_in, granules_of, mark_count, payload_in, payloads_of, payloads_reading, pieces, positions_of}
 use Rattle.mt_granules.proofs.DataFileLemmas.{length-offsets}
 use Rattle.mt_granules.proofs.RowLemmas.{sum-cons}

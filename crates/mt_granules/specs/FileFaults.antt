@@ -6,26 +6,15 @@ use Rattle.mt_types.specs.Bytes.{is_byte}
 use Rattle.mt_types.specs.Steps.{◌>>=◌, ok_or, onto}
 use Rattle.mt_item.specs.declared.fault.CodecWhy.{CodecWhy}
 use Rattle.mt_item.specs.declared.fault.CodecWhy.TheVariants as codec
-use Rattle.mt_shelf.specs.declared.fault.Why.{Why}
-use Rattle.mt_shelf.specs.declared.fault.Why.TheVariants as why
-use Rattle.mt_shelf.specs.declared.fault.Fault.{Fault}
+use Rattle.mt_fault.specs.declared.fault.Why.{Why}
+use Rattle.mt_fault.specs.declared.fault.Why.TheVariants as why
+use Rattle.mt_fault.specs.declared.fault.Fault.{Fault}
+use Rattle.mt_fault.specs.Faults.{Judged, file_fault, offset_fault}
 use Rattle.mt_frame.specs.declared.fault.FrameWhy.{FrameWhy}
 use Rattle.mt_frame.specs.declared.fault.FrameWhy.TheVariants as frame
 use Rattle.mt_defs.specs.Folder.{Folder}
 
--- what is read of a folder's files, or their first fault
-abbrev pub Judged : Type 0 → Type 0
-Judged A = Result A Fault
-
 -- ---- the faults
-
--- of a whole file
-abbrev pub file_fault : List ℕ → Why → Fault
-file_fault file reason = record { file = file; granule = None; at = None; why = reason }
-
--- in a granule
-abbrev pub granule_fault : List ℕ → ℕ → Why → Fault
-granule_fault file granule reason = record { file = file; granule = Some granule; at = None; why = reason }
 
 -- what is wrong with a frame
 abbrev pub frame_why : FrameWhy → Why
@@ -36,7 +25,7 @@ frame_why frame.TooLong = why.TooLong
 
 -- at the offset at which no frame stands
 abbrev pub frame_fault : List ℕ → ℕ × FrameWhy → Fault
-frame_fault file (offset, reason) = record { file = file; granule = None; at = Some offset; why = frame_why reason }
+frame_fault file (offset, reason) = offset_fault file offset (frame_why reason)
 
 -- of a marks file: the first broken rule, in the granule of its entry
 abbrev pub marks_fault : List ℕ → Option ℕ × Why → Fault
@@ -52,11 +41,6 @@ codec_why codec.HasByte = why.HasByte
 codec_why codec.TooLong = why.TooLong
 
 -- ---- the steps
-
--- what is wrong, as a fault
-abbrev pub blame : {A E : Type 0} → (E → Fault) → Result A E → Judged A
-blame fault (Ok x) = Ok x
-blame fault (Err e) = Err (fault e)
 
 -- the file of a name in a folder: a list with a number above 255 is no file
 abbrev pub file_at : Folder → List ℕ → Option (List ℕ)

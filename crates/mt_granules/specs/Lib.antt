@@ -1,7 +1,6 @@
 pub mod CellColumns
 pub mod DataFiles
 pub mod FileFaults
-pub mod Results
 pub mod FileOrder
 pub mod FileFolder
 pub mod PayloadReading

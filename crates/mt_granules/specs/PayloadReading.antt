@@ -2,7 +2,7 @@
 -- (ClickHouse: MergeTreeReaderStream).
 use Rattle.std.specs.Prelude.{◌≡◌, ℕ, ◌+◌, ◌-◌, ◌*◌, ◌==◌, Bool, true, false, List, [], ◌∷◌, length, map, take, drop, sum, Option, Some, None, Result, Ok, Err, unwrap_or, refl}
 use Rattle.mt_types.specs.Steps.{◌>>=◌, require, ok_or}
-use Rattle.mt_shelf.specs.declared.fault.Why.TheVariants as why
+use Rattle.mt_fault.specs.declared.fault.Why.TheVariants as why
 use Rattle.mt_defs.specs.declared.frame.Frame.{Frame}
 use Rattle.mt_defs.specs.Folder.{Folder}
 use Rattle.mt_defs.specs.Frames.{Block, payload_of}
@@ -14,7 +14,8 @@ use Rattle.mt_frame.specs.FrameReading.{frames_reading, layout}
 use Rattle.mt_marks.specs.declared.marks.Marks.{Marks}
 use Rattle.mt_marks.specs.MarkReading.{marks_reading}
 use Rattle.mt_marks.specs.Positions.{position_of}
-use Rattle.mt_granules.specs.FileFaults.{Judged, blame, file_fault, file_reading, frame_fault, marks_fault}
+use Rattle.mt_fault.specs.Faults.{Judged, blame, file_fault}
+use Rattle.mt_granules.specs.FileFaults.{file_reading, frame_fault, marks_fault}
 
 -- ---- the frames of a data file
 

@@ -3,7 +3,7 @@
 ghost use Rattle.std.specs.Prelude.{IsSorted};
 ghost use Rattle.mt_granules.specs.FileOrder.{files_in, name_cmp};
 
-use mt_shelf::FileBytes;
+use mt_fault::FileBytes;
 
 /// Files that are found by halves: of two of one name, the first.
 #[derive(Drop)]

@@ -3,17 +3,16 @@
 ghost use Rattle.std.specs.Prelude.{◌≡◌, ◌<◌, IfOk, option_copied, slice_index_or, vec_len};
 ghost use Rattle.std.specs.Ordering.{nat_cmp};
 ghost use Rattle.std.specs.Cmp.Lexicographic.{slice_cmp};
-ghost use Rattle.mt_shelf.specs.declared.file.FileBytes.{FileBytes as Entry};
+ghost use Rattle.mt_fault.specs.declared.file.FileBytes.{FileBytes as Entry};
 ghost use Rattle.mt_defs.specs.Folder.{folder_of};
 ghost use Rattle.mt_granules.specs.FileFaults.{file_reading};
 ghost use Rattle.mt_granules.specs.FileFolder.{folder_in};
 ghost use Rattle.mt_granules.specs.FileOrder.{IsLowerBound, files_in};
-ghost use Rattle.mt_granules.specs.Results.{Shows};
+ghost use Rattle.mt_fault.specs.Results.{Shows};
 
-use crate::fault::{FileError, file_fault};
 use crate::file_index::FileIndex;
 use mt_codec::know_bytes;
-use mt_shelf::{FileBytes, Why};
+use mt_fault::{FileBytes, FileError, Why, file_fault};
 use mt_types::NoMemory;
 use std::alloc::Global;
 use std::cmp::Ordering;

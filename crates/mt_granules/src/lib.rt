@@ -7,18 +7,18 @@
 
 mod columns;
 mod data_file;
-mod fault;
 mod file_index;
 mod files;
 mod payload;
 mod payloads;
 mod reading;
+mod reason;
 mod rows;
 
 pub use columns::encode_column;
 pub use data_file::{DataFile, MarkedData};
-pub use fault::{FileError, codec_why, file_fault, granule_fault};
 pub use file_index::FileIndex;
 pub use payloads::{Payload, Payloads};
-pub use reading::{read_granules, read_payloads};
+pub use reading::{frame_why, read_granules, read_payloads};
+pub use reason::codec_why;
 pub use rows::{append_column, first_rows};

@@ -5,19 +5,19 @@ ghost use Rattle.mt_defs.specs.Lists.{AreBytes};
 ghost use Rattle.mt_marks.specs.declared.marks.TheConstants.{MAX_PER_GRANULE};
 ghost use Rattle.mt_marks.specs.Entries.{AreMarks};
 ghost use Rattle.mt_marks.specs.MarkReading.{marks_reading};
-ghost use Rattle.mt_granules.specs.FileFaults.{blame, frame_fault, frame_why, marks_fault};
+ghost use Rattle.mt_fault.specs.Faults.{blame};
+ghost use Rattle.mt_granules.specs.FileFaults.{frame_fault, frame_why, marks_fault};
 ghost use Rattle.mt_granules.specs.FileFolder.{folder_in};
 ghost use Rattle.mt_granules.specs.PayloadReading.{frames_in, granules_of, granules_reading, payloads_reading};
 ghost use Rattle.mt_granules.specs.PayloadView.{payloads_in};
-ghost use Rattle.mt_granules.specs.Results.{Gives, Shows};
+ghost use Rattle.mt_fault.specs.Results.{Gives, Shows};
 
-use crate::fault::{FileError, fault_at, file_fault};
 use crate::file_index::FileIndex;
 use crate::payloads::Payloads;
 use crate::rows::sum_of;
+use mt_fault::{FileError, Why, file_fault, marks_fault, offset_fault};
 use mt_frame::{FrameError, FrameWhy, Frames, frames_of};
 use mt_marks::{Marks, MarksError, read_mrk3};
-use mt_shelf::Why;
 use std::alloc::Global;
 
 /// The payloads of a data file and its marks file, which has so many marks for each granule; or the first
@@ -75,19 +75,15 @@ fn read_frames(alloc: Global, name: &[u8], file: &[u8]) -> Result<Frames, FileEr
 {
     match frames_of(alloc, file) {
         Ok(frames) => Ok(frames),
-        Err(FrameError::At { offset, why }) => Err(fault_at(
-            alloc,
-            name,
-            None,
-            Some(offset),
-            frame_why(why),
-        )),
+        Err(FrameError::At { offset, why }) => {
+            Err(offset_fault(alloc, name, offset, frame_why(why)))
+        }
         Err(FrameError::NoMemory) => Err(FileError::NoMemory),
-        Err(FrameError::Shelf) => unreachable!(),
     }
 }
 
-fn frame_why(why: FrameWhy) -> Why
+/// What is wrong with a frame, as a fault's reason.
+pub fn frame_why(why: FrameWhy) -> Why
     ensures { result ≡ frame_why why }
 {
     match why {
@@ -113,7 +109,7 @@ fn read_marks(
 {
     match read_mrk3(alloc, bytes, per_granule, frames) {
         Ok(marks) => Ok(marks),
-        Err(MarksError::At { granule, why }) => Err(fault_at(alloc, name, granule, None, why)),
+        Err(MarksError::At { granule, why }) => Err(marks_fault(alloc, name, granule, why)),
         Err(MarksError::NoMemory) => Err(FileError::NoMemory),
     }
 }

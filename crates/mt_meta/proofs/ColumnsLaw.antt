@@ -1,4 +1,4 @@
--- A text that is read lists each of the columns once.
+-- A text that is read lists columns that it may list.
 use Rattle.std.proofs.Common.{◌≡◌, ℕ, ◌<◌, Bool, true, false, List, [], ◌∷◌, ◌++◌, length, get_or, map, Option, Some, None, Ok, refl, sym, ap, ◌∙◌, arith, append_assoc}
 use Rattle.std.specs.Prelude.{option_map, option_and_then, if◌then◌else◌, ◌&&◌, position}
 use Rattle.std.specs.Str.{bytes_eq}
@@ -7,16 +7,16 @@ use Rattle.std.proofs.lemmas.Slice.Eq.{bytes_eq-Decides}
 use Rattle.std.proofs.lemmas.List.{length-map, get_or-map}
 use Rattle.std.proofs.lemmas.List.Splits.{join_with_byte-slice_split}
 use Rattle.std.proofs.lemmas.List.Quantifiers.{position-Some}
-use Rattle.mt_shelf.specs.declared.fault.Why.{Why}
-use Rattle.mt_shelf.specs.declared.fault.Why.TheVariants.{Syntax, Columns}
+use Rattle.mt_fault.specs.declared.fault.Why.{Why}
+use Rattle.mt_fault.specs.declared.fault.Why.TheVariants.{Syntax, Columns}
 use Rattle.mt_table.specs.declared.column.Column.{Column}
-use Rattle.mt_defs.specs.Metadata.{column_at, column_line, columns_text, no_column}
+use Rattle.mt_defs.specs.Metadata.{column_at, column_line, columns_text, may_list, no_column}
 use Rattle.mt_types.specs.Steps.{◌>>=◌, ok_or}
 use Rattle.mt_meta.specs.declared.ascii.TheConstants.{LINE_END}
-use Rattle.mt_meta.specs.ColumnsReading.{is_column_line, column_lines, version_line, count_line, if_headed, listing_of, listing, is_line, order_of, is_each_once, if_each_once, columns_reading, Lists}
+use Rattle.mt_meta.specs.ColumnsReading.{is_column_line, column_lines, version_line, count_line, if_headed, listing_of, listing, is_line, order_of, if_listed, columns_reading, Lists}
 use Rattle.mt_meta.proofs.SplitLemmas.{at_byte}
 use Rattle.mt_meta.proofs.ListingLemmas.{lines_cut}
-use Rattle.mt_meta.proofs.EachOnce.{both, each_once_is}
+use Rattle.mt_types.proofs.StepLemmas.{both_true as both}
 use Rattle.mt_meta.proofs.ColumnsLemmas.{order_step, order_none, order_length}
 
 -- a line with its end
@@ -95,13 +95,13 @@ lines_are columns (line ∷ lines) order e =
 
 -- ---- all together
 
-chosen_is : (count : ℕ) (found : Option (List ℕ)) (order : List ℕ) → option_and_then (if_each_once count) found ≡ Some order → (found ≡ Some order) × (is_each_once count order ≡ true)
-chosen_is count None order e = cc
-chosen_is count (Some found) order e = once (is_each_once count found) refl e
+chosen_is : (columns : List Column) (must : List ℕ) (found : Option (List ℕ)) (order : List ℕ) → option_and_then (if_listed columns must) found ≡ Some order → (found ≡ Some order) × (may_list columns must order ≡ true)
+chosen_is columns must None order e = cc
+chosen_is columns must (Some found) order e = may (may_list columns must found) refl e
   where
-    once : (ok : Bool) → is_each_once count found ≡ ok → (if ok then Some found else None) ≡ Some order → (Some found ≡ Some order) × (is_each_once count order ≡ true)
-    once false is e = cc
-    once true is e = let same : found ≡ order = cc in (e, ap (is_each_once count) (sym same) ∙ is)
+    may : (ok : Bool) → may_list columns must found ≡ ok → (if ok then Some found else None) ≡ Some order → (Some found ≡ Some order) × (may_list columns must order ≡ true)
+    may false is e = cc
+    may true is e = let same : found ≡ order = cc in (e, ap (may_list columns must) (sym same) ∙ is)
 
 text_same : (lines : List (List ℕ)) (columns : List Column) → length lines ≡ length columns → flat_map ended lines ≡ flat_map column_line columns → text_of lines ≡ columns_text columns
 text_same lines columns long same = rw (long, same) (simp append_assoc)
@@ -110,19 +110,19 @@ ok_is : (why : Why) (found : Option (List ℕ)) (order : List ℕ) → ok_or why
 ok_is why None order e = cc
 ok_is why (Some found) order e = cc
 
-reading_of : (columns : List Column) (found : Option (List (List ℕ))) (order : List ℕ)
-    → (ok_or Syntax found >>= λ lines. ok_or Columns (option_and_then (if_each_once (length columns)) (order_of (map column_line columns) lines))) ≡ Ok order
-    → (lines : List (List ℕ)) × (found ≡ Some lines) × (option_and_then (if_each_once (length columns)) (order_of (map column_line columns) lines) ≡ Some order)
-reading_of columns None order e = cc
-reading_of columns (Some lines) order e = (lines, refl, ok_is Columns _ order e)
+reading_of : (columns : List Column) (must : List ℕ) (found : Option (List (List ℕ))) (order : List ℕ)
+    → (ok_or Syntax found >>= λ lines. ok_or Columns (option_and_then (if_listed columns must) (order_of (map column_line columns) lines))) ≡ Ok order
+    → (lines : List (List ℕ)) × (found ≡ Some lines) × (option_and_then (if_listed columns must) (order_of (map column_line columns) lines) ≡ Some order)
+reading_of columns must None order e = cc
+reading_of columns must (Some lines) order e = (lines, refl, ok_is Columns _ order e)
 
-pub read_lists : (columns : List Column) (order : List ℕ) (text : List ℕ) → columns_reading columns text ≡ Ok order → Lists columns order text
+pub read_lists : (columns : List Column) (must order text : List ℕ) → columns_reading columns must text ≡ Ok order → Lists columns must order text
 unfolding columns_reading
-read_lists columns order text e =
-    let r = reading_of columns (listing text) order e in
-    let c = chosen_is (length columns) (order_of (map column_line columns) r.0) order r.2 in
+read_lists columns must order text e =
+    let r = reading_of columns must (listing text) order e in
+    let c = chosen_is columns must (order_of (map column_line columns) r.0) order r.2 in
     let long : length r.0 ≡ length (map (column_at columns) order) = sym (order_length (map column_line columns) r.0 order c.0) ∙ sym (length-map order (column_at columns)) in
     record {
-      each_once = each_once_is (length columns) order c.1;
+      may = c.1;
       listed = text_is text r.0 r.1 ∙ text_same r.0 (map (column_at columns) order) long (lines_are columns r.0 order c.0);
     }

@@ -1,31 +1,27 @@
 -- What a columns.txt is read as, from its parts.
-use Rattle.std.proofs.Common.{◌≡◌, ℕ, List, [], ◌∷◌, length, map, Option, Some, None, Result, Err, refl, sym, ap, ◌∙◌, arith}
+use Rattle.std.proofs.Common.{◌≡◌, ℕ, ◌<◌, true, List, [], ◌∷◌, length, map, Option, Some, None, Result, Err, refl, sym, ap, ◌∙◌, arith}
 use Rattle.std.specs.Prelude.{option_map, option_and_then, position}
-use Rattle.std.proofs.lemmas.Bool.{ne_eqb}
-use Rattle.std.proofs.lemmas.List.{length-map}
-use Rattle.mt_shelf.specs.declared.fault.Fault.{Fault}
-use Rattle.mt_shelf.specs.declared.fault.Why.TheVariants.{Syntax, Columns}
-use Rattle.mt_shelf.specs.declared.fault.ReadError.{ReadError}
-use Rattle.mt_shelf.specs.declared.fault.ReadError.TheVariants.{AtFault, Shelf, NoMemory}
+use Rattle.std.proofs.lemmas.Bool.{false_from_ne_true}
+use Rattle.mt_fault.specs.declared.fault.Fault.{Fault}
+use Rattle.mt_fault.specs.declared.fault.Why.TheVariants.{Syntax, Columns}
+use Rattle.mt_fault.specs.declared.error.FileError.{FileError}
+use Rattle.mt_fault.specs.declared.error.FileError.TheVariants.{AtFault, NoMemory}
 use Rattle.mt_table.specs.declared.column.Column.{Column}
-use Rattle.mt_defs.specs.Metadata.{column_line}
+use Rattle.mt_defs.specs.Metadata.{column_line, may_list}
+use Rattle.mt_defs.proofs.ListedColumns.{listed_few}
 use Rattle.mt_types.specs.Steps.{ok_or}
-use Rattle.mt_meta.specs.ColumnsReading.{listing, is_line, order_of, if_each_once, columns_reading}
-use Rattle.mt_meta.specs.Results.{FailsAs, IsFault}
+use Rattle.mt_meta.specs.ColumnsReading.{listing, is_line, order_of, if_listed, columns_reading}
+use Rattle.mt_fault.specs.Results.{FailsAs}
+use Rattle.mt_fault.specs.Results.{IsFault}
 
-pub fault_gives : {A : Type 0} (fault : Fault) (e : ReadError) (reading : Result A Fault) → IsFault fault e → reading ≡ Err fault → FailsAs e reading
-fault_gives {A} fault (AtFault f) reading is r = r ∙ ap (λ (f : Fault). let q : Result A Fault = Err f in q) (sym is)
-fault_gives fault Shelf reading is r = is
-fault_gives fault NoMemory reading is r = tt
-
-pub reading_syntax : (columns : List Column) (text : List ℕ) → listing text ≡ None → columns_reading columns text ≡ Err Syntax
+pub reading_syntax : (columns : List Column) (must text : List ℕ) → listing text ≡ None → columns_reading columns must text ≡ Err Syntax
 unfolding columns_reading
-reading_syntax columns text e = rw e refl
+reading_syntax columns must text e = rw e refl
 
-pub reading_is : (columns : List Column) (text : List ℕ) (lines : List (List ℕ)) → listing text ≡ Some lines
-    → columns_reading columns text ≡ ok_or Columns (option_and_then (if_each_once (length columns)) (order_of (map column_line columns) lines))
+pub reading_is : (columns : List Column) (must text : List ℕ) (lines : List (List ℕ)) → listing text ≡ Some lines
+    → columns_reading columns must text ≡ ok_or Columns (option_and_then (if_listed columns must) (order_of (map column_line columns) lines))
 unfolding columns_reading
-reading_is columns text lines e = rw e refl
+reading_is columns must text lines e = rw e refl
 
 -- ---- as many indexes as lines
 
@@ -53,16 +49,19 @@ order_length columns (line ∷ lines) order e =
     let s = order_step columns line lines order e in
     ap length s.4 ∙ omega (arith, order_length columns lines s.1 s.3)
 
-too_few : (count : ℕ) (order : Option (List ℕ)) → ((found : List ℕ) → order ≡ Some found → length found ≡ count → ⊥) → option_and_then (if_each_once count) order ≡ None
-too_few count None ne = refl
-too_few count (Some found) ne = rw (ne_eqb (length found) count (ne found refl)) refl
+if_none : (columns : List Column) (must : List ℕ) (order : Option (List ℕ)) → ((found : List ℕ) → order ≡ Some found → may_list columns must found ≡ true → ⊥) → option_and_then (if_listed columns must) order ≡ None
+if_none columns must None ne = refl
+if_none columns must (Some found) ne = rw (false_from_ne_true (may_list columns must found) (ne found refl)) refl
 
-pub other_count : (columns lines : List (List ℕ)) (count : ℕ) → (length lines ≡ count → ⊥) → option_and_then (if_each_once count) (order_of columns lines) ≡ None
-other_count columns lines count ne = too_few count (order_of columns lines) (λ found e same. ne (sym (order_length columns lines found e) ∙ same))
+-- more lines than there are columns
+pub too_many : (columns : List Column) (must : List ℕ) (lines : List (List ℕ)) → length columns < length lines → option_and_then (if_listed columns must) (order_of (map column_line columns) lines) ≡ None
+too_many columns must lines more =
+    if_none columns must (order_of (map column_line columns) lines) (λ found e may.
+    let long = order_length (map column_line columns) lines found e in
+    let few = listed_few columns must found may in
+    omega (arith, more, long, few))
 
 -- the order that was found decides
-pub reading_found : (columns : List Column) (text : List ℕ) (lines : List (List ℕ)) (found : Option (List ℕ)) → listing text ≡ Some lines
-    → found ≡ option_and_then (if_each_once (length (map column_line columns))) (order_of (map column_line columns) lines) → columns_reading columns text ≡ ok_or Columns found
-reading_found columns text lines found e is =
-    reading_is columns text lines e
-    ∙ ap (ok_or Columns) (ap (λ (count : ℕ). option_and_then (if_each_once count) (order_of (map column_line columns) lines)) (sym (length-map columns column_line)) ∙ sym is)
+pub reading_found : (columns : List Column) (must text : List ℕ) (lines : List (List ℕ)) (found : Option (List ℕ)) → listing text ≡ Some lines
+    → found ≡ option_and_then (if_listed columns must) (order_of (map column_line columns) lines) → columns_reading columns must text ≡ ok_or Columns found
+reading_found columns must text lines found e is = reading_is columns must text lines e ∙ ap (ok_or Columns) (sym is)

@@ -1,5 +1,6 @@
 -- A value's bytes are those of no other value, whatever follows.
-use Rattle.std.proofs.Common.{◌≡◌, ℕ, ◌<◌, pos, true, List, ◌++◌, Ok, ap, sym, ◌∙◌}
+use Rattle.std.proofs.Common.{◌≡◌, ℕ, ◌<◌, pos, true, List, ◌++◌, Ok, refl, ap, sym, ◌∙◌}
+use Rattle.mt_types.specs.declared.ty.Width.TheVariants.{W16}
 use Rattle.mt_types.specs.declared.ty.Ty.{Ty}
 use Rattle.mt_types.specs.declared.ty.Ty.TheVariants.{Date}
 use Rattle.mt_types.specs.declared.value.Value.{Value}
@@ -9,12 +10,12 @@ use Rattle.mt_types.specs.Items.{item_bytes}
 use Rattle.mt_item.specs.ItemReading.{First, item_front}
 use Rattle.mt_item.specs.ItemTypes.{is_scalar}
 use Rattle.mt_item.proofs.ItemLemmas.{item_exact}
-use Rattle.mt_item.proofs.NumberLemmas.{numbers_Date}
+use Rattle.mt_item.proofs.NumberLemmas.{narrow_num, numbers_Date}
 use Rattle.mt_item.proofs.TypeLemmas.{scalar_has_items}
 
 -- the value of a day
 pub day_is : (v : Value) → fits_of Date v ≡ true → (n : ℕ) × (v ≡ Num (pos n)) × (n < 65536)
-day_is v f = numbers_Date.values v f
+day_is v f = let day = numbers_Date.values v f in (day.0, day.1 ∙ narrow_num W16 refl day.0 day.2, day.2)
 
 same_first : (p q : Value × List ℕ) → (let r : First Value = Ok p in r) ≡ Ok q → p ≡ q
 same_first p q e = cc

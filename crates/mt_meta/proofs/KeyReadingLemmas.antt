@@ -9,18 +9,18 @@ use Rattle.mt_types.specs.declared.ty.Ty.{Ty}
 use Rattle.mt_types.specs.declared.value.Value.{Value}
 use Rattle.mt_types.specs.Fits.{fits_of}
 use Rattle.mt_types.specs.Items.{item_bytes}
-use Rattle.mt_shelf.specs.declared.fault.Why.TheVariants.{Key}
-use Rattle.mt_shelf.specs.declared.fault.ReadError.{ReadError}
-use Rattle.mt_shelf.specs.declared.fault.ReadError.TheVariants.{AtFault, Shelf, NoMemory}
+use Rattle.mt_fault.specs.declared.fault.Why.TheVariants.{Key}
+use Rattle.mt_fault.specs.declared.error.FileError.{FileError}
+use Rattle.mt_fault.specs.declared.error.FileError.TheVariants.{AtFault, NoMemory}
 use Rattle.mt_table.specs.declared.column.Column.{Column}
 use Rattle.mt_defs.specs.Metadata.{column_at, no_column}
 use Rattle.mt_defs.specs.PrimaryIndex.{index_name}
 use Rattle.mt_defs.specs.Rows.{Row}
 use Rattle.std.proofs.lemmas.List.Elements.{All-take}
 use Rattle.mt_meta.specs.Keys.{AreKeys, is_scalar}
-use Rattle.mt_meta.specs.Results.{IsFault}
+use Rattle.mt_fault.specs.Results.{IsFault}
 use Rattle.mt_meta.specs.KeyReading.{fits_key, key_items, types_of, IsFirst, AreKeysOf, GivesAll, GivesKeys, ReturnsKeys}
-use Rattle.mt_meta.proofs.EachOnce.{both}
+use Rattle.mt_types.proofs.StepLemmas.{both_true as both}
 
 -- ---- the values of a key
 
@@ -156,10 +156,10 @@ keys_more types bytes keys key rest after first goes = record {
 
 -- ---- what is returned
 
-abbrev pub Returns : List Ty → ℕ → List ℕ → Result (List Row) ReadError → Type 0
+abbrev pub Returns : List Ty → ℕ → List ℕ → Result (List Row) FileError → Type 0
 Returns types count bytes result = GivesKeys types count bytes result × ((keys : List Row) → AreKeysOf types count bytes keys → ReturnsKeys keys result)
 
-pub no_key : (types : List Ty) (count : ℕ) (bytes : List ℕ) (keys : List Row) (rest : List ℕ) (e : ReadError) → IsFirst (fits_key types) (key_items types) rest None → KeysGoOn types bytes keys rest → length keys < count
+pub no_key : (types : List Ty) (count : ℕ) (bytes : List ℕ) (keys : List Row) (rest : List ℕ) (e : FileError) → IsFirst (fits_key types) (key_items types) rest None → KeysGoOn types bytes keys rest → length keys < count
     → IsFault (record { file = index_name; granule = Some (length keys); at = None; why = Key }) e → Returns types count bytes (Err e)
 no_key types count bytes keys rest (AtFault f) first goes few is = (
   record { keys = keys; rest = rest; fit = goes.fit; items = goes.items; wrong = inl (is, few, λ key more fits e. not_none (key, more) (first.only key more fits e)) },
@@ -167,14 +167,13 @@ no_key types count bytes keys rest (AtFault f) first goes few is = (
       let a = another types bytes keys rest goes whole are.fit are.items (omega (arith, few, are.many)) in
       absurd (not_none (a.0, flat_map (key_items types) a.1) (first.only a.0 (flat_map (key_items types) a.1) a.3 a.5)),
 )
-no_key types count bytes keys rest Shelf first goes few is = absurd is
 no_key types count bytes keys rest NoMemory first goes few is = (tt, λ whole are. tt)
 
 none_after : (keys later : List Row) (count : ℕ) (whole : List Row) → whole ≡ keys ++ later → length whole ≡ count → length keys ≡ count → later ≡ []
 none_after keys [] count whole is long few = refl
 none_after keys (key ∷ later) count whole is long few = absurd (omega (arith, ap length is, length-append keys (key ∷ later), long, few))
 
-pub all_keys : (types : List Ty) (count : ℕ) (bytes : List ℕ) (keys : List Row) (rest : List ℕ) (result : Result (List Row) ReadError) → KeysGoOn types bytes keys rest → length keys ≡ count → GivesAll keys rest result
+pub all_keys : (types : List Ty) (count : ℕ) (bytes : List ℕ) (keys : List Row) (rest : List ℕ) (result : Result (List Row) FileError) → KeysGoOn types bytes keys rest → length keys ≡ count → GivesAll keys rest result
     → Returns types count bytes result
 all_keys types count bytes keys rest (Ok found) goes many (is, none) = (
   record {
@@ -192,7 +191,6 @@ all_keys types count bytes keys rest (Err (AtFault f)) goes many (is, some) = (
       let o = goes.on whole are.fit are.items (omega (arith, many, are.many)) in
       absurd (some (o.3 ∙ ap (flat_map (key_items types)) (none_after keys o.0 count whole o.1 are.many many))),
 )
-all_keys types count bytes keys rest (Err Shelf) goes many (is, some) = absurd is
 all_keys types count bytes keys rest (Err NoMemory) goes many (is, some) = (tt, λ whole are. tt)
 
 -- the first of some keys

@@ -3,7 +3,6 @@ mod KeyReadingLemmas
 mod KeyLemmas
 mod PlainLemmas
 mod ListedLemmas
-mod EachOnce
 mod ColumnsLaw
 mod ColumnsLemmas
 mod OrderLemmas

@@ -1,15 +1,14 @@
--- A text that lists each of the columns once is read.
+-- A text that lists columns that it may list is read.
 use Rattle.std.proofs.Common.{◌≡◌, ◌≢◌, ℕ, ◌<◌, ◌≤◌, ◌^◌, Bool, true, false, List, [], ◌∷◌, ◌++◌, length, get_or, drop, map, Option, Some, None, Ok, refl, sym, ap, ◌∙◌, arith, append_assoc, lit<}
 use Rattle.std.specs.Prelude.{codes, option_map, option_and_then, if◌then◌else◌, ◌&&◌, position}
 use Rattle.std.specs.Fmt.{decimal}
 use Rattle.std.specs.Str.{bytes_eq}
-use Rattle.std.specs.List.{slice_split, flat_map, range_with_len, position_or_len, AllByRecursion}
+use Rattle.std.specs.List.{slice_split, flat_map, position_or_len, AllByRecursion}
 use Rattle.std.proofs.lemmas.Slice.Eq.{bytes_eq-Decides}
 use Rattle.std.proofs.lemmas.Bool.{lt-ltb, false_from_ne_true}
 use Rattle.std.proofs.lemmas.List.{length-map, get_or-map}
 use Rattle.std.proofs.lemmas.List.Sums.{position_or_len_is}
-use Rattle.std.proofs.lemmas.List.Sorted.{length_permutation}
-use Rattle.std.proofs.lemmas.List.FromFn.{length-range_with_len}
+use Rattle.std.proofs.lemmas.List.Elements.{recursion_from_All}
 use Rattle.mt_types.specs.Names.{type_name}
 use Rattle.mt_table.specs.declared.column.Column.{Column}
 use Rattle.mt_table.specs.declared.limits.TheConstants.{MAX_COLUMNS}
@@ -19,7 +18,7 @@ use Rattle.mt_meta.specs.Splitting.{split_once}
 use Rattle.mt_meta.specs.ColumnsReading.{is_named, has_name, is_column_line, column_lines, version_line, count_line, if_headed, listing_of, listing, is_line, order_of, columns_reading, lacks, CanBeListed, Lists}
 use Rattle.mt_meta.proofs.SplitLemmas.{at_byte}
 use Rattle.mt_meta.proofs.ListingLemmas.{lines_step}
-use Rattle.mt_meta.proofs.EachOnce.{is_each_once_of, below_of}
+use Rattle.mt_defs.proofs.ListedColumns.{listed, listed_few}
 use Rattle.mt_meta.proofs.PlainLemmas.{lacks_append, split_after, once_after, decimal_lacks, name_line}
 
 -- a column's line without its end
@@ -131,12 +130,12 @@ unfolding order_of
 order_is columns can [] below = refl
 order_is columns can (i ∷ order) below = rw (found_at columns can i below.0, order_is columns can order below.1) refl
 
-pub lists_read : (columns : List Column) (order text : List ℕ) → CanBeListed columns → Lists columns order text → columns_reading columns text ≡ Ok order
+pub lists_read : (columns : List Column) (must order text : List ℕ) → CanBeListed columns → Lists columns must order text → columns_reading columns must text ≡ Ok order
 unfolding columns_reading
-lists_read columns order text can lists =
-    let below = below_of (length columns) order lists.each_once in
+lists_read columns must order text can lists =
+    let below = recursion_from_All (λ i. i < length columns) order (listed columns must order lists.may).known in
     let chosen = map (column_at columns) order in
-    let once = is_each_once_of (length columns) order lists.each_once in
-    let long : length chosen ≡ length columns = length-map order (column_at columns) ∙ length_permutation (range_with_len 0 (length columns)) order lists.each_once ∙ length-range_with_len 0 (length columns) in
-    let lines : listing text ≡ Some (map plain_line chosen) = ap listing lists.listed ∙ listing_text chosen (omega (arith, long, can.few)) (are_listable columns can order below) in
-    rw (lines, order_is columns can order below, once) refl
+    let long = length-map order (column_at columns) in
+    let few = listed_few columns must order lists.may in
+    let lines : listing text ≡ Some (map plain_line chosen) = ap listing lists.listed ∙ listing_text chosen (omega (arith, long, few, can.few)) (are_listable columns can order below) in
+    rw (lines, order_is columns can order below, lists.may) refl

@@ -1,7 +1,6 @@
 -- Which columns lines list, one line after the other.
-use Rattle.std.proofs.Common.{◌≡◌, ℕ, suc, ◌+◌, ◌-◌, ◌<◌, Bool, List, [], ◌∷◌, ◌++◌, Option, Some, None, refl, sym, ap, ◌∙◌, arith, append_assoc, inl, inr}
-use Rattle.std.specs.Prelude.{option_map, option_and_then, position, ◌&&◌, ◌==◌}
-use Rattle.std.specs.List.{list_all, list_any, range_with_len}
+use Rattle.std.proofs.Common.{◌≡◌, ℕ, List, [], ◌∷◌, ◌++◌, Option, Some, None, refl, sym, ap, ◌∙◌, arith, append_assoc, inl, inr}
+use Rattle.std.specs.Prelude.{option_map, option_and_then, position}
 use Rattle.std.proofs.lemmas.Bool.{cases_Bool}
 use Rattle.std.proofs.lemmas.List.{append-nil}
 use Rattle.mt_meta.specs.declared.ascii.TheConstants.{LINE_END}
@@ -76,13 +75,3 @@ pub reaches_end : (columns lines : List (List ℕ)) (order rest : List ℕ) → 
 reaches_end columns lines order rest e (later, is, so_far) =
     let none = ended rest later (ap column_lines (sym (lines_end LINE_END rest e)) ∙ is) in
     ap (λ (xs : List ℕ). let o : Option (List ℕ) = Some xs in o) (sym (append-nil order)) ∙ ap (option_map (λ more. order ++ more)) (sym (order_end columns later none)) ∙ so_far
-
--- ---- each index once
-
-abbrev pub has_from : List ℕ → ℕ → ℕ → Bool
-has_from order first count = list_all (λ i. list_any (λ j. j == i) order) (range_with_len first count)
-
-pub has_next : (order : List ℕ) (first end : ℕ) → first < end → has_from order first (end - first) ≡ (list_any (λ j. j == first) order && has_from order (first + 1) (end - (first + 1)))
-has_next order first end lt =
-    let more : end - first ≡ suc (end - (first + 1)) = omega arith in
-    rw more refl

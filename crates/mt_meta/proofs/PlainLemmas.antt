@@ -11,18 +11,18 @@ use Rattle.std.proofs.lemmas.List.Splits.{slice_split-cons_yes, slice_split-cons
 use Rattle.std.proofs.lemmas.List.Folds.{list_all-append}
 use Rattle.mt_types.specs.declared.limits.TheConstants.{MAX_FIXED_STRING}
 use Rattle.mt_types.specs.declared.ty.Width.{Width}
-use Rattle.mt_types.specs.declared.ty.Width.TheVariants.{W8, W16, W32, W64}
+use Rattle.mt_types.specs.declared.ty.Width.TheVariants.{W8, W16, W32, W64, W128}
 use Rattle.mt_types.specs.declared.ty.Agg.{Agg}
 use Rattle.mt_types.specs.declared.ty.Agg.TheVariants.{Sum, Min, Max}
 use Rattle.mt_types.specs.declared.ty.Ty.{Ty, map-Ty, roll-Ty}
 use Rattle.mt_types.specs.declared.ty.Ty.TheOpen.{Ty-F}
 use Rattle.mt_types.specs.declared.ty.Ty.TheFolds.{fold-roll-Ty, ind-Ty}
 use Rattle.mt_types.specs.Names.{type_name, name_step, state_opening, width_text}
-use Rattle.mt_types.specs.Profile.{Kind, Whole, Day, Bytes, Optional, Nested, Stored, Unknown, kind_of, kind_step, is_known, is_profile, optional_kind, array_kind, state_kind}
+use Rattle.mt_types.specs.Profile.{Kind, Whole, Day, Plain, Optional, Nested, Stored, Unknown, kind_of, kind_step, is_known, is_profile, optional_kind, array_kind, state_kind}
 use Rattle.mt_meta.specs.Splitting.{onto_first, split_once}
 use Rattle.mt_meta.specs.ColumnsReading.{lacks}
 use Rattle.mt_meta.proofs.SplitLemmas.{at_byte}
-use Rattle.mt_meta.proofs.EachOnce.{both}
+use Rattle.mt_types.proofs.StepLemmas.{both_true as both}
 
 both_of : (a b : Bool) → a ≡ true → b ≡ true → (a && b) ≡ true
 both_of a b e f = rw (e, f) refl
@@ -77,7 +77,7 @@ Below = (ty : Ty) × OneLine ty
 optional_inner : (k : Kind) → is_known (optional_kind k) ≡ true → is_known k ≡ true
 optional_inner Whole e = refl
 optional_inner Day e = refl
-optional_inner Bytes e = refl
+optional_inner Plain e = refl
 optional_inner Optional e = cc
 optional_inner (Nested depth) e = cc
 optional_inner Stored e = cc
@@ -87,7 +87,7 @@ array_inner : (k : Kind) → is_known (array_kind k) ≡ true → is_known k ≡
 array_inner Unknown e = cc
 array_inner Whole e = refl
 array_inner Day e = refl
-array_inner Bytes e = refl
+array_inner Plain e = refl
 array_inner Optional e = refl
 array_inner (Nested depth) e = refl
 array_inner Stored e = refl
@@ -95,7 +95,7 @@ array_inner Stored e = refl
 state_inner : (agg : Agg) (k : Kind) → is_known (state_kind agg k) ≡ true → is_known k ≡ true
 state_inner agg Whole e = refl
 state_inner agg Day e = refl
-state_inner agg Bytes e = refl
+state_inner agg Plain e = refl
 state_inner agg Optional e = refl
 state_inner agg (Nested depth) e = refl
 state_inner agg Stored e = refl
@@ -108,6 +108,7 @@ whole_name sign W8 e = lacks_append 10 sign (codes "8") e refl
 whole_name sign W16 e = lacks_append 10 sign (codes "16") e refl
 whole_name sign W32 e = lacks_append 10 sign (codes "32") e refl
 whole_name sign W64 e = lacks_append 10 sign (codes "64") e refl
+whole_name sign W128 e = lacks_append 10 sign (codes "128") e refl
 
 round : (opening name : List ℕ) → lacks 10 opening ≡ true → lacks 10 name ≡ true → lacks 10 (opening ++ name ++ codes ")") ≡ true
 round opening name e f = lacks_append 10 (opening ++ name) (codes ")") (lacks_append 10 opening name e f) refl
@@ -115,7 +116,7 @@ round opening name e f = lacks_append 10 (opening ++ name) (codes ")") (lacks_ap
 size_small : (size : ℕ) → is_known (kind_step (Ty-F.FixedString size)) ≡ true → size < 2 ^ 64
 size_small size e = small (nat_le 1 size && nat_le size MAX_FIXED_STRING) refl e
   where
-    small : (test : Bool) → (nat_le 1 size && nat_le size MAX_FIXED_STRING) ≡ test → is_known (cond test Bytes Unknown) ≡ true → size < 2 ^ 64
+    small : (test : Bool) → (nat_le 1 size && nat_le size MAX_FIXED_STRING) ≡ test → is_known (cond test Plain Unknown) ≡ true → size < 2 ^ 64
     small true is e =
         let most : MAX_FIXED_STRING < 2 ^ 64 = lit< tt in
         omega (arith, leb-true size MAX_FIXED_STRING (both (nat_le 1 size) (nat_le size MAX_FIXED_STRING) is).1, most)
@@ -127,6 +128,7 @@ level_line (Ty-F.Int w) k = (whole_name (codes "Int") w refl, λ e. cc)
 level_line (Ty-F.FixedString size) k = (round (codes "FixedString(") (decimal size) refl (decimal_lacks size (size_small size k)), λ e. cc)
 level_line Ty-F.Str k = (refl, λ e. cc)
 level_line Ty-F.Date k = (refl, λ e. cc)
+level_line Ty-F.Moment k = (refl, λ e. cc)
 level_line (Ty-F.Nullable t) k = (round (codes "Nullable(") (type_name t.0) refl (t.1 (optional_inner (kind_of t.0) k)).0, λ e. cc)
 level_line (Ty-F.Array t) k = (round (codes "Array(") (type_name t.0) refl (t.1 (array_inner (kind_of t.0) k)).0, λ e. cc)
 level_line (Ty-F.State Sum t) k = (round (state_opening Sum) (type_name t.0) refl (t.1 (state_inner Sum (kind_of t.0) k)).0, λ e. cc)

@@ -1,14 +1,14 @@
 -- columns.txt, read: docs/FORMAT.md, "Metadata" (ClickHouse: NamesAndTypesList::readText).
-use Rattle.std.specs.Prelude.{◌≡◌, ◌≢◌, ℕ, ◌<◌, ◌≤◌, ◌==◌, ◌&&◌, not, Bool, true, false, if◌then◌else◌, List, [], ◌∷◌, ◌++◌, length, map, codes, position, Option, Some, None, option_map, option_and_then, Result, IsPermutation}
-use Rattle.std.specs.List.{slice_split, list_any, list_all, range_with_len}
+use Rattle.std.specs.Prelude.{◌≡◌, ◌≢◌, ℕ, ◌<◌, ◌≤◌, ◌==◌, ◌&&◌, not, Bool, true, false, if◌then◌else◌, List, [], ◌∷◌, ◌++◌, length, map, codes, position, Option, Some, None, option_map, option_and_then, Result}
+use Rattle.std.specs.List.{slice_split, list_all}
 use Rattle.std.specs.Fmt.{decimal}
 use Rattle.std.specs.Str.{bytes_eq}
 use Rattle.mt_types.specs.Profile.{is_profile}
 use Rattle.mt_table.specs.declared.column.Column.{Column}
 use Rattle.mt_table.specs.declared.limits.TheConstants.{MAX_COLUMNS}
-use Rattle.mt_shelf.specs.declared.fault.Why.{Why}
-use Rattle.mt_shelf.specs.declared.fault.Why.TheVariants.{Syntax, Columns}
-use Rattle.mt_defs.specs.Metadata.{column_at, column_line, columns_text}
+use Rattle.mt_fault.specs.declared.fault.Why.{Why}
+use Rattle.mt_fault.specs.declared.fault.Why.TheVariants.{Syntax, Columns}
+use Rattle.mt_defs.specs.Metadata.{column_at, column_line, columns_text, may_list}
 use Rattle.mt_meta.specs.declared.ascii.TheConstants.{LINE_END, BACKQUOTE, BLANK}
 use Rattle.mt_types.specs.Steps.{◌>>=◌, ok_or}
 use Rattle.mt_meta.specs.Splitting.{split_once}
@@ -66,19 +66,15 @@ unfoldable pub order_of : List (List ℕ) → List (List ℕ) → Option (List �
 order_of columns [] = Some []
 order_of columns (line ∷ lines) = option_and_then (λ column_index. option_map (λ order. column_index ∷ order) (order_of columns lines)) (position (is_line line) columns)
 
--- each index below a number stands there, and there are no more
-abbrev pub is_each_once : ℕ → List ℕ → Bool
-is_each_once count order = (length order == count) && list_all (λ i. list_any (λ j. j == i) order) (range_with_len 0 count)
+-- the order, if a folder may list these of the columns
+abbrev pub if_listed : List Column → List ℕ → List ℕ → Option (List ℕ)
+if_listed columns must order = if may_list columns must order then Some order else None
 
--- the order, if it has each index once
-abbrev pub if_each_once : ℕ → List ℕ → Option (List ℕ)
-if_each_once count order = if is_each_once count order then Some order else None
-
--- the columns that a text lists, in its order, by their indexes in the definition (1.2, 1.3)
-unfoldable pub columns_reading : List Column → List ℕ → Result (List ℕ) Why
-columns_reading columns text = do
+-- the columns that a text lists, in its order, by their indexes in the definition; some of them it must list (1.2, 1.3)
+unfoldable pub columns_reading : List Column → List ℕ → List ℕ → Result (List ℕ) Why
+columns_reading columns must text = do
   lines ← ok_or Syntax (listing text)
-  ok_or Columns (option_and_then (if_each_once (length columns)) (order_of (map column_line columns) lines))
+  ok_or Columns (option_and_then (if_listed columns must) (order_of (map column_line columns) lines))
 
 -- ---- what is read
 
@@ -95,7 +91,7 @@ pub record CanBeListed (columns : List Column) : Type 0 where
   pub unquoted : (i : ℕ) → i < length columns → lacks BACKQUOTE (column_at columns i).name ≡ true
   pub differ : (i j : ℕ) → i < length columns → j < length columns → (column_at columns i).name ≡ (column_at columns j).name → i ≡ j
 
--- a text lists each of the columns once, in this order
-pub record Lists (columns : List Column) (order : List ℕ) (text : List ℕ) : Type 0 where
-  pub each_once : IsPermutation (range_with_len 0 (length columns)) order
+-- a text lists these of the columns, in this order
+pub record Lists (columns : List Column) (must order : List ℕ) (text : List ℕ) : Type 0 where
+  pub may : may_list columns must order ≡ true
   pub listed : text ≡ columns_text (map (column_at columns) order)

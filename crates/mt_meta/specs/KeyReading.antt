@@ -7,16 +7,16 @@ use Rattle.mt_types.specs.declared.ty.Ty.{Ty}
 use Rattle.mt_types.specs.declared.value.Value.{Value}
 use Rattle.mt_types.specs.Fits.{fits_of}
 use Rattle.mt_types.specs.Items.{item_bytes}
-use Rattle.mt_shelf.specs.declared.fault.Fault.{Fault}
-use Rattle.mt_shelf.specs.declared.fault.Why.TheVariants.{Key, Over}
-use Rattle.mt_shelf.specs.declared.fault.ReadError.{ReadError}
-use Rattle.mt_shelf.specs.declared.fault.ReadError.TheVariants.{AtFault, Shelf, NoMemory}
+use Rattle.mt_fault.specs.declared.fault.Fault.{Fault}
+use Rattle.mt_fault.specs.declared.fault.Why.TheVariants.{Key, Over}
+use Rattle.mt_fault.specs.declared.error.FileError.{FileError}
+use Rattle.mt_fault.specs.declared.error.FileError.TheVariants.{AtFault, NoMemory}
 use Rattle.mt_table.specs.declared.column.Column.{Column}
 use Rattle.mt_table.specs.declared.definition.PartDef.{PartDef}
 use Rattle.mt_defs.specs.Metadata.{column_at}
 use Rattle.mt_defs.specs.Rows.{Row}
 use Rattle.mt_defs.specs.PrimaryIndex.{index_name}
-use Rattle.mt_meta.specs.Results.{IsFault}
+use Rattle.mt_fault.specs.Results.{IsFault}
 
 -- ---- keys as lists of values
 
@@ -79,20 +79,18 @@ pub record IsKeyFault (types : List Ty) (count : ℕ) (bytes : List ℕ) (fault 
   pub wrong : IsNoKey types count keys rest fault ⊎ IsTooLong count keys rest fault
 
 -- what the reader gives: the keys, or the first fault
-abbrev pub GivesKeys : List Ty → ℕ → List ℕ → Result (List Row) ReadError → Type 0
+abbrev pub GivesKeys : List Ty → ℕ → List ℕ → Result (List Row) FileError → Type 0
 GivesKeys types count bytes (Ok keys) = AreKeysOf types count bytes keys
 GivesKeys types count bytes (Err (AtFault fault)) = IsKeyFault types count bytes fault
-GivesKeys types count bytes (Err Shelf) = ⊥
 GivesKeys types count bytes (Err NoMemory) = Unit {0}
 
 -- these keys are returned, out of memory aside
-abbrev pub ReturnsKeys : List Row → Result (List Row) ReadError → Type 0
+abbrev pub ReturnsKeys : List Row → Result (List Row) FileError → Type 0
 ReturnsKeys keys (Ok found) = found ≡ keys
 ReturnsKeys keys (Err (AtFault fault)) = ⊥
-ReturnsKeys keys (Err Shelf) = ⊥
 ReturnsKeys keys (Err NoMemory) = Unit {0}
 
 -- all keys are read: then nothing may follow them
-abbrev pub GivesAll : List Row → List ℕ → Result (List Row) ReadError → Type 0
+abbrev pub GivesAll : List Row → List ℕ → Result (List Row) FileError → Type 0
 GivesAll keys rest (Ok found) = (found ≡ keys) × (rest ≡ [])
 GivesAll keys rest (Err e) = IsFault (record { file = index_name; granule = None; at = None; why = Over }) e × (rest ≢ [])

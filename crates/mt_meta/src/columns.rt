@@ -5,18 +5,18 @@ ghost use Rattle.mt_table.specs.declared.limits.TheConstants.{MAX_COLUMNS};
 ghost use Rattle.mt_defs.specs.Metadata.{column_line, columns_name};
 ghost use Rattle.mt_defs.specs.Metadata as defined;
 ghost use Rattle.mt_meta.specs.ColumnsReading.{columns_reading};
-ghost use Rattle.mt_meta.specs.Results.{Gives, GivesEachOnce, in_file};
+ghost use Rattle.mt_fault.specs.Results.{Gives};
+ghost use Rattle.mt_fault.specs.Faults.{blame, file_fault};
+ghost use Rattle.mt_meta.specs.Results.{GivesListed};
 
-use crate::fault::at_fault;
 use crate::listing::listing;
-use crate::order::{is_each_once, order_of};
+use crate::order::{may_list, order_of};
 use itoa::Buffer;
-use mt_shelf::{ReadError, Why};
+use mt_fault::{FileError, Why, file_fault};
+use mt_names::COLUMNS_FILE;
 use mt_table::Column;
 use mt_types::{List, NoMemory};
 use std::alloc::Global;
-
-const COLUMNS_FILE: &[u8] = b"columns.txt";
 
 /// The bytes of columns.txt (docs/FORMAT.md, "Metadata"; ClickHouse: `NamesAndTypesList::writeText`).
 pub fn columns_text(alloc: Global, columns: &[Column]) -> Result<List<u8>, NoMemory>
@@ -41,39 +41,46 @@ fn append_line(alloc: Global, column: &Column, text: &mut List<u8>) -> Result<()
     text.append(b"\n")
 }
 
-/// The columns that a columns.txt lists, in its order, by their places in the definition. `Syntax` is a
-/// text of another form, `Columns` one that doesn't list each column once. It never returns `Shelf`.
-pub fn read_columns(alloc: Global, columns: &[Column], text: &[u8]) -> Result<List<u32>, ReadError>
+/// The columns that a columns.txt lists, in its order, by their places in the definition; `must` are those
+/// that it must list. `Syntax` is a text of another form, `Columns` one that lists another column or one
+/// twice, or that lacks one of `must`.
+pub fn read_columns(
+    alloc: Global,
+    columns: &[Column],
+    must: &[u32],
+    text: &[u8],
+) -> Result<List<u32>, FileError>
     requires { length columns.now ≤ MAX_COLUMNS }
-    ensures { Gives result (in_file columns_name (columns_reading columns.now text.now)) }
+    ensures { Gives result (blame (file_fault columns_name) (columns_reading columns.now must.now text.now)) }
 {
     let Some((lines, count)) = listing(text) else {
-        return Err(at_fault(alloc, COLUMNS_FILE, None, Why::Syntax));
+        return Err(file_fault(alloc, COLUMNS_FILE, Why::Syntax));
     };
-    if count != columns.len() {
-        return Err(at_fault(alloc, COLUMNS_FILE, None, Why::Columns));
+    if count > columns.len() {
+        return Err(file_fault(alloc, COLUMNS_FILE, Why::Columns));
     }
-    match listed_order(alloc, columns, lines) {
+    match listed_order(alloc, columns, must, lines) {
         Ok(Some(order)) => Ok(order),
-        Ok(None) => Err(at_fault(alloc, COLUMNS_FILE, None, Why::Columns)),
-        Err(_) => Err(ReadError::NoMemory),
+        Ok(None) => Err(file_fault(alloc, COLUMNS_FILE, Why::Columns)),
+        Err(_) => Err(FileError::NoMemory),
     }
 }
 
-/// Which columns the column lines of a text are, if each is there once.
+/// Which columns the column lines of a text are, if a folder may list these.
 fn listed_order(
     alloc: Global,
     columns: &[Column],
+    must: &[u32],
     text: &[u8],
 ) -> Result<Option<List<u32>>, NoMemory>
     requires { length columns.now ≤ MAX_COLUMNS }
-    ensures { IfOk result (λ found. GivesEachOnce (map column_line columns.now) text.now found) }
+    ensures { IfOk result (λ found. GivesListed columns.now must.now text.now found) }
 {
     let lines = column_lines(alloc, columns)?;
     let Some(order) = order_of(alloc, lines.as_slice(), text)? else {
         return Ok(None);
     };
-    if is_each_once(order.as_slice(), columns.len()) {
+    if may_list(columns, must, order.as_slice()) {
         Ok(Some(order))
     } else {
         Ok(None)

@@ -5,24 +5,21 @@ ghost use Rattle.mt_defs.specs.Rows.{Row as Values};
 ghost use Rattle.mt_meta.specs.Keys.{AreKeys, is_scalar};
 ghost use Rattle.mt_meta.specs.KeyReading.{AreKeysOf, GivesAll, GivesKeys, IsFirstItem, IsFirstKey, ReturnsKeys, key_types, types_of};
 
-use crate::fault::at_fault;
+use mt_fault::{FileError, Why, file_fault, granule_fault};
 use mt_item::{ItemError, read_item};
-use mt_shelf::{ReadError, Why};
+use mt_names::INDEX_FILE;
 use mt_table::{Column, PartDef};
 use mt_types::{List, NoMemory, Row, Ty, Value};
 use std::alloc::Global;
 
-const INDEX_FILE: &[u8] = b"primary.idx";
-
 /// The primary keys of a primary.idx: that of each granule's first row, and that of the last row. `Key`,
-/// at its granule, is where no key stands; `Over` is where bytes follow the last one. It never returns
-/// `Shelf`.
+/// at its granule, is where no key stands; `Over` is where bytes follow the last one.
 pub fn read_keys(
     alloc: Global,
     def: &PartDef,
     granules: u64,
     bytes: &[u8],
-) -> Result<List<Row>, ReadError>
+) -> Result<List<Row>, FileError>
     requires keys { AreKeys def.now.columns def.now.sort }
     requires primary { def.now.primary ≤ length def.now.sort }
     ensures gives { GivesKeys (key_types def.now) (granules + 1) bytes.now result }
@@ -35,14 +32,14 @@ pub fn read_keys(
     let mut rest = bytes;
     'granules: loop {
         let Ok(read) = read_key(alloc, columns, key, rest) else {
-            return Err(ReadError::NoMemory);
+            return Err(FileError::NoMemory);
         };
         let granule = keys.len() as u64;
         let Some((row, after)) = read else {
-            return Err(at_fault(alloc, INDEX_FILE, Some(granule), Why::Key));
+            return Err(granule_fault(alloc, INDEX_FILE, granule, Why::Key));
         };
         let Ok(()) = keys.push(row) else {
-            return Err(ReadError::NoMemory);
+            return Err(FileError::NoMemory);
         };
         if granule == granules {
             return all_read(alloc, keys, after);
@@ -52,11 +49,11 @@ pub fn read_keys(
 }
 
 /// The keys, if nothing follows them.
-fn all_read(alloc: Global, keys: List<Row>, rest: &[u8]) -> Result<List<Row>, ReadError>
+fn all_read(alloc: Global, keys: List<Row>, rest: &[u8]) -> Result<List<Row>, FileError>
     ensures { GivesAll keys rest.now result }
 {
     if !rest.is_empty() {
-        return Err(at_fault(alloc, INDEX_FILE, None, Why::Over));
+        return Err(file_fault(alloc, INDEX_FILE, Why::Over));
     }
     Ok(keys)
 }

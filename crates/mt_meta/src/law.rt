@@ -21,15 +21,16 @@ pub fn counts_are_read()
     ensures { (columns rows : ℕ) (text : List ℕ) → (count_reading columns text ≡ Ok rows) ↔ Counts columns rows text }
 {}
 
-/// A text that is read lists each of the columns once, in the order that is returned.
+/// A text that is read lists columns that it may list, in the order that is returned.
 pub fn only_lists_are_read()
-    ensures { (columns : List Column) (order text : List ℕ) → columns_reading columns text ≡ Ok order → Lists columns order text }
+    ensures { (columns : List Column) (must order text : List ℕ) → columns_reading columns must text ≡ Ok order
+        → Lists columns must order text }
 {}
 
-/// A text that lists each of the columns once is read, in its order.
+/// A text that lists columns that it may list is read, in its order.
 pub fn listed_columns_are_read()
-    ensures { (columns : List Column) (order text : List ℕ) → CanBeListed columns → Lists columns order text
-        → columns_reading columns text ≡ Ok order }
+    ensures { (columns : List Column) (must order text : List ℕ) → CanBeListed columns → Lists columns must order text
+        → columns_reading columns must text ≡ Ok order }
 {}
 
 /// The keys that a written primary.idx holds, so that `read_keys` gives them: those of the first row of each

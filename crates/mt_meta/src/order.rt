@@ -1,13 +1,17 @@
 //! The order in which columns.txt lists the columns.
 
-ghost use Rattle.std.specs.Prelude.{◌≡◌, ◌==◌, ◌≤◌, ◌<◌, ◌^◌, ◌++◌, [], ◌∷◌, length, position, IfOk, IfSome, bytes_eq};
-ghost use Rattle.std.specs.List.{list_any};
+ghost use Rattle.std.specs.Prelude.{◌≡◌, ◌==◌, ◌≤◌, ◌<◌, ◌^◌, ◌++◌, [], ◌∷◌, length, nat_lt, position, IfOk, IfSome, bytes_eq};
+ghost use Rattle.std.specs.List.{list_all};
 ghost use Rattle.mt_table.specs.declared.limits.TheConstants.{MAX_COLUMNS};
-ghost use Rattle.mt_meta.specs.ColumnsReading.{is_line, is_each_once};
+ghost use Rattle.mt_table.specs.Kept.{is_one_of};
+ghost use Rattle.mt_table.specs.Names.{places_differ};
+ghost use Rattle.mt_defs.specs.Metadata.{may_list};
+ghost use Rattle.mt_meta.specs.ColumnsReading.{is_line};
 ghost use Rattle.mt_meta.specs.Results.{GivesOrder};
 
 use crate::ascii::LINE_END;
 use crate::split::split_once;
+use mt_table::Column;
 use mt_types::{List, NoMemory};
 use std::alloc::Global;
 
@@ -54,23 +58,44 @@ fn is_line(line: &[u8], text: &[u8]) -> bool
     }
 }
 
-/// Whether each index below a number stands there, and no more.
-pub(crate) fn is_each_once(order: &[u32], count: usize) -> bool
-    ensures { result ≡ is_each_once count order.now }
+/// Whether a folder may list these of the columns, by their places: no column twice, and each that it must list.
+pub(crate) fn may_list(columns: &[Column], must: &[u32], order: &[u32]) -> bool
+    ensures { result ≡ may_list columns.now must.now order.now }
 {
-    if order.len() != count {
-        return false;
-    }
-    for i in 0..count {
-        if !has(order, i) {
+    are_places(columns.len(), order) && places_differ(order) && has_all(order, must)
+}
+
+/// Whether each is below a number.
+fn are_places(count: usize, order: &[u32]) -> bool
+    ensures { result ≡ list_all (λ place. nat_lt place count) order.now }
+{
+    order.iter().all(|place| (*place as usize) < count)
+}
+
+/// Whether no place stands twice.
+fn places_differ(order: &[u32]) -> bool
+    ensures { result ≡ places_differ order.now }
+{
+    let mut rest = order;
+    while let Some((place, later)) = rest.split_first() {
+        if is_one_of(later, *place) {
             return false;
         }
+        rest = later;
     }
     true
 }
 
-fn has(order: &[u32], column_index: usize) -> bool
-    ensures { result ≡ list_any (λ j. j == column_index) order.now }
+/// Whether each of some places is among others.
+fn has_all(order: &[u32], must: &[u32]) -> bool
+    ensures { result ≡ list_all (is_one_of order.now) must.now }
 {
-    order.iter().any(|j| *j as usize == column_index)
+    must.iter().all(|place| is_one_of(order, *place))
+}
+
+/// Whether a place is one of these.
+fn is_one_of(order: &[u32], place: u32) -> bool
+    ensures { result ≡ is_one_of order.now place }
+{
+    order.iter().any(|other| place == *other)
 }

@@ -12,14 +12,12 @@ ghost use Rattle.mt_meta.specs.PartitionKeys.{ArePartitionKeys, HasValueOf};
 
 use crate::expression::{append_values, key_columns};
 use crate::minmax::minmax;
-use crate::names::file_name;
+use mt_fault::FileBytes;
 use mt_item::put_item;
-use mt_shelf::FileBytes;
+use mt_names::{PARTITION_FILE, minmax_name};
 use mt_table::{Column, Table};
 use mt_types::{List, NoMemory, Row, Ty};
 use std::alloc::Global;
-
-const PARTITION_FILE: &[u8] = b"partition.dat";
 
 /// The files of the partition of some rows (docs/FORMAT.md, "Partition"; ClickHouse:
 /// `MergeTreePartition`, `IMergeTreeDataPart::MinMaxIndex`): partition.dat with the values of the first
@@ -81,7 +79,7 @@ fn minmax_file(
 {
     let column = &table.columns.as_slice()[column_index as usize];
     Ok(FileBytes {
-        name: file_name(alloc, b"minmax_", column.name.as_slice(), b".idx")?,
+        name: minmax_name(alloc, table, column_index)?,
         bytes: minmax_bytes(alloc, &column.ty, column_index, rows)?,
     })
 }

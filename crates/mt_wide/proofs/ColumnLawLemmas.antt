@@ -24,12 +24,13 @@ use Rattle.mt_codec.proofs.ExactLemmas.{AreSmall}
 use Rattle.mt_codec.proofs.TypeLemmas.{decoded_encodes, encoded_decodes}
 use Rattle.mt_item.proofs.ExactLemmas.{small_of}
 use Rattle.mt_granules.specs.ColumnRows.{all_values}
-use Rattle.mt_granules.specs.FileFaults.{Judged, blame, in_order}
+use Rattle.mt_fault.specs.Faults.{Judged, blame}
+use Rattle.mt_granules.specs.FileFaults.{in_order}
 use Rattle.mt_granules.proofs.GranuleLemmas.{length-granule_rows}
 use Rattle.mt_granules.proofs.IndexLemmas.{by_index, first_cut, list_all_more, numbered_all, numbered_each, pointwise_at, pointwise_long, pointwise_of}
 use Rattle.mt_granules.proofs.OrderLemmas.{order_all, order_each}
 use Rattle.mt_granules.proofs.RowLemmas.{sum-cons}
-use Rattle.mt_granules.proofs.StepLemmas.{blame_ok}
+use Rattle.mt_fault.proofs.FaultLemmas.{blame_ok}
 use Rattle.mt_wide.specs.WideReading.{column_reading, granule_reading, payloads_at, stream_reading, value_fault}
 use Rattle.mt_wide.proofs.CountLemmas.{names_count}
 use Rattle.mt_wide.proofs.EncodedCountLemmas.{encoded_count}

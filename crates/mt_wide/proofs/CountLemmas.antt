@@ -8,7 +8,7 @@ use Rattle.mt_table.specs.declared.column.Column.{Column}
 use Rattle.mt_codec.specs.declared.stream.Stream.{Stream}
 use Rattle.mt_codec.specs.StreamOrder.{order_step, streams_from, streams_of}
 use Rattle.mt_defs.specs.FileNames.{file_name, stream_names, suffix_step}
-use Rattle.mt_wide.specs.Names.{suffixes_from}
+use Rattle.mt_names.specs.Suffixes.{suffixes_from}
 
 abbrev SameCount : Ty → Type 0
 SameCount ty = (depth : ℕ) → length (suffixes_from ty depth) ≡ length (streams_from ty depth)
@@ -25,6 +25,7 @@ level_same (Ty-F.Int w) = λ depth. refl
 level_same (Ty-F.FixedString n) = λ depth. refl
 level_same Ty-F.Str = λ depth. refl
 level_same Ty-F.Date = λ depth. refl
+level_same Ty-F.Moment = λ depth. refl
 level_same (Ty-F.Nullable b) = λ depth. ap suc (b.1 depth)
 level_same (Ty-F.Array b) = λ depth. ap suc (b.1 (depth + 1))
 level_same (Ty-F.State agg b) = λ depth. refl

@@ -25,6 +25,7 @@ level_count (Ty-F.Int w) = λ values streams depth e. ap (λ (l : List (List ℕ
 level_count (Ty-F.FixedString n) = λ values streams depth e. ap (λ (l : List (List ℕ)). length l) e
 level_count Ty-F.Str = λ values streams depth e. ap (λ (l : List (List ℕ)). length l) e
 level_count Ty-F.Date = λ values streams depth e. ap (λ (l : List (List ℕ)). length l) e
+level_count Ty-F.Moment = λ values streams depth e. ap (λ (l : List (List ℕ)). length l) e
 level_count (Ty-F.Nullable b) = under_nulls b
   where
     under_nulls : (b : Below) → LevelCount (Ty-F.Nullable b.0)
@@ -53,6 +54,7 @@ level_some (Ty-F.Int w) depth = omega arith
 level_some (Ty-F.FixedString n) depth = omega arith
 level_some Ty-F.Str depth = omega arith
 level_some Ty-F.Date depth = omega arith
+level_some Ty-F.Moment depth = omega arith
 level_some (Ty-F.Nullable t) depth = omega arith
 level_some (Ty-F.Array t) depth = omega arith
 level_some (Ty-F.State agg t) depth = omega arith

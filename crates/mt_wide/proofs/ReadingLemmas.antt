@@ -1,11 +1,12 @@
 -- Reading the columns of a Wide part one after another.
-use Rattle.std.proofs.Common.{◌≡◌, ℕ, ◌+◌, ◌<◌, ◌≤◌, suc, List, [], ◌∷◌, ◌++◌, length, map, take, get_or, refl, ap, sym, ◌∙◌, subst, arith, Bor}
+use Rattle.std.proofs.Common.{◌≡◌, ℕ, ◌+◌, ◌<◌, ◌≤◌, suc, List, [], ◌∷◌, ◌++◌, length, map, take, get_or, refl, ap, sym, ◌∙◌, subst, arith, eqb, Bor}
 use Rattle.std.specs.Prelude.{Result, Ok, All, sum, slice_index_or}
+use Rattle.std.proofs.lemmas.Bool.{eqb-true}
 use Rattle.std.proofs.lemmas.List.{length-map, map-append, take_more}
 use Rattle.std.proofs.lemmas.List.Elements.{All-append, All-cons, All-nil}
 use Rattle.mt_types.specs.declared.value.Value.{Value}
 use Rattle.mt_types.specs.Steps.{◌>>=◌}
-use Rattle.mt_types.proofs.StepLemmas.{then_of}
+use Rattle.mt_types.proofs.StepLemmas.{ok_one, ok_then, required, then_of}
 use Rattle.mt_table.specs.Rows.{Pointwise}
 use Rattle.mt_table.specs.declared.column.Column.{Column}
 use Rattle.mt_defs.specs.Folder.{Folder}
@@ -15,7 +16,10 @@ use Rattle.mt_codec.specs.Results.{bytes_of as slice_bytes}
 use Rattle.mt_defs.specs.FileNames.{stream_names}
 use Rattle.mt_granules.specs.declared.payloads.Payloads.{Payloads}
 use Rattle.mt_granules.specs.declared.payloads.Payload.{Payload}
-use Rattle.mt_granules.specs.FileFaults.{Judged, in_order}
+use Rattle.mt_fault.specs.declared.fault.Why.TheVariants as why
+use Rattle.mt_fault.specs.Faults.{Judged, file_fault}
+use Rattle.mt_granules.specs.FileFaults.{in_order}
+use Rattle.mt_granules.specs.PayloadReading.{GranulePayloads, granules_reading, payloads_reading}
 use Rattle.mt_granules.specs.PayloadView.{bytes_of, payloads_in}
 use Rattle.mt_granules.specs.ColumnRows.{all_values, rows_of, with_column}
 use Rattle.mt_granules.proofs.OrderLemmas.{order_continues, order_each, order_ends, order_next}
@@ -23,6 +27,15 @@ use Rattle.mt_granules.proofs.RowLemmas.{column_added, length-all_values, length
 use Rattle.mt_wide.specs.WideReading.{column_reading, payloads_at, rows_reading, wide_granules, wide_reading}
 use Rattle.mt_wide.specs.StreamView.{HasGranules, streams_in}
 use Rattle.mt_wide.proofs.CountLemmas.{names_count}
+
+-- ---- granules
+
+-- granules that were read sum to the count
+pub granules_sum : (folder : Folder) (count : ℕ) (data_name marks_name : List ℕ) (per_granule : ℕ) (read : GranulePayloads) → granules_reading folder count data_name marks_name per_granule ≡ Ok read → sum read.granules ≡ count
+granules_sum folder count data_name marks_name per_granule read e =
+    ok_then (payloads_reading folder data_name marks_name per_granule) _ read e (λ found is e.
+    required (eqb (sum found.granules) count) (file_fault marks_name why.Rows) (λ _. Ok found) read e (λ all e.
+    ap (λ (p : GranulePayloads). sum p.granules) (ok_one found read e) ∙ eqb-true (sum found.granules) count all))
 
 -- ---- substreams
 

@@ -5,14 +5,14 @@ use Rattle.std.specs.List.{concat, sum}
 use Rattle.std.proofs.lemmas.Bool.{eqb-true, eq-eqb}
 use Rattle.std.proofs.lemmas.List.{length-map}
 use Rattle.mt_types.proofs.StepLemmas.{ok_then, ok_one, passed, required, then_of}
-use Rattle.mt_shelf.specs.declared.fault.Why.TheVariants as why
+use Rattle.mt_fault.specs.declared.fault.Why.TheVariants as why
 use Rattle.mt_defs.specs.Folder.{Folder}
 use Rattle.mt_defs.specs.FileNames.{data_name, marks_name}
 use Rattle.mt_defs.specs.Lists.{AreBytes}
 use Rattle.mt_defs.specs.Marks.{IsMarksFile}
 use Rattle.mt_defs.specs.Frames.{IsFramed}
 use Rattle.mt_defs.specs.Wide.{HasStream}
-use Rattle.mt_granules.specs.FileFaults.{file_fault, granule_fault}
+use Rattle.mt_fault.specs.Faults.{file_fault, granule_fault}
 use Rattle.mt_granules.specs.PayloadReading.{GranulePayloads, payloads_reading}
 use Rattle.mt_granules.proofs.CutLemmas.{AreRuns, concat_flat, flat, sizes_of}
 use Rattle.mt_granules.proofs.PayloadsHeldLemmas.{HoldsPayloads, payloads_held}

@@ -5,7 +5,7 @@ use Rattle.std.specs.List.{concat, enumerate_from, flat_map}
 use Rattle.std.proofs.lemmas.List.{take_more, map-append, length-map, append-nil}
 use Rattle.std.proofs.lemmas.List.Elements.{All-nil, All-cons}
 use Rattle.mt_types.specs.declared.ty.Ty.{Ty}
-use Rattle.mt_shelf.specs.declared.file.FileBytes.{FileBytes}
+use Rattle.mt_fault.specs.declared.file.FileBytes.{FileBytes}
 use Rattle.mt_defs.specs.Lists.{offsets_from}
 use Rattle.mt_defs.specs.Rows.{Row, column_values}
 use Rattle.mt_defs.specs.WrittenStreams.{written_streams}

@@ -10,7 +10,7 @@ use Rattle.mt_types.specs.declared.value.Value.TheVariants.{Null}
 use Rattle.mt_types.specs.Fits.{fits_of}
 use Rattle.mt_types.specs.Profile.{is_profile}
 use Rattle.mt_types.proofs.StepLemmas.{ok_pair, ok_one, ok_then, passed, required, then_of}
-use Rattle.mt_shelf.specs.declared.fault.Why.TheVariants as why
+use Rattle.mt_fault.specs.declared.fault.Why.TheVariants as why
 use Rattle.mt_table.specs.Rows.{Pointwise, RowFits}
 use Rattle.mt_table.specs.declared.column.Column.{Column}
 use Rattle.mt_table.specs.declared.limits.TheConstants.{MAX_ROWS}
@@ -21,7 +21,8 @@ use Rattle.mt_defs.specs.Metadata.{no_column}
 use Rattle.mt_defs.specs.Rows.{Row, column_values}
 use Rattle.mt_defs.specs.Wide.{HasColumn, HasStream, IsWide, stream_payloads}
 use Rattle.mt_granules.specs.ColumnRows.{all_values, row_at, rows_of}
-use Rattle.mt_granules.specs.FileFaults.{Judged, file_fault, in_order}
+use Rattle.mt_fault.specs.Faults.{Judged, file_fault}
+use Rattle.mt_granules.specs.FileFaults.{in_order}
 use Rattle.mt_granules.specs.PayloadReading.{GranulePayloads, granules_reading, payloads_reading}
 use Rattle.mt_granules.proofs.GranuleLemmas.{length-granule_rows}
 use Rattle.mt_granules.proofs.IndexLemmas.{column_of_rows, cut_joined, list_all_at, numbered_all, numbered_each, pointwise_at, pointwise_long, pointwise_of, rows_of_columns}

@@ -1,5 +1,4 @@
 pub mod HeldRows
-pub mod Names
 pub mod StreamFiles
 pub mod WideReading
 pub mod StreamView

@@ -1,6 +1,6 @@
 -- The files of a column's substreams, by their index.
 use Rattle.std.specs.Prelude.{ℕ, List}
-use Rattle.mt_shelf.specs.declared.file.FileBytes.{FileBytes}
+use Rattle.mt_fault.specs.declared.file.FileBytes.{FileBytes}
 use Rattle.mt_defs.specs.Wide.{stream_payloads}
 use Rattle.mt_defs.specs.WrittenColumns.{stream_files}
 

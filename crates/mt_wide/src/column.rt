@@ -12,16 +12,14 @@ ghost use Rattle.mt_granules.specs.FileFaults.{in_order};
 ghost use Rattle.mt_granules.specs.FileFolder.{folder_in};
 ghost use Rattle.mt_granules.specs.PayloadReading.{granules_of, mark_count};
 ghost use Rattle.mt_granules.specs.PayloadView.{bytes_of, payloads_in};
-ghost use Rattle.mt_granules.specs.Results.{Gives, Names, Shows};
+ghost use Rattle.mt_fault.specs.Results.{Gives, Shows};
 ghost use Rattle.mt_wide.specs.WideReading.{column_reading, granule_reading, granules_check, payloads_at, stream_reading};
 ghost use Rattle.mt_wide.specs.StreamView.{HasGranules, TellsOf, streams_in};
 
-use crate::names::{stream_names, with_ending};
 use mt_codec::{CodecError, decode};
-use mt_granules::{
-    FileError, FileIndex, Payload, Payloads, codec_why, file_fault, granule_fault, read_payloads,
-};
-use mt_shelf::Why;
+use mt_fault::{FileError, Why, file_fault, granule_fault};
+use mt_granules::{FileIndex, Payload, Payloads, codec_why, read_payloads};
+use mt_names::{stream_names, with_ending};
 use mt_table::Column;
 use mt_types::{List, NoMemory, Value};
 use std::alloc::Global;

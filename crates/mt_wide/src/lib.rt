@@ -5,12 +5,10 @@
 
 mod column;
 mod law;
-mod names;
 mod reading;
 mod writing;
 
 pub use column::read_column;
 pub use law::{wide_parts_are_read_exactly, wide_parts_have_one_list_of_rows};
-pub use names::{file_name, stream_names};
 pub use reading::{first_granules, read_wide};
 pub use writing::write_wide;

@@ -8,13 +8,13 @@ ghost use Rattle.mt_defs.specs.FileNames as defined;
 ghost use Rattle.mt_defs.specs.Rows.{RowFits};
 ghost use Rattle.mt_granules.specs.FileFaults.{in_order};
 ghost use Rattle.mt_granules.specs.FileFolder.{folder_in};
-ghost use Rattle.mt_granules.specs.Results.{Gives, GivesRead, Shows};
+ghost use Rattle.mt_fault.specs.Results.{Gives, Shows};
 ghost use Rattle.mt_wide.specs.WideReading.{rows_reading, wide_granules, wide_reading};
 
 use crate::column::read_column;
-use crate::names::{stream_names, with_ending};
-use mt_granules::{FileError, FileIndex, append_column, first_rows, read_granules};
-use mt_shelf::{FileBytes, ReadError};
+use mt_fault::{FileBytes, FileError};
+use mt_granules::{FileIndex, append_column, first_rows, read_granules};
+use mt_names::{stream_names, with_ending};
 use mt_table::Column;
 use mt_types::{List, NoMemory, Row};
 use std::alloc::Global;
@@ -22,27 +22,8 @@ use std::alloc::Global;
 /// The rows and granules of the files of a Wide part with these columns, in the order of columns.txt, and so
 /// many rows (docs/FORMAT.md, "Wide parts"; ClickHouse: `MergeTreeReaderWide`). `AtFault` is the first fault
 /// of the data and marks files in docs/FORMAT.md's order: column by column, of each substream the data file's
-/// frames and then its marks, and after the column's files its values. It never returns `Shelf`.
+/// frames and then its marks, and after the column's files its values.
 pub fn read_wide(
-    alloc: Global,
-    columns: &[Column],
-    count: u64,
-    files: &[FileBytes],
-) -> Result<(List<Row>, List<u64>), ReadError>
-    requires some { 1 ≤ length columns.now }
-    requires few { length columns.now ≤ MAX_COLUMNS }
-    requires profile { All (λ column. IsTrue (is_profile column.ty)) columns.now }
-    requires row { 1 ≤ count }
-    requires rows { count ≤ MAX_ROWS }
-    requires cells { count * length columns.now ≤ MAX_CELLS }
-    ensures reads { GivesRead result (wide_reading (folder_of files.now) count columns.now) }
-    ensures fit { IfOk result (λ read. All (RowFits columns.now) read.0) }
-{
-    let read = read_rows(alloc, columns, count, files)?;
-    Ok(read)
-}
-
-fn read_rows(
     alloc: Global,
     columns: &[Column],
     count: u64,

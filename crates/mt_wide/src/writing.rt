@@ -13,10 +13,10 @@ ghost use Rattle.mt_granules.specs.CellColumns.{HasValues};
 ghost use Rattle.mt_granules.specs.DataFiles.{data_file_of};
 ghost use Rattle.mt_wide.specs.StreamFiles.{numbered_files};
 
-use crate::names::{stream_names, with_ending};
 use mt_defs::HEADER_BYTES;
+use mt_fault::FileBytes;
 use mt_granules::{DataFile, encode_column};
-use mt_shelf::FileBytes;
+use mt_names::{stream_names, with_ending};
 use mt_table::Column;
 use mt_types::{List, NoMemory, Row};
 use std::alloc::Global;

@@ -16,8 +16,8 @@ returns-in_err-bytes c =
 pub returns-then-ne : goal.returns-then-ne
 returns-then-ne c =
     let differ = ap (bytes_eq c.in_ok-bytes.bytes.now) (sym c.as_slice-in-loop-file.ensures) ∙ ne_true _ c.ne.result c.ne.ensures c.if-ne.true in
-    files_differ (folder_of c.args.files.now) c.args.written.now c.loop-file.file-index c.file-item.result _ c.as_slice.result.now c.as_slice-then-ne.result.now c.in_ok-bytes.bytes.now c.fault_of.result c.loop-file.invariant c.loop-file-test.true
-    c.file-item.is c.as_slice.ensures c.in_ok-bytes.ensures differ c.as_slice-then-ne.ensures c.fault_of.ensures
+    files_differ (folder_of c.args.files.now) c.args.written.now c.loop-file.file-index c.file-item.result _ c.as_slice.result.now c.as_slice-then-ne.result.now c.in_ok-bytes.bytes.now c.file_fault.result c.loop-file.invariant c.loop-file-test.true
+    c.file-item.is c.as_slice.ensures c.in_ok-bytes.ensures differ c.as_slice-then-ne.ensures c.file_fault.ensures
 
 pub loop-file-preserved : goal.loop-file-preserved
 loop-file-preserved c =

@@ -18,8 +18,8 @@ returns-in_err-bytes_of c =
 
 pub returns-in-Some : goal.returns-in-Some
 returns-in-Some c =
-    partition_other c.args.table.now (folder_of c.args.files.now) c.args.accepted.now c.in_ok-bytes_of.field-0.now c.in-Some.row c.granule_of-granule.result c.fault_in.result (λ none. let e = sym (c.is_empty.ensures.1 none) ∙ c.if-is_empty.false in cc)
-    c.in_ok-bytes_of.ensures (sym c.in-Some.is ∙ c.other_partition.ensures ∙ ap (other_partition c.args.table.now) c.as_slice-rows.ensures) (c.granule_of-granule.ensures ∙ ap (λ (g : List _). granule_of g c.in-Some.row) c.as_slice.ensures) c.fault_in.ensures
+    partition_other c.args.table.now (folder_of c.args.files.now) c.args.accepted.now c.in_ok-bytes_of.field-0.now c.in-Some.row c.granule_of-granule.result c.granule_fault.result (λ none. let e = sym (c.is_empty.ensures.1 none) ∙ c.if-is_empty.false in cc)
+    c.in_ok-bytes_of.ensures (sym c.in-Some.is ∙ c.other_partition.ensures ∙ ap (other_partition c.args.table.now) c.as_slice-rows.ensures) (c.granule_of-granule.ensures ∙ ap (λ (g : List _). granule_of g c.in-Some.row) c.as_slice.ensures) c.granule_fault.ensures
 
 pub returns-in-Ok : goal.returns-in-Ok
 returns-in-Ok c =

@@ -6,12 +6,12 @@ pub returns-in_err-check_projection : goal.returns-in_err-check_projection
 returns-in_err-check_projection c =
     let p = err_from_is_err_and c.from_residual.result c.from_residual.ensures.1 in
     rw (p.1, p.2)
-    (projection_fails c.args.table.now c.args.accepted.now c.args.folders.now c.loop-place.place c.index-folders-place.result c.as_slice.result.now _ c.in_err-check_projection.field-0.0 c.loop-place.invariant c.requires.each c.loop-place-test.true
-    c.index-folders-place.is c.as_slice.ensures c.in_err-check_projection.ensures)
+    (projection_fails c.args.table.now c.args.accepted.now c.args.folders.now c.loop-place.place c.index-folders-place.result _ c.in_err-check_projection.field-0.0 c.loop-place.invariant c.requires.each c.loop-place-test.true
+    c.index-folders-place.is c.in_err-check_projection.ensures)
 
 pub loop-place-preserved : goal.loop-place-preserved
 loop-place-preserved c =
-    projection_holds c.args.table.now c.args.accepted.now c.args.folders.now c.loop-place.place c.index-folders-place.result c.as_slice.result.now _ c.loop-place.invariant c.requires.each c.loop-place-test.true c.index-folders-place.is c.as_slice.ensures
+    projection_holds c.args.table.now c.args.accepted.now c.args.folders.now c.loop-place.place c.index-folders-place.result _ c.loop-place.invariant c.requires.each c.loop-place-test.true c.index-folders-place.is
     c.in_ok-check_projection.ensures
 
 pub returns : goal.returns

@@ -6,7 +6,7 @@ use Rattle.std.proofs.lemmas.List.{get_or_default}
 use Rattle.std.proofs.lemmas.Nat.{mul-le}
 use Rattle.mt_types.specs.declared.value.Value.{Value}
 use Rattle.mt_granules.specs.FileFaults.{in_order}
-use Rattle.mt_granules.specs.Results.{FailsAs}
+use Rattle.mt_fault.specs.Results.{FailsAs}
 use Rattle.mt_granules.specs.PayloadView.{payloads_in}
 use Rattle.mt_types.specs.Fits.{fits_of}
 use Rattle.mt_granules.proofs.FitLemmas.{granule_fits}

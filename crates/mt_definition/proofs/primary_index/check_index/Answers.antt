@@ -7,10 +7,10 @@ use Rattle.mt_defs.specs.PrimaryIndex.{index_name, index_rows, key_bytes}
 use Rattle.mt_defs.specs.Rows.{Row, RowFits}
 use Rattle.mt_definition.specs.DefinitionReading.{index_keys}
 use Rattle.mt_granules.specs.FileFaults.{file_reading}
-use Rattle.mt_files.specs.Results.{Gives}
+use Rattle.mt_fault.specs.Results.{Gives}
 use Rattle.mt_definition.specs.RowRefs.{rows_in}
 use Rattle.mt_definition.specs.RowsReading.{keys_reading}
-use Rattle.mt_files.proofs.FaultLemmas.{fails_then, gives_then}
+use Rattle.mt_fault.proofs.FaultLemmas.{fails_then, gives_then}
 use Rattle.mt_definition.proofs.KeyLemmas.{index_fits}
 use Rattle.mt_definition.proofs.primary_index.check_index.Goals as goal
 

@@ -8,8 +8,8 @@ key_of-requires-clause-fits c = row_fits c.args.columns.now c.args.rows.now c.lo
 
 pub returns-in_default-strip_prefix : goal.returns-in_default-strip_prefix
 returns-in_default-strip_prefix c =
-    keys_differ (key_bytes c.args.columns.now c.args.key.now) c.args.rows.now c.loop-granule.granule c.index-rows-granule.result c.loop-granule.rest.now c.as_slice.result.now _ c.fault_in.result c.loop-granule.invariant c.loop-granule-test.true
-    c.index-rows-granule.is (c.as_slice.ensures ∙ c.in-Ok.ensures) c.in_default-strip_prefix.ensures.cases c.fault_in.ensures
+    keys_differ (key_bytes c.args.columns.now c.args.key.now) c.args.rows.now c.loop-granule.granule c.index-rows-granule.result c.loop-granule.rest.now c.as_slice.result.now _ c.granule_fault.result c.loop-granule.invariant c.loop-granule-test.true
+    c.index-rows-granule.is (c.as_slice.ensures ∙ c.in-Ok.ensures) c.in_default-strip_prefix.ensures.cases c.granule_fault.ensures
 
 pub loop-granule-preserved : goal.loop-granule-preserved
 loop-granule-preserved c =
@@ -22,4 +22,4 @@ returns-then-is_empty c =
 
 pub returns-else-is_empty : goal.returns-else-is_empty
 returns-else-is_empty c =
-    keys_left (key_bytes c.args.columns.now c.args.key.now) c.args.rows.now c.loop-granule.granule c.loop-granule.rest.now _ c.fault_of.result c.loop-granule.invariant c.loop-granule-test.false (sym c.is_empty.ensures ∙ c.if-is_empty.false) c.fault_of.ensures
+    keys_left (key_bytes c.args.columns.now c.args.key.now) c.args.rows.now c.loop-granule.granule c.loop-granule.rest.now _ c.file_fault.result c.loop-granule.invariant c.loop-granule-test.false (sym c.is_empty.ensures ∙ c.if-is_empty.false) c.file_fault.ensures

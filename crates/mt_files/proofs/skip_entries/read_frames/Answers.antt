@@ -1,5 +1,6 @@
 use Rattle.std.proofs.Common.{ap}
-use Rattle.mt_granules.specs.FileFaults.{blame, frame_fault}
+use Rattle.mt_fault.specs.Faults.{blame}
+use Rattle.mt_granules.specs.FileFaults.{frame_fault}
 use Rattle.mt_files.proofs.FrameLemmas.{read_of_file}
 use Rattle.mt_files.proofs.skip_entries.read_frames.Goals as goal
 

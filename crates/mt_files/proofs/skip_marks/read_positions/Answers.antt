@@ -9,8 +9,8 @@ returns-in-Err c =
     let marks = c.args.marks.now in
     let none : Mark = record { offset = 0; inner = 0 } in
     let mark = get_or marks c.loop-index.index none in
-    mark_fails c.args.file.now c.args.per_entry c.args.frames.now.end c.args.frames.now.list marks c.loop-index.index c.loop-index.former mark c.loop-index.positions _ c.in-Err.why c.fault_in.result c.loop-index.invariant c.loop-index-test.true
-    (same_default marks c.loop-index.index none mark c.loop-index-test.true) (sym c.check_mark.ensures ∙ c.in-Err.is) c.fault_in.ensures
+    mark_fails c.args.file.now c.args.per_entry c.args.frames.now.end c.args.frames.now.list marks c.loop-index.index c.loop-index.former mark c.loop-index.positions _ c.in-Err.why c.granule_fault.result c.loop-index.invariant c.loop-index-test.true
+    (same_default marks c.loop-index.index none mark c.loop-index-test.true) (sym c.check_mark.ensures ∙ c.in-Err.is) c.granule_fault.ensures
 
 pub loop-index-preserved : goal.loop-index-preserved
 loop-index-preserved c =

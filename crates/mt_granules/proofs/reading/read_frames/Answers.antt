@@ -1,6 +1,7 @@
 use Rattle.std.proofs.Common.{ap, arith}
 use Rattle.mt_codec.proofs.DecodedLemmas.{all_small}
-use Rattle.mt_granules.specs.FileFaults.{blame, frame_fault}
+use Rattle.mt_fault.specs.Faults.{blame}
+use Rattle.mt_granules.specs.FileFaults.{frame_fault}
 use Rattle.mt_granules.proofs.MarkLemmas.{frames_found}
 use Rattle.mt_granules.proofs.reading.read_frames.Goals as goal
 

@@ -1,5 +1,5 @@
 use Rattle.mt_granules.proofs.MarksFileLemmas.{marks_keep}
-use Rattle.mt_granules.proofs.StepLemmas.{blame_ok}
+use Rattle.mt_fault.proofs.FaultLemmas.{blame_ok}
 use Rattle.mt_granules.proofs.reading.read_payloads.Goals as goal
 
 pub invariant_of-result : goal.invariant_of-result

@@ -37,7 +37,7 @@ returns-in_default-read c =
     let types = key_types c.args.def.now in
     let here = rw c.in_default-read.is at c.in-Ok.ensures in
     let first = subst (λ (ts : List Ty). IsFirst (fits_key ts) (key_items ts) c.granules.rest.now None) c.granules.invariant.same here in
-    let returned = no_key types (c.args.granules + 1) c.args.bytes.now c.granules.keys c.granules.rest.now c.at_fault.result first c.granules.invariant.goes (omega (arith, c.granules.invariant.few)) (rw c.len-granule.ensures at c.at_fault.ensures) in
+    let returned = no_key types (c.args.granules + 1) c.args.bytes.now c.granules.keys c.granules.rest.now c.granule_fault.result first c.granules.invariant.goes (omega (arith, c.granules.invariant.few)) (rw c.len-granule.ensures at c.granule_fault.ensures) in
     record { gives = returned.0; only = returned.1 }
 
 pub returns-then-granule-granules : goal.returns-then-granule-granules

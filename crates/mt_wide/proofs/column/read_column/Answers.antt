@@ -10,7 +10,8 @@ use Rattle.mt_granules.specs.FileFolder.{folder_in}
 use Rattle.mt_types.specs.Fits.{fits_of}
 use Rattle.mt_granules.proofs.FitLemmas.{granule_fits}
 use Rattle.mt_granules.proofs.OrderLemmas.{numbered_continues, numbered_ends}
-use Rattle.mt_granules.proofs.StepLemmas.{fails_after, fails_numbered}
+use Rattle.mt_fault.proofs.FaultLemmas.{fails_after}
+use Rattle.mt_granules.proofs.StepLemmas.{fails_numbered}
 use Rattle.mt_defs.specs.FileNames.{stream_names}
 use Rattle.mt_wide.specs.StreamView.{streams_in}
 use Rattle.mt_wide.specs.WideReading.{granule_reading, stream_reading}

@@ -6,9 +6,10 @@ use Rattle.mt_table.specs.declared.column.Column.{Column}
 use Rattle.mt_granules.specs.FileFaults.{in_order}
 use Rattle.mt_granules.specs.FileFolder.{folder_in}
 use Rattle.mt_granules.specs.ColumnRows.{all_values, rows_of}
-use Rattle.mt_granules.specs.Results.{FailsAs}
+use Rattle.mt_fault.specs.Results.{FailsAs}
 use Rattle.mt_granules.proofs.FitLemmas.{all_fit, column_fits, first_fits}
-use Rattle.mt_granules.proofs.StepLemmas.{fails_first, fails_in_order, fails_on}
+use Rattle.mt_fault.proofs.FaultLemmas.{fails_then}
+use Rattle.mt_granules.proofs.StepLemmas.{fails_first, fails_in_order}
 use Rattle.mt_wide.specs.WideReading.{column_reading}
 use Rattle.mt_wide.proofs.ReadingLemmas.{after_first, all_read, column_read, first_read, rows_many, values_fit}
 use Rattle.mt_wide.proofs.reading.read_columns.Goals as goal
@@ -17,7 +18,7 @@ pub returns-in_err-first_values-clause-reads : goal.returns-in_err-first_values-
 returns-in_err-first_values-clause-reads c =
     let p = err_from_is_err_and c.from_residual.result c.from_residual.ensures.1 in
     let step = column_reading (folder_in c.args.folder.now) c.args.granules.now in
-    rw (p.1, p.2) (fails_on c.in_err-first_values.field-0.0 (in_order step c.args.columns.now) (λ values. Ok (rows_of c.args.count (map all_values values)))
+    rw (p.1, p.2) (fails_then c.in_err-first_values.field-0.0 (in_order step c.args.columns.now) (λ values. Ok (rows_of c.args.count (map all_values values)))
     (subst (λ (cs : List Column). FailsAs c.in_err-first_values.field-0.0 (in_order step cs)) (sym c.in-Some.ensures.cases.0) (fails_first c.in_err-first_values.field-0.0 step c.in-Some.first.now c.in-Some.others.now c.in_err-first_values.ensures.reads)))
 
 pub first_rows-requires : goal.first_rows-requires
@@ -42,7 +43,7 @@ returns-in_err-values-clause-reads c =
     let p = err_from_is_err_and c.from_residual-in_err-values.result c.from_residual-in_err-values.ensures.1 in
     let step = column_reading (folder_in c.args.folder.now) c.args.granules.now in
     let at = after_first c.args.columns.now c.in-Some.others.now c.in-Some.first.now c.column-item.result c.loop-column.column-index c.in-Some.ensures.cases.0 c.loop-column-test.true c.column-item.is in
-    rw (p.1, p.2) (fails_on c.in_err-values.field-0.0 (in_order step c.args.columns.now) (λ values. Ok (rows_of c.args.count (map all_values values)))
+    rw (p.1, p.2) (fails_then c.in_err-values.field-0.0 (in_order step c.args.columns.now) (λ values. Ok (rows_of c.args.count (map all_values values)))
     (fails_in_order c.in_err-values.field-0.0 step c.args.columns.now (c.loop-column.column-index + 1) c.column-item.result c.loop-column.invariant.read.values at.0 at.1 c.loop-column.invariant.read.so_far c.in_err-values.ensures.reads))
 
 pub append_column-requires : goal.append_column-requires

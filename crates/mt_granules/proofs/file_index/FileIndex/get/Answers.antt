@@ -3,7 +3,7 @@ use Rattle.std.specs.Prelude.{option_copied, Some}
 use Rattle.std.specs.Str.{bytes_eq}
 use Rattle.std.proofs.lemmas.Bool.{ltb-true, ltb-false}
 use Rattle.std.proofs.lemmas.Map.Text.{is_eq-slice_cmp}
-use Rattle.mt_shelf.specs.declared.file.FileBytes.{FileBytes}
+use Rattle.mt_fault.specs.declared.file.FileBytes.{FileBytes}
 use Rattle.mt_granules.specs.FileOrder.{files_in}
 use Rattle.mt_granules.proofs.FileLemmas.{not_found, found_there, other_there, reference_at, files_many}
 use Rattle.mt_granules.proofs.file_index.FileIndex.get.Goals as goal
