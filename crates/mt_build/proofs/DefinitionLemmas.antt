@@ -64,6 +64,7 @@ scalar_at (Ty-F.Int width) e = refl
 scalar_at (Ty-F.FixedString size) e = refl
 scalar_at Ty-F.Str e = refl
 scalar_at Ty-F.Date e = refl
+scalar_at Ty-F.Moment e = refl
 scalar_at _ e = cc
 
 -- a type of a key is a scalar

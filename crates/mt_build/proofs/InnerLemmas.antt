@@ -10,12 +10,13 @@ use Rattle.std.proofs.lemmas.List.Elements.{All-map, All-append, All-get_or, All
 use Rattle.mt_types.specs.declared.ty.Agg.{Agg}
 use Rattle.mt_types.specs.declared.ty.Agg.TheVariants.{Sum, Min, Max}
 use Rattle.mt_types.specs.declared.ty.Ty.{Ty, out-Ty}
-use Rattle.mt_types.specs.declared.ty.Ty.TheOpen.{Ty-F}
 use Rattle.mt_types.specs.declared.ty.Ty.TheVariants.{State as StateOf}
 use Rattle.mt_types.specs.Profile.{Kind, Whole, Day, kind_of, state_kind, is_known, is_profile}
-use Rattle.mt_types.proofs.Levels.{kind_at, kind-State, kind-CountState}
+use Rattle.mt_types.specs.Numbers.{is_argument_type}
+use Rattle.mt_types.proofs.Levels.{kind-State, kind-CountState}
 use Rattle.mt_types.proofs.StepLemmas.{both_true}
 use Rattle.mt_item.specs.ItemTypes.{is_scalar}
+use Rattle.mt_item.proofs.TypeLemmas.{argument_kind, integer_kind}
 use Rattle.mt_table.specs.declared.column.Column.{Column}
 use Rattle.mt_table.specs.declared.definition.Table.{Table}
 use Rattle.mt_table.specs.declared.limits.TheConstants.{MAX_COLUMNS, MAX_KEY, MAX_PROJECTIONS}
@@ -23,7 +24,7 @@ use Rattle.mt_table.specs.declared.projection.Aggregate.{Aggregate}
 use Rattle.mt_table.specs.declared.projection.Aggregate.TheVariants.{Count, Of}
 use Rattle.mt_table.specs.declared.projection.Projection.{Projection}
 use Rattle.mt_table.specs.declared.projection.Projection.TheVariants.{Normal, Grouped}
-use Rattle.mt_table.specs.ColumnTypes.{is_integer_at, is_integer_type, is_number_at, is_number_type, is_key_type}
+use Rattle.mt_table.specs.ColumnTypes.{is_integer_type, is_key_type}
 use Rattle.mt_table.specs.Kept.{is_one_of, keeps_aggregate, keeps_grouped, keeps_key, keeps_normal, keeps_projection}
 use Rattle.mt_table.specs.Tables.{fields_of_table}
 use Rattle.mt_table.proofs.KeptLemmas.{each_of, key_length}
@@ -193,28 +194,6 @@ normal_is table name columns sort are keeps =
 
 -- ---- aggregate projections
 
-integer_kind : (ty : Ty) (level : Ty-F Ty) → out-Ty ty ≡ level → is_integer_at level ≡ true → kind_of ty ≡ Whole
-integer_kind ty (Ty-F.UInt width) is e = kind_at ty (Ty-F.UInt width) is
-integer_kind ty (Ty-F.Int width) is e = kind_at ty (Ty-F.Int width) is
-integer_kind ty (Ty-F.FixedString size) is e = cc
-integer_kind ty Ty-F.Str is e = cc
-integer_kind ty Ty-F.Date is e = cc
-integer_kind ty (Ty-F.Nullable inner) is e = cc
-integer_kind ty (Ty-F.Array inner) is e = cc
-integer_kind ty (Ty-F.State agg inner) is e = cc
-integer_kind ty Ty-F.CountState is e = cc
-
-number_kind : (ty : Ty) (level : Ty-F Ty) → out-Ty ty ≡ level → is_number_at level ≡ true → (kind_of ty ≡ Whole) ⊎ (kind_of ty ≡ Day)
-number_kind ty (Ty-F.UInt width) is e = inl (kind_at ty (Ty-F.UInt width) is)
-number_kind ty (Ty-F.Int width) is e = inl (kind_at ty (Ty-F.Int width) is)
-number_kind ty Ty-F.Date is e = inr (kind_at ty Ty-F.Date is)
-number_kind ty (Ty-F.FixedString size) is e = cc
-number_kind ty Ty-F.Str is e = cc
-number_kind ty (Ty-F.Nullable inner) is e = cc
-number_kind ty (Ty-F.Array inner) is e = cc
-number_kind ty (Ty-F.State agg inner) is e = cc
-number_kind ty Ty-F.CountState is e = cc
-
 state_known : (agg : Agg) (ty : Ty) (kind : Kind) → kind_of ty ≡ kind → is_known (state_kind agg kind) ≡ true → IsTrue (is_profile (StateOf agg ty))
 state_known agg ty kind is known = ap is_known (kind-State agg ty ∙ ap (state_kind agg) is) ∙ known
 
@@ -226,13 +205,13 @@ aggregate_profile : (table : Table) (aggregate : Aggregate) → keeps_aggregate 
 aggregate_profile table Count keeps = ap is_known kind-CountState
 aggregate_profile table (Of Sum i) keeps =
     let ty = (column_at table.columns i).ty in
-    state_known Sum ty Whole (integer_kind ty (out-Ty ty) refl (has_column is_integer_type table.columns i keeps).passes) refl
+    state_known Sum ty Whole (integer_kind ty (has_column is_integer_type table.columns i keeps).passes) refl
 aggregate_profile table (Of Min i) keeps =
     let ty = (column_at table.columns i).ty in
-    number_state Min ty refl refl (number_kind ty (out-Ty ty) refl (has_column is_number_type table.columns i keeps).passes)
+    number_state Min ty refl refl (argument_kind ty (has_column is_argument_type table.columns i keeps).passes)
 aggregate_profile table (Of Max i) keeps =
     let ty = (column_at table.columns i).ty in
-    number_state Max ty refl refl (number_kind ty (out-Ty ty) refl (has_column is_number_type table.columns i keeps).passes)
+    number_state Max ty refl refl (argument_kind ty (has_column is_argument_type table.columns i keeps).passes)
 
 -- what the rules say of an aggregate projection
 pub record KeptGrouped (columns : List Column) (keys : List ℕ) (aggs : List Aggregate) : Type 0 where

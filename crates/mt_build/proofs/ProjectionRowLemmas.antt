@@ -7,21 +7,25 @@ use Rattle.std.proofs.lemmas.Bool.{lt-ltb}
 use Rattle.std.proofs.lemmas.List.Elements.{All-nil, All-cons, All-head, All-tail, All-map, All-weaker, All-filter}
 use Rattle.mt_types.specs.declared.ty.Agg.{Agg}
 use Rattle.mt_types.specs.declared.ty.Agg.TheVariants.{Sum, Min, Max}
+use Rattle.mt_types.specs.declared.ty.Width.{Width}
+use Rattle.mt_types.specs.declared.ty.Width.TheVariants.{W8, W16, W32, W64, W128}
 use Rattle.mt_types.specs.declared.ty.Ty.{Ty, out-Ty}
 use Rattle.mt_types.specs.declared.ty.Ty.TheOpen.{Ty-F}
 use Rattle.mt_types.specs.declared.value.Value.{Value, out-Value}
 use Rattle.mt_types.specs.declared.value.Value.TheOpen.{Value-F}
 use Rattle.mt_types.specs.declared.value.Value.TheVariants.{Null, Num, State, outs-Num}
-use Rattle.mt_types.specs.Fits.{bits, fits_of, is_least_of, is_signed, is_unsigned, num_at}
+use Rattle.mt_types.specs.Fits.{bits, fits_of, is_least_of, is_signed, is_unsigned, natural_at, num_at}
+use Rattle.mt_types.specs.Numbers.{is_argument_at, is_argument_type, is_narrow}
 use Rattle.mt_types.proofs.StepLemmas.{both_true}
-use Rattle.mt_agg.proofs.StateLemmas.{fits_at, fits_count, fits_state}
+use Rattle.mt_types.proofs.NumberLemmas.{fits_at}
+use Rattle.mt_agg.proofs.StateLemmas.{fits_count, fits_state}
 use Rattle.mt_table.specs.declared.column.Column.{Column}
 use Rattle.mt_table.specs.declared.definition.Table.{Table}
 use Rattle.mt_table.specs.declared.projection.Aggregate.{Aggregate}
 use Rattle.mt_table.specs.declared.projection.Aggregate.TheVariants.{Count, Of}
 use Rattle.mt_table.specs.declared.projection.Projection.{Projection}
 use Rattle.mt_table.specs.declared.projection.Projection.TheVariants.{Normal, Grouped}
-use Rattle.mt_table.specs.ColumnTypes.{is_key_type, is_number_at, is_number_type}
+use Rattle.mt_table.specs.ColumnTypes.{is_key_type}
 use Rattle.mt_table.specs.Kept.{keeps_aggregate, keeps_grouped, keeps_projection}
 use Rattle.mt_defs.specs.Folds.{fold_of, greater, greatest, least, lesser, number_at, number_of, wrapped_sum}
 use Rattle.mt_defs.specs.Lists.{Pointwise, distinct_by}
@@ -102,32 +106,28 @@ number_passes : (test : ℤ → Bool) (level : Value-F Value) → num_at test le
 number_passes test (Value-F.Num n) e = e
 number_passes test _ e = cc
 
-number_fits_at : (ty : Ty) (level : Ty-F Ty) (value : Value) → out-Ty ty ≡ level → is_number_at level ≡ true → fits_of ty value ≡ true → fits_of ty (Num (number_at (out-Value value))) ≡ true
-number_fits_at ty (Ty-F.UInt width) value is e fits = tested ty value (is_unsigned (bits width)) (fits_at ty (Ty-F.UInt width) is) fits
-  where
-    tested : (ty : Ty) (value : Value) (test : ℤ → Bool) → fits_of ty ≡ (λ v. num_at test (out-Value v)) → fits_of ty value ≡ true → fits_of ty (Num (number_at (out-Value value))) ≡ true
-    tested ty value test is fits =
-        let n = number_at (out-Value value) in
-        ap (λ f. f (Num n)) is ∙ ap (num_at test) (outs-Num n) ∙ number_passes test (out-Value value) (sym (ap (λ f. f value) is) ∙ fits)
-number_fits_at ty (Ty-F.Int width) value is e fits = tested ty value (is_signed (bits width)) (fits_at ty (Ty-F.Int width) is) fits
-  where
-    tested : (ty : Ty) (value : Value) (test : ℤ → Bool) → fits_of ty ≡ (λ v. num_at test (out-Value v)) → fits_of ty value ≡ true → fits_of ty (Num (number_at (out-Value value))) ≡ true
-    tested ty value test is fits =
-        let n = number_at (out-Value value) in
-        ap (λ f. f (Num n)) is ∙ ap (num_at test) (outs-Num n) ∙ number_passes test (out-Value value) (sym (ap (λ f. f value) is) ∙ fits)
-number_fits_at ty Ty-F.Date value is e fits =
-    let f = fits_at ty Ty-F.Date is in
+-- a type without a sign of at most 64 bits
+narrow_at : (width : Width) (level : Value-F Value) → is_narrow width ≡ true → natural_at width level ≡ num_at (is_unsigned (bits width)) level
+narrow_at W8 level e = refl
+narrow_at W16 level e = refl
+narrow_at W32 level e = refl
+narrow_at W64 level e = refl
+narrow_at W128 level e = cc
+
+-- a type whose values are numbers that pass a test has the number of each of its values
+tested : (ty : Ty) (value : Value) (test : ℤ → Bool) → ((v : Value) → fits_of ty v ≡ num_at test (out-Value v)) → fits_of ty value ≡ true → fits_of ty (Num (number_at (out-Value value))) ≡ true
+tested ty value test is fits =
     let n = number_at (out-Value value) in
-    ap (λ f. f (Num n)) f ∙ ap (num_at (is_unsigned 16)) (outs-Num n) ∙ number_passes (is_unsigned 16) (out-Value value) (sym (ap (λ f. f value) f) ∙ fits)
-number_fits_at ty (Ty-F.FixedString size) value is e fits = cc
-number_fits_at ty Ty-F.Str value is e fits = cc
-number_fits_at ty (Ty-F.Nullable inner) value is e fits = cc
-number_fits_at ty (Ty-F.Array inner) value is e fits = cc
-number_fits_at ty (Ty-F.State agg inner) value is e fits = cc
-number_fits_at ty Ty-F.CountState value is e fits = cc
+    is (Num n) ∙ ap (num_at test) (outs-Num n) ∙ number_passes test (out-Value value) (sym (is value) ∙ fits)
+
+number_fits_at : (ty : Ty) (level : Ty-F Ty) (value : Value) → out-Ty ty ≡ level → is_argument_at level ≡ true → fits_of ty value ≡ true → fits_of ty (Num (number_at (out-Value value))) ≡ true
+number_fits_at ty (Ty-F.UInt width) value is e fits = tested ty value (is_unsigned (bits width)) (λ v. ap (λ f. f v) (fits_at ty (Ty-F.UInt width) is) ∙ narrow_at width (out-Value v) e) fits
+number_fits_at ty (Ty-F.Int width) value is e fits = tested ty value (is_signed (bits width)) (λ v. ap (λ f. f v) (fits_at ty (Ty-F.Int width) is)) fits
+number_fits_at ty Ty-F.Date value is e fits = tested ty value (is_unsigned 16) (λ v. ap (λ f. f v) (fits_at ty Ty-F.Date is)) fits
+number_fits_at ty _ value is e fits = cc
 
 -- the numbers that an aggregate takes of rows fit the column's type
-numbers_fit : (columns : List Column) (agg : Agg) (i : ℕ) (rows : List Row) → HasColumn is_number_type columns i → All (RowFits columns) rows
+numbers_fit : (columns : List Column) (agg : Agg) (i : ℕ) (rows : List Row) → HasColumn is_argument_type columns i → All (RowFits columns) rows
     → All (λ n. fits_of (column_at columns i).ty (Num n) ≡ true) (map (number_of (Of agg i)) rows)
 numbers_fit columns agg i rows has fit =
     let ty = (column_at columns i).ty in
@@ -143,10 +143,10 @@ state_fits table Count rows keeps fit = fits_count (fold_of rows Count) ∙ lt-l
 state_fits table (Of Sum i) rows keeps fit = fits_state Sum (column_at table.columns i).ty (fold_of rows (Of Sum i)) ∙ lt-ltb (wrapped_sum (map (number_of (Of Sum i)) rows)) (2 ^ 64) (wrapped _)
 state_fits table (Of Min i) rows keeps fit =
     let ty = (column_at table.columns i).ty in
-    fits_state Min ty (fold_of rows (Of Min i)) ∙ least_fits (fits_of ty) (map (number_of (Of Min i)) rows) (numbers_fit table.columns Min i rows (has_column is_number_type table.columns i keeps) fit)
+    fits_state Min ty (fold_of rows (Of Min i)) ∙ least_fits (fits_of ty) (map (number_of (Of Min i)) rows) (numbers_fit table.columns Min i rows (has_column is_argument_type table.columns i keeps) fit)
 state_fits table (Of Max i) rows keeps fit =
     let ty = (column_at table.columns i).ty in
-    fits_state Max ty (fold_of rows (Of Max i)) ∙ greatest_fits (fits_of ty) (map (number_of (Of Max i)) rows) (numbers_fit table.columns Max i rows (has_column is_number_type table.columns i keeps) fit)
+    fits_state Max ty (fold_of rows (Of Max i)) ∙ greatest_fits (fits_of ty) (map (number_of (Of Max i)) rows) (numbers_fit table.columns Max i rows (has_column is_argument_type table.columns i keeps) fit)
 
 -- ---- rows
 

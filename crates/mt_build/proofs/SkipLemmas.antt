@@ -22,7 +22,7 @@ use Rattle.mt_table.specs.Kept.{keeps_expression, keeps_skip, month_place, plain
 use Rattle.mt_types.specs.Words.{is_name}
 use Rattle.mt_table.specs.Tables.{fields_of_table}
 use Rattle.mt_table.proofs.KeptLemmas.{each_of}
-use Rattle.mt_shelf.specs.declared.file.FileBytes.{FileBytes}
+use Rattle.mt_fault.specs.declared.file.FileBytes.{FileBytes}
 use Rattle.mt_types.specs.declared.value.Value.{Value}
 use Rattle.mt_types.specs.Fits.{fits_of}
 use Rattle.mt_layout.specs.declared.layout.Layout.{Layout}

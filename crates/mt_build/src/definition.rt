@@ -8,9 +8,10 @@ ghost use Rattle.mt_defs.specs.Writer as defined;
 ghost use Rattle.mt_build.specs.Definitions.{AreColumns, IsDefinition, text_files};
 
 use mt_compact::write_compact;
+use mt_fault::FileBytes;
 use mt_layout::{Layout, layout_of};
 use mt_meta::{columns_text, count_text, primary_bytes};
-use mt_shelf::FileBytes;
+use mt_names::{COLUMNS_FILE, COUNT_FILE, INDEX_FILE};
 use mt_table::{Column, PartDef, Settings};
 use mt_types::{List, NoMemory, Row};
 use mt_wide::write_wide;
@@ -71,11 +72,11 @@ fn text_files(
 {
     let mut files = Vec::with_capacity(alloc, TEXT_FILES)?;
     let columns = columns_text(alloc, definition.columns.as_slice())?;
-    append_file(alloc, b"columns.txt", columns, &mut files)?;
+    append_file(alloc, COLUMNS_FILE, columns, &mut files)?;
     let count = count_text(alloc, rows.len())?;
-    append_file(alloc, b"count.txt", count, &mut files)?;
+    append_file(alloc, COUNT_FILE, count, &mut files)?;
     let index = primary_bytes(alloc, definition, rows, granules)?;
-    append_file(alloc, b"primary.idx", index, &mut files)?;
+    append_file(alloc, INDEX_FILE, index, &mut files)?;
     Ok(files)
 }
 

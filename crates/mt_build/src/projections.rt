@@ -8,8 +8,9 @@ ghost use Rattle.mt_defs.specs.Rows.{RowFits};
 ghost use Rattle.mt_defs.specs.Writer.{file_below, projection_files};
 
 use crate::definition::definition_files;
+use mt_fault::FileBytes;
+use mt_names::prefix_of;
 use mt_proj::project;
-use mt_shelf::FileBytes;
 use mt_table::{Projection, Table};
 use mt_types::{List, NoMemory, Row};
 use std::alloc::Global;
@@ -48,27 +49,9 @@ fn append_projection(
     let definition = table.inner(alloc, projection)?;
     let stored = project(alloc, table, projection, rows)?;
     let below = definition_files(alloc, &table.settings, &definition, stored.as_slice())?;
-    let prefix = projection_prefix(alloc, &table.projections.as_slice()[projection])?;
+    let prefix = prefix_of(alloc, &table.projections.as_slice()[projection])?;
     append_below(alloc, prefix.as_slice(), below, files)?;
     Ok(())
-}
-
-/// The folder of a projection, with a `/` at its end.
-fn projection_prefix(alloc: Global, projection: &Projection) -> Result<List<u8>, NoMemory>
-    ensures { IfOk result (λ prefix. prefix ≡ defined.projection_prefix projection.now) }
-{
-    let mut prefix = List::of_bytes(alloc, projection_name(projection))?;
-    prefix.append(b".proj/")?;
-    Ok(prefix)
-}
-
-fn projection_name(projection: &Projection) -> &[u8]
-    ensures { result.now ≡ defined.projection_name projection.now }
-{
-    match projection {
-        Projection::Normal { name, .. } => name.as_slice(),
-        Projection::Grouped { name, .. } => name.as_slice(),
-    }
 }
 
 /// Appends files, each with a prefix before its name.

@@ -1,26 +1,23 @@
 //! The files of skip indexes.
 
-ghost use Rattle.std.specs.Prelude.{◌≡◌, ◌<◌, ◌++◌, codes, length, map, All, IfOk, OnOk};
+ghost use Rattle.std.specs.Prelude.{◌≡◌, ◌<◌, ◌++◌, length, map, All, IfOk, OnOk};
 ghost use Rattle.std.specs.List.{flat_map};
-ghost use Rattle.mt_defs.specs.FileNames.{file_name};
 ghost use Rattle.mt_defs.specs.Granules.{AreGranules};
-ghost use Rattle.mt_defs.specs.Part as part;
 ghost use Rattle.mt_defs.specs.Rows.{RowFits, column_values};
-ghost use Rattle.mt_defs.specs.SkipIndexes as indexes;
 ghost use Rattle.mt_defs.specs.WrittenFrames.{written_frames};
 ghost use Rattle.mt_defs.specs.WrittenSkips.{skip_files, written_entries};
 ghost use Rattle.mt_granules.specs.DataFiles.{data_file_of};
 ghost use Rattle.mt_build.specs.Definitions.{IsLayout};
 ghost use Rattle.mt_build.specs.SkipFiles.{IsSkip, passed_mark};
 
+use mt_fault::FileBytes;
 use mt_granules::DataFile;
 use mt_layout::Layout;
 use mt_marks::Mark;
-use mt_shelf::FileBytes;
+use mt_names::{skip_data_name, skip_marks_name};
 use mt_skip::entries;
-use mt_table::{Skip, SkipKind, Table};
+use mt_table::{Skip, Table};
 use mt_types::{List, NoMemory, Row, Value};
-use mt_wide::file_name;
 use std::alloc::Global;
 
 /// The bytes of a mark: three UInt64.
@@ -66,9 +63,9 @@ fn append_skip(
 {
     let entries = column_entries(alloc, table, skip, rows, layout.granules.as_slice())?;
     let DataFile { bytes, marks } = framed_entries(alloc, entries.as_slice())?;
-    let name = index_name(alloc, skip.name.as_slice(), data_ending(skip.kind))?;
+    let name = skip_data_name(alloc, skip)?;
     files.push(FileBytes { name, bytes })?;
-    let name = index_name(alloc, skip.name.as_slice(), marks_ending(layout.compact))?;
+    let name = skip_marks_name(alloc, skip, layout.compact)?;
     let bytes = marks_bytes(alloc, marks.as_slice())?;
     files.push(FileBytes { name, bytes })?;
     Ok(())
@@ -136,33 +133,4 @@ fn append_mark(mark: &Mark, bytes: &mut List<u8>) -> Result<(), NoMemory>
     bytes.append(&mark.inner.to_le_bytes())?;
     bytes.append(&PASSED_OVER.to_le_bytes())?;
     Ok(())
-}
-
-/// The name of a file of an index: the index's own name as files have it, and an ending.
-fn index_name(alloc: Global, own_name: &[u8], ending: &[u8]) -> Result<List<u8>, NoMemory>
-    ensures { IfOk result (λ name.
-        name ≡ codes "skp_idx_" ++ file_name own_name.now ++ ending.now) }
-{
-    let mut name = List::of_bytes(alloc, b"skp_idx_")?;
-    name.append(file_name(alloc, own_name)?.as_slice())?;
-    name.append(ending)?;
-    Ok(name)
-}
-
-/// What the name of an index's data file ends with (ClickHouse:
-/// `IMergeTreeIndex::getSerializedFileExtension`).
-fn data_ending(kind: SkipKind) -> &'static [u8]
-    ensures { result.now ≡ indexes.data_ending kind }
-{
-    match kind {
-        SkipKind::Minmax => b".idx2",
-        SkipKind::Set(_) => b".idx",
-    }
-}
-
-/// What the names of the part's marks files end with.
-fn marks_ending(compact: bool) -> &'static [u8]
-    ensures { result.now ≡ part.marks_ending compact }
-{
-    if compact { b".mrk3" } else { b".mrk2" }
 }

@@ -4,7 +4,7 @@ ghost use Rattle.std.specs.Prelude.{◌≡◌, IfOk};
 ghost use Rattle.mt_defs.specs.Sorting.{sorted_by};
 ghost use Rattle.mt_defs.specs.Writer.{file_cmp};
 
-use mt_shelf::FileBytes;
+use mt_fault::FileBytes;
 use mt_types::{List, NoMemory};
 
 /// The files in the byte order of their names.

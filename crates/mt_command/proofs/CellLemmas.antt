@@ -8,15 +8,17 @@ use Rattle.std.proofs.lemmas.List.Elements.{All-head, All-tail, All-append, All-
 use Rattle.std.proofs.lemmas.List.Sums.{sum_by-cons, sum_by-drop_more, length-filter, count_by-le-length}
 use Rattle.std.proofs.lemmas.List.FromFn.{length-range_with_len}
 use Rattle.std.proofs.lemmas.Nat.{mul-le}
+use Rattle.mt_types.specs.declared.ty.Width.{Width}
+use Rattle.mt_types.specs.declared.ty.Width.TheVariants.{W8, W16, W32, W64, W128}
 use Rattle.mt_types.specs.declared.ty.Ty.{Ty, out-Ty}
 use Rattle.mt_types.specs.declared.ty.Ty.TheOpen.{Ty-F}
 use Rattle.mt_types.specs.declared.value.Value.{Value, map-Value, out-Value}
 use Rattle.mt_types.specs.declared.value.Value.TheOpen.{Value-F}
 use Rattle.mt_types.specs.declared.value.Value.TheFolds.{fold_out-Value}
 use Rattle.mt_types.specs.declared.value.Value.TheVariants.{Null, State, outs-State}
-use Rattle.mt_types.specs.Fits.{fits_of, num_at, text_at}
+use Rattle.mt_types.specs.Fits.{fits_of, natural_at, num_at, text_at}
 use Rattle.mt_types.proofs.StepLemmas.{both_true}
-use Rattle.mt_agg.proofs.StateLemmas.{fits_at}
+use Rattle.mt_types.proofs.NumberLemmas.{fits_at}
 use Rattle.mt_item.specs.ItemTypes.{is_scalar_at}
 use Rattle.mt_table.specs.declared.definition.Table.{Table}
 use Rattle.mt_table.specs.declared.limits.TheConstants.{MAX_CELLS, MAX_KEY}
@@ -101,6 +103,7 @@ is_list_at _ = false
 
 no_elements : (value : Value) (level : Value-F Value) → out-Value value ≡ level → is_list_at level ≡ false → element_count value ≡ 0
 no_elements value (Value-F.Num n) is e = fold_out-Value ℕ element_count_step value ∙ ap (λ l. element_count_step (map-Value Value ℕ element_count l)) is
+no_elements value (Value-F.Huge n) is e = fold_out-Value ℕ element_count_step value ∙ ap (λ l. element_count_step (map-Value Value ℕ element_count l)) is
 no_elements value (Value-F.Text bytes) is e = fold_out-Value ℕ element_count_step value ∙ ap (λ l. element_count_step (map-Value Value ℕ element_count l)) is
 no_elements value Value-F.Null is e = fold_out-Value ℕ element_count_step value ∙ ap (λ l. element_count_step (map-Value Value ℕ element_count l)) is
 no_elements value (Value-F.State s) is e = fold_out-Value ℕ element_count_step value ∙ ap (λ l. element_count_step (map-Value Value ℕ element_count l)) is
@@ -108,13 +111,23 @@ no_elements value (Value-F.List items) is e = cc
 
 num_no_list : (test : _) (level : Value-F Value) → num_at test level ≡ true → is_list_at level ≡ false
 num_no_list test (Value-F.Num n) e = refl
+num_no_list test (Value-F.Huge n) e = refl
 num_no_list test (Value-F.Text bytes) e = refl
 num_no_list test Value-F.Null e = refl
 num_no_list test (Value-F.State s) e = refl
 num_no_list test (Value-F.List items) e = cc
 
+natural_no_list : (width : Width) (level : Value-F Value) → natural_at width level ≡ true → is_list_at level ≡ false
+natural_no_list W8 (Value-F.List items) e = cc
+natural_no_list W16 (Value-F.List items) e = cc
+natural_no_list W32 (Value-F.List items) e = cc
+natural_no_list W64 (Value-F.List items) e = cc
+natural_no_list W128 (Value-F.List items) e = cc
+natural_no_list width _ e = refl
+
 text_no_list : (test : _) (level : Value-F Value) → text_at test level ≡ true → is_list_at level ≡ false
 text_no_list test (Value-F.Num n) e = refl
+text_no_list test (Value-F.Huge n) e = refl
 text_no_list test (Value-F.Text bytes) e = refl
 text_no_list test Value-F.Null e = refl
 text_no_list test (Value-F.State s) e = refl
@@ -122,9 +135,10 @@ text_no_list test (Value-F.List items) e = cc
 
 -- a value of a scalar type is no list
 scalar_no_list : (ty : Ty) (level : Ty-F Ty) (value : Value) → out-Ty ty ≡ level → is_scalar_at level ≡ true → fits_of ty value ≡ true → is_list_at (out-Value value) ≡ false
-scalar_no_list ty (Ty-F.UInt width) value is e fits = num_no_list _ (out-Value value) (sym (ap (λ f. f value) (fits_at ty (Ty-F.UInt width) is)) ∙ fits)
+scalar_no_list ty (Ty-F.UInt width) value is e fits = natural_no_list width (out-Value value) (sym (ap (λ f. f value) (fits_at ty (Ty-F.UInt width) is)) ∙ fits)
 scalar_no_list ty (Ty-F.Int width) value is e fits = num_no_list _ (out-Value value) (sym (ap (λ f. f value) (fits_at ty (Ty-F.Int width) is)) ∙ fits)
 scalar_no_list ty Ty-F.Date value is e fits = num_no_list _ (out-Value value) (sym (ap (λ f. f value) (fits_at ty Ty-F.Date is)) ∙ fits)
+scalar_no_list ty Ty-F.Moment value is e fits = num_no_list _ (out-Value value) (sym (ap (λ f. f value) (fits_at ty Ty-F.Moment is)) ∙ fits)
 scalar_no_list ty (Ty-F.FixedString size) value is e fits = text_no_list _ (out-Value value) (sym (ap (λ f. f value) (fits_at ty (Ty-F.FixedString size) is)) ∙ fits)
 scalar_no_list ty Ty-F.Str value is e fits = text_no_list _ (out-Value value) (sym (ap (λ f. f value) (fits_at ty Ty-F.Str is)) ∙ fits)
 scalar_no_list ty (Ty-F.Nullable inner) value is e fits = cc

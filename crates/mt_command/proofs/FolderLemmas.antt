@@ -1,7 +1,7 @@
 -- What a shelf asks of the writer's files.
 use Rattle.std.proofs.Common.{◌≡◌, sym, subst, List, All}
 use Rattle.mt_table.specs.declared.definition.Table.{Table}
-use Rattle.mt_shelf.specs.declared.file.FileBytes.{FileBytes}
+use Rattle.mt_fault.specs.declared.file.FileBytes.{FileBytes}
 use Rattle.mt_shelf.specs.Held.{HasName}
 use Rattle.mt_defs.specs.Rows.{Row}
 use Rattle.mt_defs.specs.Writer.{written_folder}

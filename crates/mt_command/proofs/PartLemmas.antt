@@ -4,7 +4,7 @@ use Rattle.std.specs.Prelude.{length, All}
 use Rattle.std.proofs.lemmas.List.Elements.{All-weaker}
 use Rattle.mt_table.specs.declared.column.Column.{Column}
 use Rattle.mt_table.specs.declared.definition.Table.{Table}
-use Rattle.mt_shelf.specs.declared.fault.Fault.{Fault}
+use Rattle.mt_fault.specs.declared.fault.Fault.{Fault}
 use Rattle.mt_shelf.specs.declared.file.Entry.{Entry}
 use Rattle.mt_shelf.specs.Files.{Files, entries_below}
 use Rattle.mt_defs.specs.Rows.{Row, RowFits}

@@ -1,6 +1,6 @@
 -- Commands that read nothing of the input: by the outcome of their steps they print a text, or publish a folder.
 use Rattle.std.specs.Prelude.{◌≡◌, ◌⊎◌, ℕ, true, false, List, [], None, Some, IfSome, Result, Ok, Err}
-use Rattle.mt_shelf.specs.declared.file.FileBytes.{FileBytes}
+use Rattle.mt_fault.specs.declared.file.FileBytes.{FileBytes}
 use Rattle.mt_shelf.specs.Files.{Files}
 use Rattle.mt_command.specs.Outcomes.{Outcomes}
 use Rattle.mt_command.specs.Plans.{Plan, World, Unchanged, Performs}

@@ -1,6 +1,6 @@
 -- Steps whose outcome a relation gives: a value, or the first refusal.
 use Rattle.std.specs.Prelude.{◌≡◌, ◌⊎◌, false, Result, Ok, Err}
-use Rattle.mt_shelf.specs.declared.fault.Fault.{Fault}
+use Rattle.mt_fault.specs.declared.fault.Fault.{Fault}
 use Rattle.mt_command.specs.Status.{is_outside}
 use Rattle.mt_command.specs.declared.status.Status.{Status}
 

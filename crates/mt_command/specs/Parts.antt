@@ -3,7 +3,7 @@ use Rattle.std.specs.Prelude.{◌≡◌, ℕ, nat_lt, List, map, Option, None, S
 use Rattle.std.specs.List.{sum_by}
 use Rattle.std.specs.FinMap.{get}
 use Rattle.mt_table.specs.declared.definition.Table.{Table}
-use Rattle.mt_shelf.specs.declared.fault.Fault.{Fault}
+use Rattle.mt_fault.specs.declared.fault.Fault.{Fault}
 use Rattle.mt_shelf.specs.declared.file.Entry.{Entry}
 use Rattle.mt_shelf.specs.Paths.{joined_path}
 use Rattle.mt_shelf.specs.Files.{Files, entries_below, listing_of}

@@ -6,7 +6,7 @@ use Rattle.mt_table.specs.declared.projection.Projection.{Projection}
 use Rattle.mt_table.specs.declared.limits.TheConstants.{MAX_CELLS}
 use Rattle.mt_table.specs.Rows.{cell_count}
 use Rattle.mt_table.specs.Stored.{inner_of}
-use Rattle.mt_shelf.specs.declared.file.FileBytes.{FileBytes}
+use Rattle.mt_fault.specs.declared.file.FileBytes.{FileBytes}
 use Rattle.mt_shelf.specs.Files.{Files, stands, gained_files}
 use Rattle.mt_shelf.specs.Held.{pair_of}
 use Rattle.mt_defs.specs.Rows.{Row}

@@ -4,8 +4,9 @@ ghost use Rattle.mt_command.specs.Status.{code_of, status_of_rows, status_of_she
 ghost use Rattle.mt_command.specs.Status.{status_of_sink, status_of_source};
 ghost use Rattle.mt_command.specs.Plans.{answer_of};
 
+use mt_fault::Fault;
 use mt_query::QueryWhy;
-use mt_shelf::{CallError, Fault};
+use mt_shelf::CallError;
 use mt_table_text::TableWhy;
 use mt_tsv::{MAX_CELLS, MAX_ROWS, RowError, RowWhy};
 use mt_types::List;

@@ -11,7 +11,8 @@ ghost use Rattle.mt_command.specs.Steps.{StepCausedBy, Stored, of_shelf};
 ghost use Rattle.mt_command.specs.Targets.{free_target};
 
 use crate::status::{Status, status_of_shelf};
-use mt_shelf::{FileBytes, Shelf, store};
+use mt_fault::FileBytes;
+use mt_shelf::{Shelf, store};
 
 /// Refuses a target where a file stands, or below it.
 pub fn free_target<F: Shelf>(shelf: &mut F, part: &str) -> Result<(), Status>

@@ -1,7 +1,8 @@
 //! One frame of a file on a shelf.
 
-use mt_frame::{FrameError, put_frames, read_frame};
+use mt_frame::put_frames;
 use mt_shelf::{FileSet, MemShelf, Shelf, is_path};
+use mt_shelf_frame::{ReadFrameError, read_frame};
 use mt_types::List;
 use std::alloc::Global;
 use std::test::Fail;
@@ -16,15 +17,15 @@ const SECOND: [u8; 4] = [3, 0, 0, 0];
 
 /// The most bytes that a read gives, the number of a call that fails (0: none does), and where a frame begins: what is
 /// answered.
-const CASES: &[(usize, u64, u64, Result<u64, FrameError>)] = &[
+const CASES: &[(usize, u64, u64, Result<u64, ReadFrameError>)] = &[
     (1, 0, 0, Ok(33)),
     (7, 0, 33, Ok(62)),
     (65_536, 0, 0, Ok(33)),
     // One call for the size, four for the header, and two for the payload.
-    (7, 2, 0, Err(FrameError::Shelf)),
-    (7, 5, 0, Err(FrameError::Shelf)),
-    (7, 6, 0, Err(FrameError::Shelf)),
-    (7, 7, 0, Err(FrameError::Shelf)),
+    (7, 2, 0, Err(ReadFrameError::Shelf)),
+    (7, 5, 0, Err(ReadFrameError::Shelf)),
+    (7, 6, 0, Err(ReadFrameError::Shelf)),
+    (7, 7, 0, Err(ReadFrameError::Shelf)),
     (7, 8, 0, Ok(33)),
 ];
 
@@ -46,7 +47,7 @@ fn read_at(
     shelf: &mut MemShelf,
     at: u64,
     into: &mut List<u8>,
-) -> Result<Result<u64, FrameError>, Fail> {
+) -> Result<Result<u64, ReadFrameError>, Fail> {
     if !is_path(PATH) {
         return Err(Fail::from("no path"));
     }

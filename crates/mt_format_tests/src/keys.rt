@@ -5,20 +5,20 @@ ghost use Rattle.mt_defs.specs.Metadata.{column_at};
 ghost use Rattle.mt_item.specs.ItemTypes.{is_scalar};
 ghost use Rattle.mt_meta.specs.Keys.{AreKeys};
 
+use mt_fault::{FileError, Why};
 use mt_meta::read_keys;
-use mt_shelf::{ReadError, Why};
 use mt_table::{Column, PartDef};
 use mt_types::{List, NoMemory, Row, Ty, Value, Width};
 use std::alloc::Global;
 use std::test::Fail;
 
-/// An integer type, `FixedString`, `String` or `Date`.
+/// An integer type, `FixedString`, `String`, `Date` or `DateTime('UTC')`.
 fn is_scalar(ty: &Ty) -> bool
     ensures { result ≡ is_scalar ty.now }
 {
     matches!(
         ty,
-        Ty::UInt(_) | Ty::Int(_) | Ty::FixedString(_) | Ty::Str | Ty::Date
+        Ty::UInt(_) | Ty::Int(_) | Ty::FixedString(_) | Ty::Str | Ty::Date | Ty::Moment
     )
 }
 
@@ -44,6 +44,14 @@ fn is_key(columns: &[Column], column_index: usize) -> bool
     is_scalar(&columns[column_index].ty)
 }
 
+/// The places of two columns.
+fn both(alloc: Global) -> Result<List<u32>, NoMemory> {
+    let mut places = List::new(alloc);
+    places.push(0)?;
+    places.push(1)?;
+    Ok(places)
+}
+
 /// What a part stores of a text and a number, both its key.
 fn definition(alloc: Global) -> Result<PartDef, NoMemory> {
     let mut columns = List::new(alloc);
@@ -55,24 +63,22 @@ fn definition(alloc: Global) -> Result<PartDef, NoMemory> {
         name: List::of_bytes(alloc, b"b")?,
         ty: Ty::Int(Width::W16),
     })?;
-    let mut sort = List::new(alloc);
-    sort.push(0)?;
-    sort.push(1)?;
     Ok(PartDef {
         columns,
-        sort,
+        must: both(alloc)?,
+        sort: both(alloc)?,
         primary: 2,
     })
 }
 
 /// The keys of a text and a number that stand for two granules.
-fn keys_in(alloc: Global, bytes: &[u8]) -> Result<List<Row>, ReadError> {
+fn keys_in(alloc: Global, bytes: &[u8]) -> Result<List<Row>, FileError> {
     let Ok(definition) = definition(alloc) else {
-        return Err(ReadError::NoMemory);
+        return Err(FileError::NoMemory);
     };
     let all = are_keys(definition.columns.as_slice(), definition.sort.as_slice());
     if !all || definition.primary as usize > definition.sort.len() {
-        return Err(ReadError::Shelf);
+        return Err(FileError::NoMemory);
     }
     read_keys(alloc, &definition, 2, bytes)
 }
@@ -112,7 +118,7 @@ const FAULTS: &[(&[u8], Option<u64>, Why)] = &[
 fn other_bytes_have_a_fault(rt: HostRuntime) -> Result<(), Fail> {
     for (bytes, granule, why) in FAULTS {
         match keys_in(rt.alloc(), bytes) {
-            Err(ReadError::AtFault(fault)) => {
+            Err(FileError::AtFault(fault)) => {
                 assert!(rt; fault.granule == *granule && fault.why == *why);
             }
             _ => return Err(Fail::from("no fault")),

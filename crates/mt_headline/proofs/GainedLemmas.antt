@@ -8,7 +8,7 @@ use Rattle.std.specs.FinMap.{entries, find, get-entries, get-insert, insert}
 use Rattle.std.proofs.lemmas.Bool.{cases_Bool, eq-eqb, or_parts}
 use Rattle.std.proofs.lemmas.Cmp.{nat_list_cmp_total}
 use Rattle.std.proofs.lemmas.List.{append_cancel_left}
-use Rattle.mt_shelf.specs.declared.file.FileBytes.{FileBytes}
+use Rattle.mt_fault.specs.declared.file.FileBytes.{FileBytes}
 use Rattle.mt_shelf.specs.Paths.{is_at_or_below, joined_path}
 use Rattle.mt_shelf.specs.Files.{Files, gained_files, stands}
 use Rattle.mt_shelf.specs.Held.{pair_of}

@@ -1,7 +1,7 @@
 -- The steps of a part have one outcome.
 use Rattle.std.proofs.Common.{◌≡◌, ℕ, List, ap, sym, ◌∙◌, inl, inr}
 use Rattle.std.specs.Prelude.{Result, Ok, Err}
-use Rattle.mt_shelf.specs.declared.fault.Fault.{Fault}
+use Rattle.mt_fault.specs.declared.fault.Fault.{Fault}
 use Rattle.mt_shelf.specs.Files.{Files}
 use Rattle.mt_table.specs.declared.definition.Table.{Table}
 use Rattle.mt_definition.specs.declared.accepted.Accepted.{Accepted}

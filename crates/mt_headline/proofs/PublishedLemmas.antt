@@ -1,9 +1,9 @@
 -- The part that a command publishes: what its checks read, and that its listing is within the limit.
 use Rattle.std.proofs.Common.{◌≡◌, ℕ, ◌≤◌, false, List, map, ap, sym, ◌∙◌, subst, inl, inr}
 use Rattle.std.specs.Prelude.{AllPairs, Result, Ok, Err}
-use Rattle.mt_shelf.specs.declared.fault.Fault.{Fault}
+use Rattle.mt_fault.specs.declared.fault.Fault.{Fault}
 use Rattle.mt_shelf.specs.declared.file.Entry.{Entry}
-use Rattle.mt_shelf.specs.declared.file.FileBytes.{FileBytes}
+use Rattle.mt_fault.specs.declared.file.FileBytes.{FileBytes}
 use Rattle.mt_shelf.specs.Files.{Files, entries_below, gained_files, stands}
 use Rattle.mt_shelf.specs.Held.{pair_of}
 use Rattle.mt_table.specs.declared.definition.Table.{Table}

@@ -11,7 +11,7 @@ use Rattle.std.proofs.lemmas.Bool.{ltb-false, ltb-true, or_parts}
 use Rattle.std.proofs.lemmas.Cmp.{nat_list_cmp_total}
 use Rattle.std.proofs.lemmas.List.Sums.{sum_by-cons}
 use Rattle.mt_shelf.specs.declared.file.Entry.{Entry}
-use Rattle.mt_shelf.specs.declared.file.FileBytes.{FileBytes}
+use Rattle.mt_fault.specs.declared.file.FileBytes.{FileBytes}
 use Rattle.mt_shelf.specs.Paths.{is_at_or_below, joined_path, name_below}
 use Rattle.mt_shelf.specs.Files.{Files, entries_below, entry_of, gained_files, listing_of, stands}
 use Rattle.mt_shelf.specs.Held.{by_order, pair_of, with_entry, with_entry_if}

@@ -2,7 +2,7 @@
 
 ghost use Rattle.std.specs.Prelude.{◌≡◌, ◌↔◌, ℕ, false, List, map, Err, Ok, Result};
 ghost use Rattle.std.specs.FinMap.{get};
-ghost use Rattle.mt_shelf.specs.declared.fault.Fault.{Fault};
+ghost use Rattle.mt_fault.specs.declared.fault.Fault.{Fault};
 ghost use Rattle.mt_shelf.specs.Files.{Draft, Files, entries_below, gained_files};
 ghost use Rattle.mt_shelf.specs.Held.{pair_of};
 ghost use Rattle.mt_shelf.specs.Paths.{is_at_or_below};

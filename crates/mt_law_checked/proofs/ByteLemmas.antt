@@ -21,7 +21,7 @@ use Rattle.mt_defs.specs.Metadata.{column_at, no_column}
 use Rattle.mt_defs.specs.PrimaryIndex.{index_rows, key_bytes, primary_index_of}
 use Rattle.mt_defs.specs.Rows.{Row, RowFits, cell}
 use Rattle.mt_defs.specs.SkipIndexes.{SkipMark, skip_mark_bytes}
-use Rattle.mt_agg.proofs.StateLemmas.{item_at}
+use Rattle.mt_types.proofs.NumberLemmas.{item_at}
 use Rattle.mt_definition.proofs.KeyLemmas.{cell_fits}
 use Rattle.mt_item.proofs.ItemBytes.{item_is_bytes, number_bytes}
 use Rattle.mt_law_written.proofs.ListLemmas.{All-granules, All-to_flat_map}

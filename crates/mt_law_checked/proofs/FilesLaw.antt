@@ -2,7 +2,7 @@
 use Rattle.std.proofs.Common.{◌≡◌, ℕ, zero, suc, Bool, List, [], ◌∷◌, map, ap, ◌∙◌, arith, inl, inr, Option, Some}
 use Rattle.std.specs.Prelude.{Contains, IsSome, is_some, if◌then◌else◌}
 use Rattle.std.proofs.lemmas.Bool.{cases_Bool}
-use Rattle.mt_shelf.specs.declared.file.FileBytes.{FileBytes}
+use Rattle.mt_fault.specs.declared.file.FileBytes.{FileBytes}
 use Rattle.mt_defs.specs.Folder.{folder_of, is_name}
 use Rattle.mt_law_written.proofs.LookupLemmas.{found_is_listed, same_name}
 use Rattle.mt_law_checked.specs.Listed.{HasNames}

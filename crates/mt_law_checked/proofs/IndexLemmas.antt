@@ -5,12 +5,12 @@ use Rattle.std.specs.List.{flat_map}
 use Rattle.std.specs.Str.{bytes_eq}
 use Rattle.std.proofs.lemmas.List.{take-append-drop, take_at, drop_at}
 use Rattle.std.proofs.lemmas.Slice.Eq.{bytes_eq-Decides}
-use Rattle.mt_shelf.specs.declared.fault.Fault.{Fault}
-use Rattle.mt_shelf.specs.declared.fault.Why.TheVariants.{Key, Over}
+use Rattle.mt_fault.specs.declared.fault.Fault.{Fault}
+use Rattle.mt_fault.specs.declared.fault.Why.TheVariants.{Key, Over}
 use Rattle.mt_types.specs.Steps.{◌>>=◌, require}
 use Rattle.mt_types.proofs.StepLemmas.{required, passed}
 use Rattle.mt_defs.specs.PrimaryIndex.{index_name}
-use Rattle.mt_granules.specs.FileFaults.{file_fault, granule_fault}
+use Rattle.mt_fault.specs.Faults.{file_fault, granule_fault}
 use Rattle.mt_definition.specs.RowsReading.{keys_reading}
 use Rattle.mt_files.proofs.LoopLemmas.{is_none}
 

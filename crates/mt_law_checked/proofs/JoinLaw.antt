@@ -5,8 +5,8 @@ use Rattle.std.specs.List.{zip}
 use Rattle.std.proofs.lemmas.List.{length-map}
 use Rattle.mt_types.specs.Steps.{◌>>=◌}
 use Rattle.mt_types.proofs.StepLemmas.{ok_one, ok_then, then_of}
-use Rattle.mt_shelf.specs.declared.fault.Fault.{Fault}
-use Rattle.mt_shelf.specs.declared.fault.Why.TheVariants as why
+use Rattle.mt_fault.specs.declared.fault.Fault.{Fault}
+use Rattle.mt_fault.specs.declared.fault.Why.TheVariants as why
 use Rattle.mt_table.specs.declared.definition.PartDef.{PartDef}
 use Rattle.mt_table.specs.declared.definition.Table.{Table}
 use Rattle.mt_defs.specs.Folder.{Folder}
@@ -15,9 +15,10 @@ use Rattle.mt_defs.specs.Part.{HasColumns, HoldsRows, StandsFor, StandsForIn, kn
 use Rattle.mt_defs.specs.Partition.{HasPartition, HaveOnePartition, partition_name}
 use Rattle.mt_defs.specs.Projections.{base_of}
 use Rattle.mt_defs.specs.Rows.{Row, RowFits, key_of}
-use Rattle.mt_granules.specs.FileFaults.{file_fault}
+use Rattle.mt_fault.specs.Faults.{file_fault}
 use Rattle.mt_files.specs.Faults.{none_found}
-use Rattle.mt_files.specs.Listings.{first_unknown, strays_reading}
+use Rattle.mt_files.specs.PartTexts.{order_reading}
+use Rattle.mt_strays.specs.Strays.{first_unknown, strays_reading}
 use Rattle.mt_definition.specs.declared.accepted.Accepted.{Accepted}
 use Rattle.mt_definition.specs.DefinitionReading.{definition_reading}
 use Rattle.mt_check.specs.FolderChecks.{each, files_checks, folder_checks, projection_folders, projections_checks, skip_checks}
@@ -62,12 +63,20 @@ ArePartitions table folder =
     (accepted : Accepted) → accepted.rows ≢ [] → All (RowFits table.columns) accepted.rows → (table.partition ≡ [] → folder partition_name ≡ None)
     → (partition_reading table folder accepted ≡ Ok tt) ↔ (HaveOnePartition table accepted.rows × HasPartition table accepted.rows folder)
 
-module _ (tested : skip.AreTested) (stored_tested : projection.AreTested) (table : Table) (folder : Folder) (base : IsRead (base_of table) folder) (stored : All (IsProjectionRead table folder) table.projections) (partitions : ArePartitions table folder) where
+-- what is said of the columns that a part lists: they are those that are read
+abbrev pub IsOrdered : Table → Folder → Type 0
+IsOrdered table folder = (rows : List Row) (granules : List ℕ) (holds : HoldsRows (base_of table) folder rows granules) → order_reading (base_of table) folder ≡ Ok holds.order
+
+module _ (tested : skip.AreTested) (stored_tested : projection.AreTested) (table : Table) (folder : Folder) (base : IsRead (base_of table) folder) (ordered : IsOrdered table folder)
+    (stored : All (IsProjectionRead table folder) table.projections) (partitions : ArePartitions table folder) (names : List (List ℕ)) (listed : HasNames folder names) where
+  abbrev folders : List (Option Folder)
+  folders = projection_folders table folder names
+
   abbrev after_projections : Accepted → Unit {0} → Result Accepted Fault
   after_projections accepted _ = Ok accepted
 
   abbrev after_skips : Accepted → Unit {0} → Result Accepted Fault
-  after_skips accepted _ = projections_checks table accepted (zip table.projections (projection_folders table folder)) >>= after_projections accepted
+  after_skips accepted _ = projections_checks table accepted (zip table.projections folders) >>= after_projections accepted
 
   abbrev after_partition : Accepted → Unit {0} → Result Accepted Fault
   after_partition accepted _ = each (skip_checks table folder accepted) table.skips >>= after_skips accepted
@@ -75,72 +84,81 @@ module _ (tested : skip.AreTested) (stored_tested : projection.AreTested) (table
   abbrev after_base : Accepted → Result Accepted Fault
   after_base accepted = partition_reading table folder accepted >>= after_partition accepted
 
-  abbrev AllKnown : Type 0
-  AllKnown = (name : List ℕ) → IsSome (folder name) → Contains (known_names table folder) name
+  abbrev AllKnown : List ℕ → Type 0
+  AllKnown order = (name : List ℕ) → IsSome (folder name) → Contains (known_names table order folder) name
 
   abbrev Stands : Accepted → Type 0
   Stands accepted = StandsForIn table folder accepted.rows accepted.granules
 
   -- ---- the files
 
-  files_stand : (accepted : Accepted) → AllKnown → files_checks table folder (projection_folders table folder) ≡ Ok accepted → Stands accepted
-  files_stand accepted known passes =
+  files_stand : (accepted : Accepted) (order : List ℕ) → order_reading (base_of table) folder ≡ Ok order → AllKnown order → files_checks table folder folders ≡ Ok accepted → Stands accepted
+  files_stand accepted order orders known passes =
       ok_then (definition_reading (base_of table) folder) after_base accepted passes (λ read is rest.
       ok_then (partition_reading table folder read) (after_partition read) accepted rest (λ done part rest.
       ok_then (each (skip_checks table folder read) table.skips) (after_skips read) accepted rest (λ done skips rest.
-      ok_then (projections_checks table read (zip table.projections (projection_folders table folder))) (after_projections read) accepted rest (λ done projections same.
+      ok_then (projections_checks table read (zip table.projections folders)) (after_projections read) accepted rest (λ done projections same.
       let holds = (base read).0 is in
-      let both = (partitions read holds.part_rows.not_empty holds.part_rows.fit (no_partition table folder known)).0 part in
+      let known_held : AllKnown holds.order = subst AllKnown (sym (ok_one order holds.order (sym orders ∙ ordered read.rows read.granules holds))) known in
+      let both = (partitions read holds.part_rows.not_empty holds.part_rows.fit (no_partition table holds.order folder known_held)).0 part in
       subst Stands (sym (ok_one read accepted same))
       (record {
         holds = holds;
         one_partition = both.0;
         partition = both.1;
         skips = skips_held tested table folder read (some_granules (base_of table) folder read.rows read.granules holds) table.skips skips;
-        projections = projections_held stored_tested table folder read table.projections stored projections;
-        known = known;
+        projections = projections_held stored_tested table folder read names listed table.projections stored projections;
+        known = known_held;
       })))))
 
-  files_pass : (accepted : Accepted) → Stands accepted → files_checks table folder (projection_folders table folder) ≡ Ok accepted
+  files_pass : (accepted : Accepted) → Stands accepted → files_checks table folder folders ≡ Ok accepted
   files_pass accepted stands =
-      let part = (partitions accepted stands.holds.part_rows.not_empty stands.holds.part_rows.fit (no_partition table folder stands.known)).1 (stands.one_partition, stands.partition) in
+      let part = (partitions accepted stands.holds.part_rows.not_empty stands.holds.part_rows.fit (no_partition table stands.holds.order folder stands.known)).1 (stands.one_partition, stands.partition) in
       then_of (definition_reading (base_of table) folder) accepted after_base ((base accepted).1 stands.holds)
       ∙ then_of (partition_reading table folder accepted) tt (after_partition accepted) part
       ∙ then_of (each (skip_checks table folder accepted) table.skips) tt (after_skips accepted) (skips_pass tested table folder accepted table.skips stands.skips)
-      ∙ then_of (projections_checks table accepted (zip table.projections (projection_folders table folder))) tt (after_projections accepted) (projections_pass stored_tested table folder accepted table.projections stored stands.projections)
+      ∙ then_of (projections_checks table accepted (zip table.projections folders)) tt (after_projections accepted) (projections_pass stored_tested table folder accepted names listed table.projections stored stands.projections)
 
-  -- ---- with the names of the folder
+  -- ---- and the other names
 
-  module _ (names : List (List ℕ)) (listed : HasNames folder names) where
-    abbrev stray : List ℕ → Fault
-    stray name = file_fault name why.Stray
+  abbrev known_of : List ℕ → List (List ℕ)
+  known_of order = known_names table order folder
 
-    abbrev after_strays : Accepted → Unit {0} → Result Accepted Fault
-    after_strays accepted _ = Ok accepted
+  abbrev stray : List ℕ → Fault
+  stray name = file_fault name why.Stray
 
-    abbrev after_files : Accepted → Result Accepted Fault
-    after_files accepted = strays_reading (known_names table folder) names >>= after_strays accepted
+  abbrev after_strays : Accepted → Unit {0} → Result Accepted Fault
+  after_strays accepted _ = Ok accepted
 
-    accepted_stands : (accepted : Accepted) → folder_checks table folder names ≡ Ok accepted → Stands accepted
-    accepted_stands accepted passes =
-        ok_then (files_checks table folder (projection_folders table folder)) after_files accepted passes (λ read is rest.
-        ok_then (strays_reading (known_names table folder) names) (after_strays read) accepted rest (λ done none same.
-        let known = (known_exactly (known_names table folder) names).0 (none_there (first_unknown (known_names table folder) names) stray none) in
-        subst Stands (sym (ok_one read accepted same)) (files_stand read (λ name has. known name ((listed name).0 has)) is)))
+  abbrev after_order : Accepted → List ℕ → Result Accepted Fault
+  after_order accepted order = strays_reading (known_of order) names >>= after_strays accepted
 
-    stands_accepted : (accepted : Accepted) → Stands accepted → folder_checks table folder names ≡ Ok accepted
-    stands_accepted accepted stands =
-        let none = (known_exactly (known_names table folder) names).1 (λ name at. stands.known name ((listed name).1 at)) in
-        then_of (files_checks table folder (projection_folders table folder)) accepted after_files (files_pass accepted stands)
-        ∙ then_of (strays_reading (known_names table folder) names) tt (after_strays accepted) (ap (λ (found : Option (List ℕ)). none_found found stray) none)
+  abbrev after_files : Accepted → Result Accepted Fault
+  after_files accepted = order_reading (base_of table) folder >>= after_order accepted
 
-    pub accepted_exactly : (accepted : Accepted) → (folder_checks table folder names ≡ Ok accepted) ↔ Stands accepted
-    accepted_exactly accepted = (accepted_stands accepted, stands_accepted accepted)
+  accepted_stands : (accepted : Accepted) → folder_checks table folder names ≡ Ok accepted → Stands accepted
+  accepted_stands accepted passes =
+      ok_then (files_checks table folder folders) after_files accepted passes (λ read is rest.
+      ok_then (order_reading (base_of table) folder) (after_order read) accepted rest (λ order orders rest.
+      ok_then (strays_reading (known_of order) names) (after_strays read) accepted rest (λ done none same.
+      let known = (known_exactly (known_of order) names).0 (none_there (first_unknown (known_of order) names) stray none) in
+      subst Stands (sym (ok_one read accepted same)) (files_stand read order orders (λ name has. known name ((listed name).0 has)) is))))
 
-    -- a folder that stands for no rows has a fault
-    pub fault_of : ((rows : List Row) → StandsFor table folder rows → ⊥) → (fault : Fault) × (folder_checks table folder names ≡ Err fault)
-    fault_of none = by (folder_checks table folder names) refl
-      where
-        by : (reading : Result Accepted Fault) → folder_checks table folder names ≡ reading → (fault : Fault) × (folder_checks table folder names ≡ Err fault)
-        by (Ok accepted) is = absurd (none accepted.rows (accepted.granules, accepted_stands accepted is))
-        by (Err fault) is = (fault, is)
+  stands_accepted : (accepted : Accepted) → Stands accepted → folder_checks table folder names ≡ Ok accepted
+  stands_accepted accepted stands =
+      let order = stands.holds.order in
+      let none = (known_exactly (known_of order) names).1 (λ name at. stands.known name ((listed name).1 at)) in
+      then_of (files_checks table folder folders) accepted after_files (files_pass accepted stands)
+      ∙ then_of (order_reading (base_of table) folder) order (after_order accepted) (ordered accepted.rows accepted.granules stands.holds)
+      ∙ then_of (strays_reading (known_of order) names) tt (after_strays accepted) (ap (λ (found : Option (List ℕ)). none_found found stray) none)
+
+  pub accepted_exactly : (accepted : Accepted) → (folder_checks table folder names ≡ Ok accepted) ↔ Stands accepted
+  accepted_exactly accepted = (accepted_stands accepted, stands_accepted accepted)
+
+  -- a folder that stands for no rows has a fault
+  pub fault_of : ((rows : List Row) → StandsFor table folder rows → ⊥) → (fault : Fault) × (folder_checks table folder names ≡ Err fault)
+  fault_of none = by (folder_checks table folder names) refl
+    where
+      by : (reading : Result Accepted Fault) → folder_checks table folder names ≡ reading → (fault : Fault) × (folder_checks table folder names ≡ Err fault)
+      by (Ok accepted) is = absurd (none accepted.rows (accepted.granules, accepted_stands accepted is))
+      by (Err fault) is = (fault, is)

@@ -4,7 +4,6 @@ use Rattle.std.specs.Prelude.{All, codes, Option, Some, None, IsSome, is_some, C
 use Rattle.std.specs.List.{flat_map, list_all}
 use Rattle.std.proofs.lemmas.List.Elements.{All-nil, All-append, All-contains, All-weaker}
 use Rattle.mt_table.specs.declared.column.Column.{Column}
-use Rattle.mt_table.specs.declared.definition.PartDef.{PartDef}
 use Rattle.mt_table.specs.declared.definition.Table.{Table}
 use Rattle.mt_table.specs.declared.partition.PartExpr.{PartExpr}
 use Rattle.mt_table.specs.declared.projection.Projection.{Projection}
@@ -12,11 +11,11 @@ use Rattle.mt_table.specs.declared.skip.Skip.{Skip}
 use Rattle.mt_defs.specs.Compact.{compact_data_name, compact_marks_name}
 use Rattle.mt_defs.specs.FileNames.{data_name, marks_name, stream_names}
 use Rattle.mt_defs.specs.Folder.{Folder, folder_below}
-use Rattle.mt_defs.specs.Metadata.{columns_name, count_name}
+use Rattle.mt_defs.specs.Metadata.{column_at, columns_name, count_name}
 use Rattle.mt_defs.specs.Part.{column_names, definition_names, is_compact, known_names, partition_names, projection_names, side_names, skip_names, wide_names}
 use Rattle.mt_defs.specs.Partition.{expression_column, minmax_name, partition_name}
 use Rattle.mt_defs.specs.PrimaryIndex.{index_name}
-use Rattle.mt_defs.specs.Projections.{base_of, inner_of, projection_prefix}
+use Rattle.mt_defs.specs.Projections.{inner_of, projection_prefix}
 use Rattle.mt_law_written.proofs.ListLemmas.{All-mapped, All-to_flat_map, All-two}
 use Rattle.mt_law_written.proofs.LookupLemmas.{last_append, last_of}
 use Rattle.mt_law_written.proofs.NameLemmas.{has_slash}
@@ -58,14 +57,14 @@ wide_others column =
     (by_label ends_so false (data_name name) yes (ap (λ last. eqb last 116) (last_append name 46 (codes "bin"))))
     (by_label ends_so false (marks_name name) yes (ap (λ last. eqb last 116) (last_append name 46 (codes "mrk2")))))
 
-column_others : (definition : PartDef) (compact : Bool) → All IsOther (if compact then compact_data_name ∷ compact_marks_name ∷ [] else flat_map wide_names definition.columns)
-column_others definition true = begin_otherwise (compact_data_name ∷ compact_marks_name ∷ []) refl
-column_others definition false = All-to_flat_map IsOther wide_names definition.columns (λ k d inside. wide_others (get_or definition.columns k d))
+column_others : (columns : List Column) (compact : Bool) → All IsOther (if compact then compact_data_name ∷ compact_marks_name ∷ [] else flat_map wide_names columns)
+column_others columns true = begin_otherwise (compact_data_name ∷ compact_marks_name ∷ []) refl
+column_others columns false = All-to_flat_map IsOther wide_names columns (λ k d inside. wide_others (get_or columns k d))
 
-definition_others : (definition : PartDef) (folder : Folder) → All IsOther (definition_names definition folder)
-definition_others definition folder =
-    All-append IsOther (columns_name ∷ count_name ∷ index_name ∷ []) (column_names definition folder ++ side_names) (begin_otherwise (columns_name ∷ count_name ∷ index_name ∷ []) refl)
-    (All-append IsOther (column_names definition folder) side_names (column_others definition (is_compact folder)) (begin_otherwise side_names refl))
+definition_others : (columns : List Column) (folder : Folder) → All IsOther (definition_names columns folder)
+definition_others columns folder =
+    All-append IsOther (columns_name ∷ count_name ∷ index_name ∷ []) (column_names columns folder ++ side_names) (begin_otherwise (columns_name ∷ count_name ∷ index_name ∷ []) refl)
+    (All-append IsOther (column_names columns folder) side_names (column_others columns (is_compact folder)) (begin_otherwise side_names refl))
 
 -- ---- the files of a part
 
@@ -74,7 +73,7 @@ skip_others folder skip = begin_otherwise (skip_names folder skip) refl
 
 projection_others : (table : Table) (folder : Folder) (projection : Projection) → All IsOther (projection_names table folder projection)
 projection_others table folder projection =
-    let names : List (List ℕ) = definition_names (inner_of table projection) (folder_below folder (projection_prefix projection)) in
+    let names : List (List ℕ) = definition_names (inner_of table projection).columns (folder_below folder (projection_prefix projection)) in
     All-mapped IsOther (λ name. projection_prefix projection ++ name) names
     (λ k d inside. by_label has_slash true (projection_prefix projection ++ get_or names k d) no (below_slash projection (get_or names k d)))
 
@@ -82,21 +81,22 @@ no_names : (table : Table) → table.partition ≡ [] → partition_names table 
 no_names table none =
     ap (λ (es : List PartExpr). if length es == 0 then (let names : List (List ℕ) = [] in names) else partition_name ∷ map (λ expression. minmax_name table (expression_column expression)) es) none
 
-known_others : (table : Table) (folder : Folder) → table.partition ≡ [] → All IsOther (known_names table folder)
-known_others table folder none =
-    let own = definition_names (base_of table) folder in
+known_others : (table : Table) (order : List ℕ) (folder : Folder) → table.partition ≡ [] → All IsOther (known_names table order folder)
+known_others table order folder none =
+    let columns : List Column = map (column_at table.columns) order in
+    let own = definition_names columns folder in
     let skips = flat_map (skip_names folder) table.skips in
     let stored = flat_map (projection_names table folder) table.projections in
     All-append IsOther (own ++ partition_names table ++ skips) stored
     (All-append IsOther (own ++ partition_names table) skips
-    (All-append IsOther own (partition_names table) (definition_others (base_of table) folder) (subst (All IsOther) (sym (no_names table none)) (All-nil IsOther)))
+    (All-append IsOther own (partition_names table) (definition_others columns folder) (subst (All IsOther) (sym (no_names table none)) (All-nil IsOther)))
     (All-to_flat_map IsOther (skip_names folder) table.skips (λ k d inside. skip_others folder (get_or table.skips k d))))
     (All-to_flat_map IsOther (projection_names table folder) table.projections (λ k d inside. projection_others table folder (get_or table.projections k d)))
 
 -- a folder of known names has no partition.dat
-pub no_partition : (table : Table) (folder : Folder) → ((name : List ℕ) → IsSome (folder name) → Contains (known_names table folder) name) → table.partition ≡ [] → folder partition_name ≡ None
-no_partition table folder known none = by (folder partition_name) refl
+pub no_partition : (table : Table) (order : List ℕ) (folder : Folder) → ((name : List ℕ) → IsSome (folder name) → Contains (known_names table order folder) name) → table.partition ≡ [] → folder partition_name ≡ None
+no_partition table order folder known none = by (folder partition_name) refl
   where
     by : (held : Option (List ℕ)) → folder partition_name ≡ held → folder partition_name ≡ None
     by None is = is
-    by (Some bytes) is = absurd (All-contains IsOther (known_names table folder) partition_name (known_others table folder none) (known partition_name (ap (λ (o : Option (List ℕ)). is_some o) is)) refl)
+    by (Some bytes) is = absurd (All-contains IsOther (known_names table order folder) partition_name (known_others table order folder none) (known partition_name (ap (λ (o : Option (List ℕ)). is_some o) is)) refl)

@@ -10,6 +10,7 @@ pub mod HeldLemmas
 pub mod ReadableLemmas
 pub mod StrayLaw
 pub mod KeyNames
+pub mod ThereLaw
 pub mod ProjectionLaw
 pub mod SkipBytes
 pub mod SkipPositions

@@ -3,7 +3,7 @@ use Rattle.std.proofs.Common.{◌≡◌, ℕ, List, map, refl, sym, subst, ◌�
 use Rattle.std.specs.Prelude.{Ok, Result}
 use Rattle.mt_types.specs.Steps.{◌>>=◌}
 use Rattle.mt_types.proofs.StepLemmas.{ok_one, ok_then}
-use Rattle.mt_shelf.specs.declared.fault.Fault.{Fault}
+use Rattle.mt_fault.specs.declared.fault.Fault.{Fault}
 use Rattle.mt_table.specs.declared.definition.PartDef.{PartDef}
 use Rattle.mt_defs.specs.Folder.{Folder}
 use Rattle.mt_defs.specs.Metadata.{column_at}
@@ -48,11 +48,11 @@ passed_of definition folder accepted e =
 
 -- ---- the files of its rows
 
-abbrev behind_data : List ℕ → List Row × List ℕ → Result Accepted Fault
-behind_data order read = Ok (in_definition_order order read)
+abbrev behind_data : PartDef → List ℕ → List Row × List ℕ → Result Accepted Fault
+behind_data definition order read = Ok (in_definition_order definition.columns order read)
 
 abbrev behind_count : PartDef → Folder → List ℕ → ℕ → Result Accepted Fault
-behind_count definition folder order count = data_reading folder count (map (column_at definition.columns) order) >>= behind_data order
+behind_count definition folder order count = data_reading folder count (map (column_at definition.columns) order) >>= behind_data definition order
 
 abbrev behind_order : PartDef → Folder → List ℕ → Result Accepted Fault
 behind_order definition folder order = rows_reading definition folder >>= behind_count definition folder order
@@ -70,11 +70,11 @@ pub record ReadsStored (definition : PartDef) (folder : Folder) (accepted : Acce
   pub orders : order_reading definition folder ≡ Ok order
   pub counts : rows_reading definition folder ≡ Ok count
   pub reads : data_reading folder count (map (column_at definition.columns) order) ≡ Ok (rows, granules)
-  pub is : accepted ≡ in_definition_order order (rows, granules)
+  pub is : accepted ≡ in_definition_order definition.columns order (rows, granules)
 
 pub stored_of : (definition : PartDef) (folder : Folder) (accepted : Accepted) → stored_reading definition folder ≡ Ok accepted → ReadsStored definition folder accepted
 stored_of definition folder accepted e =
     ok_then (order_reading definition folder) (behind_order definition folder) accepted (sym (stored_is definition folder) ∙ e) (λ order orders e.
     ok_then (rows_reading definition folder) (behind_count definition folder order) accepted e (λ count counts e.
-    ok_then (data_reading folder count (map (column_at definition.columns) order)) (behind_data order) accepted e (λ (rows, granules) reads e.
-    record { order = order; count = count; rows = rows; granules = granules; orders = orders; counts = counts; reads = reads; is = ok_one (in_definition_order order (rows, granules)) accepted e })))
+    ok_then (data_reading folder count (map (column_at definition.columns) order)) (behind_data definition order) accepted e (λ (rows, granules) reads e.
+    record { order = order; count = count; rows = rows; granules = granules; orders = orders; counts = counts; reads = reads; is = ok_one (in_definition_order definition.columns order (rows, granules)) accepted e })))

@@ -1,43 +1,52 @@
 -- What is read of a definition's folder, the folder holds.
-use Rattle.std.proofs.Common.{◌≡◌, ◌≢◌, ℕ, ◌≤◌, List, [], length, map, sym, ap, subst, ◌∙◌, arith}
+use Rattle.std.proofs.Common.{◌≡◌, ◌≢◌, ℕ, ◌≤◌, true, List, [], ◌∷◌, length, map, sym, ap, subst, ◌∙◌, arith}
 use Rattle.std.specs.Prelude.{All, IsTrue, Ok, Some}
+use Rattle.std.specs.List.{list_all}
 use Rattle.std.proofs.lemmas.List.{length-map}
 use Rattle.mt_types.specs.Profile.{is_profile}
 use Rattle.mt_table.specs.declared.column.Column.{Column}
 use Rattle.mt_table.specs.declared.definition.PartDef.{PartDef}
 use Rattle.mt_table.specs.declared.limits.TheConstants.{MAX_ROWS}
+use Rattle.mt_table.specs.Kept.{is_one_of}
 use Rattle.mt_defs.specs.Folder.{Folder}
-use Rattle.mt_defs.specs.Metadata.{column_at, no_column}
+use Rattle.mt_defs.specs.Metadata.{HasDefaults, column_at, no_column}
 use Rattle.mt_defs.specs.Part.{HoldsRows, HasColumns}
 use Rattle.mt_defs.specs.Rows.{Row, RowFits, key_of}
+use Rattle.mt_defs.proofs.ListedColumns.{listed, listed_few}
 use Rattle.mt_definition.specs.declared.accepted.Accepted.{Accepted}
 use Rattle.mt_definition.specs.DefinitionReading.{definition_reading}
-use Rattle.mt_definition.specs.RowsReading.{places_in}
+use Rattle.mt_definition.specs.RowsReading.{whole_row}
 use Rattle.mt_definition.proofs.DefinitionLaw.{part_rows}
+use Rattle.mt_definition.proofs.StoredLemmas.{rows_long}
+use Rattle.mt_definition.proofs.WholeRows.{rows_fit, rows_lack_none, rows_there}
 use Rattle.mt_files.proofs.LoopLemmas.{same_default}
-use Rattle.mt_files.proofs.PlaceLemmas.{order_is}
-use Rattle.mt_definition.proofs.StoredLemmas.{ordered_profile, rows_fit, rows_long}
 use Rattle.mt_law_checked.specs.Readable.{IsReadable}
 use Rattle.mt_law_checked.proofs.DataLemmas.{CanBeRead, CompactIsExact, WideIsExact, data_is_read}
 use Rattle.mt_law_checked.proofs.FileLemmas.{CountsAreRead, HasCount, HasOrder, OnlyLists, count_is_read, index_is_read, order_is_read}
+use Rattle.mt_law_checked.proofs.OrderLemmas.{listed_profile}
 use Rattle.mt_law_checked.proofs.PassedLemmas.{Passed, ReadsStored, passed_of, stored_of}
-use Rattle.mt_law_checked.proofs.OrderLemmas.{rows_there}
 
 types_of : (definition : PartDef) → IsReadable definition → All (λ column. IsTrue (is_profile column.ty)) definition.columns
 types_of definition readable k d inside = ap (λ (column : Column). is_profile column.ty) (same_default definition.columns k d no_column inside) ∙ readable.listed.types k inside
 
-pub can_be_read : (definition : PartDef) (folder : Folder) (order : List ℕ) (count : ℕ) → IsReadable definition → HasOrder definition.columns order folder → 1 ≤ count → count ≤ MAX_ROWS
+-- some column is listed, where one must be
+some_listed : (must order : List ℕ) → 1 ≤ length must → list_all (is_one_of order) must ≡ true → 1 ≤ length order
+some_listed [] order some has = absurd (omega (arith, some))
+some_listed (place ∷ must) [] some has = cc
+some_listed (place ∷ must) (i ∷ order) some has = omega arith
+
+pub can_be_read : (definition : PartDef) (folder : Folder) (order : List ℕ) (count : ℕ) → IsReadable definition → HasOrder definition order folder → 1 ≤ count → count ≤ MAX_ROWS
     → CanBeRead folder count (map (column_at definition.columns) order)
 can_be_read definition folder order count readable has some few =
-    let is = order_is (length definition.columns) order has.lists.each_once in
+    let is = listed definition.columns definition.must order has.lists.may in
     let size = length-map order (column_at definition.columns) in
-    let long = is.1 in
-    let some_columns = readable.some in
+    let some_columns = some_listed definition.must order readable.some is.has in
+    let no_more = listed_few definition.columns definition.must order has.lists.may in
     let few_columns = readable.listed.few in
     record {
-      types = ordered_profile definition.columns order is.0 is.1 (types_of definition readable);
-      some = omega (arith, size, long, some_columns);
-      few = omega (arith, size, long, few_columns);
+      types = listed_profile definition.columns order is.known (types_of definition readable);
+      some = omega (arith, size, some_columns);
+      few = omega (arith, size, no_more, few_columns);
       some_rows = some;
       few_rows = few;
     }
@@ -47,11 +56,11 @@ module _ (only : OnlyLists) (counted : CountsAreRead) (wide_is : WideIsExact) (c
   record Stored (accepted : Accepted) : Type 0 where
     order : List ℕ
     file_rows : List Row
-    orders : HasOrder definition.columns order folder
+    orders : HasOrder definition order folder
     counts : HasCount (length definition.columns) (length accepted.rows) folder
     fit : All (RowFits (map (column_at definition.columns) order)) file_rows
     columns : HasColumns (map (column_at definition.columns) order) file_rows accepted.granules folder
-    placed : accepted.rows ≡ map (key_of (places_in order)) file_rows
+    whole : accepted.rows ≡ map (whole_row definition.columns order) file_rows
 
   stored_holds : (accepted : Accepted) → ReadsStored definition folder accepted → Stored accepted
   stored_holds accepted read =
@@ -59,9 +68,9 @@ module _ (only : OnlyLists) (counted : CountsAreRead) (wide_is : WideIsExact) (c
       let counts = count_is_read definition folder read.count counted read.counts in
       let can = can_be_read definition folder read.order read.count readable orders counts.counts.some counts.counts.few_rows in
       let has = data_is_read wide_is compact_is folder read.count (map (column_at definition.columns) read.order) read.rows read.granules can read.reads in
-      let rows_are : accepted.rows ≡ map (key_of (places_in read.order)) read.rows = ap (λ (a : Accepted). a.rows) read.is in
+      let rows_are : accepted.rows ≡ map (whole_row definition.columns read.order) read.rows = ap (λ (a : Accepted). a.rows) read.is in
       let granules_are : accepted.granules ≡ read.granules = ap (λ (a : Accepted). a.granules) read.is in
-      let many : length accepted.rows ≡ read.count = ap (λ (rows : List Row). length rows) rows_are ∙ length-map read.rows (key_of (places_in read.order)) ∙ has.many in
+      let many : length accepted.rows ≡ read.count = ap (λ (rows : List Row). length rows) rows_are ∙ length-map read.rows (whole_row definition.columns read.order) ∙ has.many in
       record {
         order = read.order;
         file_rows = read.rows;
@@ -69,7 +78,7 @@ module _ (only : OnlyLists) (counted : CountsAreRead) (wide_is : WideIsExact) (c
         counts = subst (λ n. HasCount (length definition.columns) n folder) (sym many) counts;
         fit = has.fit;
         columns = subst (λ (granules : List ℕ). HasColumns (map (column_at definition.columns) read.order) read.rows granules folder) (sym granules_are) has.layout;
-        placed = rows_are;
+        whole = rows_are;
       }
 
   some_rows : (accepted : Accepted) → 1 ≤ length accepted.rows → accepted.rows ≢ []
@@ -79,18 +88,22 @@ module _ (only : OnlyLists) (counted : CountsAreRead) (wide_is : WideIsExact) (c
   held_of : (accepted : Accepted) → Passed definition folder accepted → Stored accepted → HoldsRows definition folder accepted.rows accepted.granules
   held_of accepted passed stored =
       let order = stored.order in
-      let is = order_is (length definition.columns) order stored.orders.lists.each_once in
-      let fit : All (RowFits definition.columns) accepted.rows = subst (All (RowFits definition.columns)) (sym stored.placed) (rows_fit definition.columns order stored.file_rows is.0 is.1 stored.fit) in
-      let back : stored.file_rows ≡ map (key_of order) accepted.rows = rows_there order stored.file_rows is.0 (rows_long definition.columns order stored.file_rows stored.fit) ∙ ap (map (key_of order)) (sym stored.placed) in
+      let listed_columns : List Column = map (column_at definition.columns) order in
+      let is = listed definition.columns definition.must order stored.orders.lists.may in
+      let fit : All (RowFits definition.columns) accepted.rows = subst (All (RowFits definition.columns)) (sym stored.whole) (rows_fit definition.columns order stored.file_rows stored.fit) in
+      let lacks : All (HasDefaults definition.columns order) accepted.rows = subst (All (HasDefaults definition.columns order)) (sym stored.whole) (rows_lack_none definition.columns order stored.file_rows) in
+      let back : stored.file_rows ≡ map (key_of order) accepted.rows =
+      rows_there definition.columns order stored.file_rows is.known is.once (rows_long definition.columns order stored.file_rows stored.fit) ∙ ap (map (key_of order)) (sym stored.whole) in
       record {
         part_rows = part_rows definition folder accepted (some_rows accepted stored.counts.counts.some) stored.counts.counts.few_rows fit passed.cells passed.rises;
         order = order;
         metadata = record {
-          each_once = stored.orders.lists.each_once;
+          listed = stored.orders.lists.may;
           lists_columns = stored.orders.there ∙ ap Some stored.orders.lists.listed;
           counts_rows = stored.counts.there ∙ ap Some stored.counts.counts.decimal;
         };
-        columns = subst (λ (rows : List Row). HasColumns (map (column_at definition.columns) order) rows accepted.granules folder) back stored.columns;
+        defaults = lacks;
+        columns = subst (λ (rows : List Row). HasColumns listed_columns rows accepted.granules folder) back stored.columns;
         index = index_is_read definition folder accepted passed.index;
       }
 

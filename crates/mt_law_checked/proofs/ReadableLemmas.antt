@@ -120,7 +120,7 @@ inner_listed table (Grouped name keys aggs) keeps =
 
 readable_of : (definition : PartDef) → IsDefinition definition → IsStored definition → All HasListedName definition.columns → IsReadable definition
 readable_of definition is stored listed = record {
-  some = is.some;
+  some = is.listed;
   named = λ k d inside. (listed k d inside).bytes;
   listed = record {
     few = is.few;

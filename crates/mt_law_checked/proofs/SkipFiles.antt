@@ -4,8 +4,8 @@ use Rattle.std.specs.Prelude.{Result, Ok, Err, option_map, ◌==◌}
 use Rattle.std.specs.List.{flat_map}
 use Rattle.std.proofs.lemmas.Bool.{eqb-true, eq-eqb}
 use Rattle.std.proofs.lemmas.List.{length-map}
-use Rattle.mt_shelf.specs.declared.fault.Fault.{Fault}
-use Rattle.mt_shelf.specs.declared.fault.Why.TheVariants as why
+use Rattle.mt_fault.specs.declared.fault.Fault.{Fault}
+use Rattle.mt_fault.specs.declared.fault.Why.TheVariants as why
 use Rattle.mt_types.specs.Steps.{◌>>=◌, ok_or, require}
 use Rattle.mt_types.proofs.StepLemmas.{ok_one, ok_then, passed, required, then_of}
 use Rattle.mt_defs.specs.declared.mark.Mark.{Mark}
@@ -19,7 +19,8 @@ use Rattle.mt_marks.specs.declared.marks.Marks.{Marks}
 use Rattle.mt_marks.specs.Entries.{Entry}
 use Rattle.mt_marks.specs.MarkReading.{entries_reading, marks_of}
 use Rattle.mt_marks.proofs.RawLemmas.{all_marks}
-use Rattle.mt_granules.specs.FileFaults.{blame, file_fault, file_reading, frame_fault}
+use Rattle.mt_fault.specs.Faults.{blame, file_fault}
+use Rattle.mt_granules.specs.FileFaults.{file_reading, frame_fault}
 use Rattle.mt_granules.proofs.FileByteLemmas.{file_is_read, file_was_read, frames_are_bytes}
 use Rattle.mt_files.specs.SkipMarks.{blocks_reading, marks_reading}
 use Rattle.mt_files.proofs.FrameLemmas.{read_of_file}

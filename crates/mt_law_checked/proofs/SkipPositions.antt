@@ -2,9 +2,9 @@
 use Rattle.std.proofs.Common.{◌≡◌, ℕ, ◌+◌, ◌≤◌, true, false, List, [], ◌∷◌, map, refl, sym, ap, ◌∙◌, subst, arith, Option, Some, None}
 use Rattle.std.specs.Prelude.{Result, Ok, Err, nat_le, ◌==◌}
 use Rattle.std.proofs.lemmas.Bool.{and_from, and_parts, leb-true, le-leb, eqb-true, eq-eqb}
-use Rattle.mt_shelf.specs.declared.fault.Fault.{Fault}
-use Rattle.mt_shelf.specs.declared.fault.Why.{Why}
-use Rattle.mt_shelf.specs.declared.fault.Why.TheVariants as why
+use Rattle.mt_fault.specs.declared.fault.Fault.{Fault}
+use Rattle.mt_fault.specs.declared.fault.Why.{Why}
+use Rattle.mt_fault.specs.declared.fault.Why.TheVariants as why
 use Rattle.mt_types.specs.Steps.{◌>>=◌, ok_or, onto, require}
 use Rattle.mt_types.proofs.StepLemmas.{ok_one, ok_then, onto_ok, passed, required, then_of}
 use Rattle.mt_table.specs.Rows.{Pointwise}
@@ -13,7 +13,7 @@ use Rattle.mt_defs.specs.declared.mark.Mark.{Mark}
 use Rattle.mt_marks.specs.Positions.{position_from}
 use Rattle.mt_marks.specs.declared.rules.Former.{Former}
 use Rattle.mt_marks.specs.MarkReading.{is_placed, mark_reading, offset_before, payload_len, position_before}
-use Rattle.mt_granules.specs.FileFaults.{blame, granule_fault}
+use Rattle.mt_fault.specs.Faults.{blame, granule_fault}
 use Rattle.mt_granules.proofs.RuleLemmas.{Rises}
 use Rattle.mt_files.specs.SkipMarks.{positions_reading}
 

@@ -4,7 +4,7 @@ use Rattle.std.specs.Prelude.{All, Result, Ok}
 use Rattle.std.specs.List.{concat, flat_map}
 use Rattle.std.proofs.lemmas.List.{length-map}
 use Rattle.std.proofs.lemmas.List.Elements.{All-head, All-tail}
-use Rattle.mt_shelf.specs.declared.fault.Fault.{Fault}
+use Rattle.mt_fault.specs.declared.fault.Fault.{Fault}
 use Rattle.mt_types.proofs.StepLemmas.{then_of}
 use Rattle.mt_table.specs.declared.skip.Skip.{Skip}
 use Rattle.mt_defs.specs.declared.mark.Mark.{Mark}

@@ -3,7 +3,7 @@ use Rattle.std.proofs.Common.{◌≡◌, ℕ, zero, suc, Bool, true, false, ◌|
 use Rattle.std.specs.Prelude.{◌↔◌, None, Option, Some, Contains, if◌then◌else◌}
 use Rattle.std.proofs.lemmas.Bool.{cases_Bool}
 use Rattle.mt_defs.specs.Folder.{is_name}
-use Rattle.mt_files.specs.Listings.{is_known, first_unknown}
+use Rattle.mt_strays.specs.Strays.{is_known, first_unknown}
 use Rattle.mt_law_written.proofs.LookupLemmas.{name_is, same_name}
 
 -- ---- one name

@@ -8,7 +8,7 @@ use Rattle.std.proofs.lemmas.List.Elements.{All-nil, All-cons, All-weaker}
 use Rattle.mt_types.specs.declared.ty.Agg.{Agg}
 use Rattle.mt_types.specs.declared.ty.Agg.TheVariants.{Sum, Min, Max}
 use Rattle.mt_types.specs.declared.ty.Width.{Width}
-use Rattle.mt_types.specs.declared.ty.Width.TheVariants.{W8, W16, W32, W64}
+use Rattle.mt_types.specs.declared.ty.Width.TheVariants.{W8, W16, W32, W64, W128}
 use Rattle.mt_types.specs.declared.ty.Ty.{Ty, map-Ty}
 use Rattle.mt_types.specs.declared.ty.Ty.TheOpen.{Ty-F}
 use Rattle.mt_types.specs.declared.ty.Ty.TheFolds.{fold-roll-Ty, ind-Ty}
@@ -63,6 +63,7 @@ width_bytes sign W8 are = joined_bytes sign (codes "8") are (all_small (codes "8
 width_bytes sign W16 are = joined_bytes sign (codes "16") are (all_small (codes "16") refl)
 width_bytes sign W32 are = joined_bytes sign (codes "32") are (all_small (codes "32") refl)
 width_bytes sign W64 are = joined_bytes sign (codes "64") are (all_small (codes "64") refl)
+width_bytes sign W128 are = joined_bytes sign (codes "128") are (all_small (codes "128") refl)
 
 opening_bytes : (agg : Agg) → AreBytes (state_opening agg)
 opening_bytes Sum = all_small (state_opening Sum) refl
@@ -75,6 +76,7 @@ level_bytes (Ty-F.Int width) = width_bytes (codes "Int") width (all_small (codes
 level_bytes (Ty-F.FixedString size) = round (codes "FixedString(") (decimal size) (all_small (codes "FixedString(") refl) (decimal_bytes size)
 level_bytes Ty-F.Str = all_small (codes "String") refl
 level_bytes Ty-F.Date = all_small (codes "Date") refl
+level_bytes Ty-F.Moment = all_small (codes "DateTime('UTC')") refl
 level_bytes (Ty-F.Nullable t) = round (codes "Nullable(") (type_name t.0) (all_small (codes "Nullable(") refl) t.1
 level_bytes (Ty-F.Array t) = round (codes "Array(") (type_name t.0) (all_small (codes "Array(") refl) t.1
 level_bytes (Ty-F.State agg t) = round (state_opening agg) (type_name t.0) (opening_bytes agg) t.1

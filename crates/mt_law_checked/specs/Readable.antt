@@ -9,8 +9,8 @@ use Rattle.mt_meta.specs.ColumnsReading.{CanBeListed}
 abbrev pub IsNamed : Column → Type 0
 IsNamed column = AreBytes column.name
 
--- there is a column, and a columns.txt can list them all
+-- there is a column that each folder has, and a columns.txt can list all
 pub record IsReadable (definition : PartDef) : Type 0 where
-  pub some : 1 ≤ length definition.columns
+  pub some : 1 ≤ length definition.must
   pub listed : CanBeListed definition.columns
   pub named : All IsNamed definition.columns

@@ -1,8 +1,8 @@
 //! Laws of the checks, each the contract of a function that does nothing.
 
 ghost use Rattle.std.specs.Prelude.{◌≡◌, ◌↔◌, ℕ, All, List, map, Err, Ok};
-ghost use Rattle.mt_shelf.specs.declared.file.FileBytes.{FileBytes};
-ghost use Rattle.mt_shelf.specs.declared.fault.Fault.{Fault};
+ghost use Rattle.mt_fault.specs.declared.file.FileBytes.{FileBytes};
+ghost use Rattle.mt_fault.specs.declared.fault.Fault.{Fault};
 ghost use Rattle.mt_table.specs.declared.definition.PartDef.{PartDef};
 ghost use Rattle.mt_table.specs.declared.definition.Table.{Table};
 ghost use Rattle.mt_defs.specs.Folder.{Folder, folder_of};
@@ -58,6 +58,7 @@ pub fn folders_are_checked_exactly()
 {
     definitions_are_readable();
     definitions_are_read_exactly();
+    listed_columns_are_read();
     partitions_are_checked();
     summaries_are_tested();
     projections_are_tested();

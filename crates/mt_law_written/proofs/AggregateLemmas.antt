@@ -9,21 +9,22 @@ use Rattle.std.proofs.lemmas.List.Sums.{sum_by-cons}
 use Rattle.std.proofs.lemmas.List.Elements.{All-nil, All-cons, All-head, All-tail, All-weaker}
 use Rattle.mt_types.specs.declared.ty.Agg.{Agg}
 use Rattle.mt_types.specs.declared.ty.Agg.TheVariants.{Sum, Min, Max}
-use Rattle.mt_types.specs.declared.ty.Ty.{Ty, out-Ty}
-use Rattle.mt_types.specs.declared.ty.Ty.TheOpen.{Ty-F}
+use Rattle.mt_types.specs.declared.ty.Ty.{Ty}
 use Rattle.mt_types.specs.declared.ty.Ty.TheVariants.{State}
 use Rattle.mt_types.specs.Profile.{Kind, Whole, Day, kind_of, is_profile, is_known, state_kind}
-use Rattle.mt_types.proofs.Levels.{kind_at, kind-State, kind-CountState}
+use Rattle.mt_types.specs.Numbers.{is_argument_type}
+use Rattle.mt_types.proofs.Levels.{kind-State, kind-CountState}
 use Rattle.mt_types.specs.Words.{is_word_byte as is_name_byte, is_name}
 use Rattle.mt_table.specs.declared.column.Column.{Column}
 use Rattle.mt_table.specs.declared.definition.Table.{Table}
 use Rattle.mt_table.specs.declared.projection.Aggregate.{Aggregate}
 use Rattle.mt_table.specs.declared.projection.Aggregate.TheVariants.{Count, Of}
-use Rattle.mt_table.specs.ColumnTypes.{is_integer_type, is_integer_at, is_number_type, is_number_at}
+use Rattle.mt_table.specs.ColumnTypes.{is_integer_type}
 use Rattle.mt_table.specs.Names.{places_differ}
 use Rattle.mt_table.specs.Kept.{keeps_aggregate, aggregates_differ, is_count, sum_place, min_place, max_place}
 use Rattle.mt_defs.specs.Metadata.{column_at}
 use Rattle.mt_defs.specs.Projections.{state_column, aggregate_word}
+use Rattle.mt_item.proofs.TypeLemmas.{argument_kind, integer_kind}
 use Rattle.mt_law_written.proofs.ApartLemmas.{EachLater, Differ}
 use Rattle.mt_law_written.proofs.RuleLemmas.{places_are_different, place_of, names_at, name_bytes}
 
@@ -37,28 +38,6 @@ IsKnown column = IsTrue (is_profile column.ty)
 
 -- ---- states
 
-integer_level : (t : Ty) (level : Ty-F Ty) → out-Ty t ≡ level → is_integer_at level ≡ true → kind_of t ≡ Whole
-integer_level t (Ty-F.UInt w) is e = kind_at t (Ty-F.UInt w) is
-integer_level t (Ty-F.Int w) is e = kind_at t (Ty-F.Int w) is
-integer_level t (Ty-F.FixedString n) is e = cc
-integer_level t Ty-F.Str is e = cc
-integer_level t Ty-F.Date is e = cc
-integer_level t (Ty-F.Nullable u) is e = cc
-integer_level t (Ty-F.Array u) is e = cc
-integer_level t (Ty-F.State agg u) is e = cc
-integer_level t Ty-F.CountState is e = cc
-
-number_level : (t : Ty) (level : Ty-F Ty) → out-Ty t ≡ level → is_number_at level ≡ true → (kind_of t ≡ Whole) ⊎ (kind_of t ≡ Day)
-number_level t (Ty-F.UInt w) is e = inl (kind_at t (Ty-F.UInt w) is)
-number_level t (Ty-F.Int w) is e = inl (kind_at t (Ty-F.Int w) is)
-number_level t (Ty-F.FixedString n) is e = cc
-number_level t Ty-F.Str is e = cc
-number_level t Ty-F.Date is e = inr (kind_at t Ty-F.Date is)
-number_level t (Ty-F.Nullable u) is e = cc
-number_level t (Ty-F.Array u) is e = cc
-number_level t (Ty-F.State agg u) is e = cc
-number_level t Ty-F.CountState is e = cc
-
 state_known : (agg : Agg) (t : Ty) (kind : Kind) → kind_of t ≡ kind → is_known (state_kind agg kind) ≡ true → is_profile (State agg t) ≡ true
 state_known agg t kind is known = ap is_known (kind-State agg t ∙ ap (state_kind agg) is) ∙ known
 
@@ -71,15 +50,15 @@ state_type table Count keeps = ap is_known kind-CountState
 state_type table (Of Sum i) keeps =
     let place = place_of is_integer_type table.columns i keeps in
     let ty = (column_at table.columns i).ty in
-    state_known Sum ty Whole (integer_level ty (out-Ty ty) refl place.passes) refl
+    state_known Sum ty Whole (integer_kind ty place.passes) refl
 state_type table (Of Min i) keeps =
-    let place = place_of is_number_type table.columns i keeps in
+    let place = place_of is_argument_type table.columns i keeps in
     let ty = (column_at table.columns i).ty in
-    either_known Min ty refl refl (number_level ty (out-Ty ty) refl place.passes)
+    either_known Min ty refl refl (argument_kind ty place.passes)
 state_type table (Of Max i) keeps =
-    let place = place_of is_number_type table.columns i keeps in
+    let place = place_of is_argument_type table.columns i keeps in
     let ty = (column_at table.columns i).ty in
-    either_known Max ty refl refl (number_level ty (out-Ty ty) refl place.passes)
+    either_known Max ty refl refl (argument_kind ty place.passes)
 
 -- the column of an aggregate is there
 abbrev pub IsOver : List Column → Aggregate → Type 0
@@ -89,8 +68,8 @@ IsOver columns (Of agg i) = i < length columns
 pub is_over : (columns : List Column) (aggregate : Aggregate) → keeps_aggregate columns aggregate ≡ true → IsOver columns aggregate
 is_over columns Count keeps = tt
 is_over columns (Of Sum i) keeps = (place_of is_integer_type columns i keeps).within
-is_over columns (Of Min i) keeps = (place_of is_number_type columns i keeps).within
-is_over columns (Of Max i) keeps = (place_of is_number_type columns i keeps).within
+is_over columns (Of Min i) keeps = (place_of is_argument_type columns i keeps).within
+is_over columns (Of Max i) keeps = (place_of is_argument_type columns i keeps).within
 
 -- ---- aggregates differ
 

@@ -19,7 +19,7 @@ use Rattle.mt_defs.specs.Encoding.{is_null, null_byte}
 use Rattle.mt_defs.specs.WrittenStreams.{written_streams, or_default, elements_at}
 use Rattle.mt_item.proofs.ItemBytes.{item_is_bytes, items_are_bytes, number_bytes}
 use Rattle.mt_codec.specs.Runs.{fits_or_null, null_item, size_item, written_item}
-use Rattle.mt_codec.specs.StreamOrder.{array_levels}
+use Rattle.mt_defs.specs.FileNames.{array_levels}
 use Rattle.mt_codec.proofs.WrittenLemmas.{IsSingleLevel, single_at, default_fits_too, nullable_fit, nullable_single, nullable_written, array_fit, array_inside, array_written}
 
 abbrev IsByte : ℕ → Type 0
@@ -64,6 +64,7 @@ bytes_within depth t (Ty-F.Int w) is few profile values fit = single_bytes t (Ty
 bytes_within depth t (Ty-F.FixedString n) is few profile values fit = single_bytes t (Ty-F.FixedString n) is tt values fit
 bytes_within depth t Ty-F.Str is few profile values fit = single_bytes t Ty-F.Str is tt values fit
 bytes_within depth t Ty-F.Date is few profile values fit = single_bytes t Ty-F.Date is tt values fit
+bytes_within depth t Ty-F.Moment is few profile values fit = single_bytes t Ty-F.Moment is tt values fit
 bytes_within depth t (Ty-F.State a u) is few profile values fit = single_bytes t (Ty-F.State a u) is tt values fit
 bytes_within depth t Ty-F.CountState is few profile values fit = single_bytes t Ty-F.CountState is tt values fit
 bytes_within depth t (Ty-F.Nullable u) is few profile values fit =

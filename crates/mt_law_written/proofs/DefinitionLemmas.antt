@@ -4,11 +4,10 @@ use Rattle.std.specs.Prelude.{All, IsTrue, Option, Some, None, is_some, if◌the
 use Rattle.std.specs.List.{range_with_len, enumerate_from}
 use Rattle.std.specs.Fmt.{decimal}
 use Rattle.std.proofs.lemmas.List.Elements.{All-head, All-tail, All-weaker}
-use Rattle.std.proofs.lemmas.List.Sorted.{IsPermutation-refl}
 use Rattle.mt_types.specs.declared.value.Value.TheVariants.{Null}
 use Rattle.mt_types.specs.Fits.{fits_of}
 use Rattle.mt_types.specs.Profile.{is_profile}
-use Rattle.mt_shelf.specs.declared.file.FileBytes.{FileBytes}
+use Rattle.mt_fault.specs.declared.file.FileBytes.{FileBytes}
 use Rattle.mt_table.specs.declared.column.Column.{Column}
 use Rattle.mt_table.specs.declared.definition.PartDef.{PartDef}
 use Rattle.mt_table.specs.declared.settings.Settings.{Settings}
@@ -30,6 +29,7 @@ use Rattle.mt_law_written.proofs.ListLemmas.{All-left, All-right, All-granules, 
 use Rattle.mt_law_written.proofs.WideLemmas.{HasFile, no_file, ColumnHolds, columns_hold, wide_held}
 use Rattle.mt_law_written.proofs.CompactLemmas.{compact_held}
 use Rattle.mt_law_written.proofs.ShortFiles.{compact_short, wide_short}
+use Rattle.mt_law_written.proofs.ListedLemmas.{ArePlaces, all_listed, none_lacks, own_order}
 
 -- ---- the columns in their own order
 
@@ -39,11 +39,7 @@ same_length R [] (y ∷ ys) each = absurd each
 same_length R (x ∷ xs) [] each = absurd each
 same_length R (x ∷ xs) (y ∷ ys) each = ap suc (same_length R xs ys each.1)
 
--- the indexes of a definition's columns
-abbrev pub own_order : List Column → List ℕ
-own_order columns = range_with_len 0 (length columns)
-
-same_columns : (columns : List Column) → map (column_at columns) (own_order columns) ≡ columns
+pub same_columns : (columns : List Column) → map (column_at columns) (own_order columns) ≡ columns
 same_columns columns = all_places columns no_column
 
 same_row : (columns : List Column) (row : Row) → RowFits columns row → key_of (own_order columns) row ≡ row
@@ -92,10 +88,10 @@ abbrev pub written_layout : Settings → PartDef → List Row → Bool
 written_layout settings definition rows = is_small settings definition.columns rows
 
 -- a folder that has the writer's files holds the rows
-pub definition_held : (settings : Settings) (definition : PartDef) (rows : List Row) (folder : Folder) → All (λ column. IsTrue (is_profile column.ty)) definition.columns → ArePartRows definition rows
+pub definition_held : (settings : Settings) (definition : PartDef) (rows : List Row) (folder : Folder) → All (λ column. IsTrue (is_profile column.ty)) definition.columns → ArePlaces definition.columns definition.must → ArePartRows definition rows
     → (written_layout settings definition rows ≡ false → folder compact_marks_name ≡ None) → All (HasFile folder) (definition_files settings definition rows)
     → HoldsRows definition folder rows (written_granules settings definition.columns rows)
-definition_held settings definition rows folder types are none files =
+definition_held settings definition rows folder types must are none files =
     let columns : List Column = definition.columns in
     let granules = written_granules settings columns rows in
     let cut : AreGranules granules rows = granules_hold settings columns rows in
@@ -111,13 +107,21 @@ definition_held settings definition rows folder types are none files =
       part_rows = are;
       order = own_order columns;
       metadata = record {
-        each_once = IsPermutation-refl (own_order columns);
+        listed = all_listed columns definition.must must;
         lists_columns = listing 0 no_file (lit< tt) ∙ ap (λ cs. Some (columns_text cs)) (sym (same_columns columns));
         counts_rows = listing 1 no_file (lit< tt);
       };
+      defaults = none_lacks columns rows;
       columns = subst (λ cs. HasColumns cs (map (key_of (own_order columns)) rows) granules folder) (sym (same_columns columns)) (subst (λ rs. HasColumns columns rs granules folder) (sym (same_rows columns rows are.fit)) there);
       index = listing 2 no_file (lit< tt);
     }
+
+-- it lists all columns, in their own order
+pub held_order : (settings : Settings) (definition : PartDef) (rows : List Row) (folder : Folder) (types : All (λ column. IsTrue (is_profile column.ty)) definition.columns) (must : ArePlaces definition.columns definition.must)
+    (are : ArePartRows definition rows) (none : written_layout settings definition rows ≡ false → folder compact_marks_name ≡ None) (files : All (HasFile folder) (definition_files settings definition rows))
+    → (definition_held settings definition rows folder types must are none files).order ≡ own_order definition.columns
+unfolding definition_held
+held_order settings definition rows folder types must are none files = refl
 
 -- and is Compact or Wide as the writer chose
 pub definition_layout : (settings : Settings) (definition : PartDef) (rows : List Row) (folder : Folder) → (written_layout settings definition rows ≡ false → folder compact_marks_name ≡ None)

@@ -4,7 +4,7 @@ use Rattle.std.specs.Prelude.{All, IsTrue, Some, None, codes, if◌then◌else�
 use Rattle.std.specs.List.{flat_map, enumerate_from}
 use Rattle.std.proofs.lemmas.List.Elements.{All-nil, All-cons, All-append, All-head, All-tail, All-weaker}
 use Rattle.mt_types.specs.Profile.{is_profile}
-use Rattle.mt_shelf.specs.declared.file.FileBytes.{FileBytes}
+use Rattle.mt_fault.specs.declared.file.FileBytes.{FileBytes}
 use Rattle.mt_table.specs.declared.column.Column.{Column}
 use Rattle.mt_table.specs.declared.definition.Table.{Table}
 use Rattle.mt_table.specs.declared.skip.Skip.{Skip}

@@ -4,7 +4,7 @@ use Rattle.std.specs.Prelude.{All, Contains, IsSome, ◌==◌, if◌then◌else�
 use Rattle.std.specs.List.{flat_map, enumerate_from}
 use Rattle.std.proofs.lemmas.List.{map-append, length-map, get_or-map}
 use Rattle.std.proofs.lemmas.List.Elements.{All-nil, All-cons, All-append, All-contains, All-contains_itself, All-weaker, Contains-append_left, Contains-append_right}
-use Rattle.mt_shelf.specs.declared.file.FileBytes.{FileBytes}
+use Rattle.mt_fault.specs.declared.file.FileBytes.{FileBytes}
 use Rattle.mt_table.specs.declared.column.Column.{Column}
 use Rattle.mt_table.specs.declared.definition.Table.{Table}
 use Rattle.mt_table.specs.declared.definition.PartDef.{PartDef}
@@ -15,7 +15,7 @@ use Rattle.mt_defs.specs.Folder.{Folder, folder_of, folder_below}
 use Rattle.mt_defs.specs.Rows.{Row}
 use Rattle.mt_defs.specs.FileNames.{data_name, marks_name, stream_names}
 use Rattle.mt_defs.specs.Compact.{compact_data_name, compact_marks_name}
-use Rattle.mt_defs.specs.Metadata.{columns_name, count_name}
+use Rattle.mt_defs.specs.Metadata.{column_at, columns_name, count_name}
 use Rattle.mt_defs.specs.PrimaryIndex.{index_name}
 use Rattle.mt_defs.specs.Partition.{partition_bytes, partition_name, minmax_name, expression_column}
 use Rattle.mt_defs.specs.Projections.{base_of, inner_of, projection_prefix}
@@ -29,7 +29,8 @@ use Rattle.mt_defs.specs.WrittenSkips.{skip_files}
 use Rattle.mt_defs.specs.Writer.{definition_files, file_below, projection_files, projection_rows}
 use Rattle.mt_law_written.proofs.LookupLemmas.{found_is_listed}
 use Rattle.mt_law_written.proofs.ListLemmas.{All-distinct, All-mapped, All-of_map, All-to_flat_map}
-use Rattle.mt_law_written.proofs.DefinitionLemmas.{data_files, written_layout}
+use Rattle.mt_law_written.proofs.DefinitionLemmas.{data_files, same_columns, written_layout}
+use Rattle.mt_law_written.proofs.ListedLemmas.{own_order}
 use Rattle.mt_law_written.proofs.PartitionLemmas.{distinct, is_same, key_columns}
 use Rattle.mt_law_written.proofs.FolderLemmas.{all_files, index_files, own_files, stored_files}
 
@@ -85,15 +86,15 @@ data_names_are : (columns : List Column) (rows : List Row) (granules : List ℕ)
 data_names_are columns rows granules true = refl
 data_names_are columns rows granules false = column_names_are rows granules 0 columns
 
-pub definition_known : (settings : Settings) (definition : PartDef) (rows : List Row) (folder : Folder) → is_compact folder ≡ written_layout settings definition rows → Known (definition_names definition folder) (definition_files settings definition rows)
+pub definition_known : (settings : Settings) (definition : PartDef) (rows : List Row) (folder : Folder) → is_compact folder ≡ written_layout settings definition rows → Known (definition_names definition.columns folder) (definition_files settings definition rows)
 definition_known settings definition rows folder layout =
     let granules = written_granules settings definition.columns rows in
     let files = definition_files settings definition rows in
     let heads : List (List ℕ) = columns_name ∷ count_name ∷ index_name ∷ [] in
-    let same : map name_of files ≡ heads ++ column_names definition folder =
+    let same : map name_of files ≡ heads ++ column_names definition.columns folder =
     ap (λ names. heads ++ names) (data_names_are definition.columns rows granules (written_layout settings definition rows) ∙ ap (names_in definition.columns) (sym layout)) in
-    wider (map name_of files) (definition_names definition folder) files (λ name among.
-    Contains-append_left (heads ++ column_names definition folder) side_names name (subst (λ names. Contains names name) same among)) (own_names files)
+    wider (map name_of files) (definition_names definition.columns folder) files (λ name among.
+    Contains-append_left (heads ++ column_names definition.columns folder) side_names name (subst (λ names. Contains names name) same among)) (own_names files)
 
 -- ---- the other files
 
@@ -138,31 +139,34 @@ stored_known table rows folder layouts =
     let prefix : List ℕ = projection_prefix projection in
     let definition : PartDef = inner_of table projection in
     let stored : List Row = projection_rows table projection rows in
-    below_known prefix (definition_names definition (folder_below folder prefix)) (definition_files table.settings definition stored)
+    below_known prefix (definition_names definition.columns (folder_below folder prefix)) (definition_files table.settings definition stored)
     (definition_known table.settings definition stored (folder_below folder prefix) (layouts.stored k d inside)))
 
 -- ---- the folder
 
-all_known : (table : Table) (rows : List Row) (folder : Folder) → Layouts table rows folder → Known (known_names table folder) (all_files table rows)
+all_known : (table : Table) (rows : List Row) (folder : Folder) → Layouts table rows folder → Known (known_names table (own_order table.columns) folder) (all_files table rows)
 all_known table rows folder layouts =
-    let own : List (List ℕ) = definition_names (base_of table) folder in
+    let own : List (List ℕ) = definition_names (map (column_at table.columns) (own_order table.columns)) folder in
     let partition : List (List ℕ) = partition_names table in
     let indexes : List (List ℕ) = flat_map (skip_names folder) table.skips in
     let stored : List (List ℕ) = flat_map (projection_names table folder) table.projections in
-    let P : FileBytes → Type 0 = λ f. Contains (known_names table folder) f.name in
-    let one = wider own (known_names table folder) (own_files table rows) (λ name among.
-    Contains-append_left (own ++ partition ++ indexes) stored name (Contains-append_left (own ++ partition) indexes name (Contains-append_left own partition name among))) (definition_known table.settings (base_of table) rows folder layouts.own) in
-    let two = wider partition (known_names table folder) (partition_files table rows) (λ name among.
+    let P : FileBytes → Type 0 = λ f. Contains (known_names table (own_order table.columns) folder) f.name in
+    let one = wider own (known_names table (own_order table.columns) folder) (own_files table rows) (λ name among.
+    Contains-append_left (own ++ partition ++ indexes) stored name (Contains-append_left (own ++ partition) indexes name (Contains-append_left own partition name among)))
+    (subst (λ columns. Known (definition_names columns folder) (own_files table rows)) (sym (same_columns table.columns)) (definition_known table.settings (base_of table) rows folder layouts.own)) in
+    let two = wider partition (known_names table (own_order table.columns) folder) (partition_files table rows) (λ name among.
     Contains-append_left (own ++ partition ++ indexes) stored name (Contains-append_left (own ++ partition) indexes name (Contains-append_right own partition name among))) (partition_known table rows) in
-    let three = wider indexes (known_names table folder) (index_files table rows) (λ name among.
+    let three = wider indexes (known_names table (own_order table.columns) folder) (index_files table rows) (λ name among.
     Contains-append_left (own ++ partition ++ indexes) stored name (Contains-append_right (own ++ partition) indexes name among)) (index_known table rows folder layouts.own) in
-    let four = wider stored (known_names table folder) (stored_files table rows) (λ name among. Contains-append_right (own ++ partition ++ indexes) stored name among) (stored_known table rows folder layouts) in
+    let four = wider stored (known_names table (own_order table.columns) folder) (stored_files table rows) (λ name among. Contains-append_right (own ++ partition ++ indexes) stored name among) (stored_known table rows folder layouts) in
     All-append P (own_files table rows ++ partition_files table rows ++ index_files table rows) (stored_files table rows)
     (All-append P (own_files table rows ++ partition_files table rows) (index_files table rows) (All-append P (own_files table rows) (partition_files table rows) one two) three) four
 
 -- each name that is there is known
-pub names_known : (table : Table) (rows : List Row) (folder : Folder) → folder ≡ folder_of (all_files table rows) → Layouts table rows folder → (name : List ℕ) → IsSome (folder name) → Contains (known_names table folder) name
+pub names_known : (table : Table) (rows : List Row) (folder : Folder) → folder ≡ folder_of (all_files table rows) → Layouts table rows folder → (name : List ℕ) → IsSome (folder name)
+    → Contains (known_names table (own_order table.columns) folder) name
 names_known table rows folder is layouts name there =
     let files = all_files table rows in
-    All-contains (Contains (known_names table folder)) (map name_of files) name (All-mapped (Contains (known_names table folder)) name_of files (all_known table rows folder layouts)) (
+    let known : List (List ℕ) = known_names table (own_order table.columns) folder in
+    All-contains (Contains known) (map name_of files) name (All-mapped (Contains known) name_of files (all_known table rows folder layouts)) (
     found_is_listed files name (subst (λ f. IsSome (f name)) is there))

@@ -9,7 +9,7 @@ use Rattle.mt_types.specs.declared.limits.TheConstants.{MAX_FIXED_STRING, MAX_TE
 use Rattle.mt_types.specs.declared.ty.Agg.{Agg}
 use Rattle.mt_types.specs.declared.ty.Agg.TheVariants as agg
 use Rattle.mt_types.specs.declared.ty.Width.{Width}
-use Rattle.mt_types.specs.declared.ty.Width.TheVariants.{W8, W16, W32, W64}
+use Rattle.mt_types.specs.declared.ty.Width.TheVariants.{W8, W16, W32, W64, W128}
 use Rattle.mt_types.specs.declared.value.AggState.{AggState}
 use Rattle.mt_types.specs.declared.value.AggState.TheVariants.{Count, Sum, Least, Greatest}
 use Rattle.mt_types.specs.declared.value.Value.{Value}
@@ -47,14 +47,16 @@ length_size n few =
 
 -- ---- numbers
 
-number_size : (w : Width) (n : ℕ) → length (to_le_bytes (width w) n) ≤ 8
+number_size : (w : Width) (n : ℕ) → length (to_le_bytes (width w) n) ≤ 16
 number_size W8 n = lit≤ tt
 number_size W16 n = lit≤ tt
 number_size W32 n = lit≤ tt
 number_size W64 n = lit≤ tt
+number_size W128 n = lit≤ tt
 
-pub whole_size : (w : Width) (level : Value-F Value) → length (whole_at (width w) level) ≤ 8
+pub whole_size : (w : Width) (level : Value-F Value) → length (whole_at (width w) level) ≤ 16
 whole_size w (Value-F.Num n) = number_size w (cast_unsigned (width w) n)
+whole_size w (Value-F.Huge n) = number_size w n
 whole_size w (Value-F.Text bytes) = lit≤ tt
 whole_size w Value-F.Null = lit≤ tt
 whole_size w (Value-F.List items) = lit≤ tt
@@ -64,6 +66,7 @@ whole_size w (Value-F.State s) = lit≤ tt
 
 pub fixed_size : (size : ℕ) → size ≤ MAX_FIXED_STRING → (level : Value-F Value) → passes_text (λ bytes. length bytes == size && list_all is_byte bytes) level ≡ true → length (fixed_at level) ≤ item_limit
 fixed_size size few (Value-F.Num n) fits = cc
+fixed_size size few (Value-F.Huge n) fits = cc
 fixed_size size few (Value-F.Text bytes) fits = omega (arith, few, eqb-true (length bytes) size (and_parts (length bytes == size) (list_all is_byte bytes) fits).0)
 fixed_size size few Value-F.Null fits = cc
 fixed_size size few (Value-F.List items) fits = cc
@@ -71,6 +74,7 @@ fixed_size size few (Value-F.State s) fits = cc
 
 pub text_size : (level : Value-F Value) → passes_text (λ bytes. nat_le (length bytes) MAX_TEXT && list_all is_byte bytes) level ≡ true → length (text_at level) ≤ item_limit
 text_size (Value-F.Num n) fits = cc
+text_size (Value-F.Huge n) fits = cc
 text_size (Value-F.Text bytes) fits =
     let few : length bytes ≤ MAX_TEXT = leb-true (length bytes) MAX_TEXT (and_parts (nat_le (length bytes) MAX_TEXT) (list_all is_byte bytes) fits).0 in
     omega (arith, few, length_size (length bytes) (omega (arith, few)), length-append (leb128 (length bytes)) bytes)
@@ -85,19 +89,20 @@ abbrev pub IsSmallCount : AggState → Type 0
 IsSmallCount (Count n) = n < 2 ^ 64
 IsSmallCount _ = Unit {0}
 
-module _ (argument : Value → List ℕ) (few : (n : ℤ) → length (argument (Num n)) ≤ 8) where
-  held_size : (n : Option ℤ) → length (held argument n) ≤ 10
+module _ (argument : Value → List ℕ) (few : (n : ℤ) → length (argument (Num n)) ≤ 16) where
+  held_size : (n : Option ℤ) → length (held argument n) ≤ 17
   held_size None = lit≤ tt
   held_size (Some n) = omega (arith, few n)
 
-  kept_size : (s : AggState) → IsSmallCount s → length (state_bytes argument s) ≤ 10
-  kept_size (Count n) small = length_size n small
+  kept_size : (s : AggState) → IsSmallCount s → length (state_bytes argument s) ≤ 17
+  kept_size (Count n) small = omega (arith, length_size n small)
   kept_size (Sum n) small = lit≤ tt
   kept_size (Least n) small = held_size n
   kept_size (Greatest n) small = held_size n
 
-  pub state_size : (test : AggState → Bool) → ((s : AggState) → test s ≡ true → IsSmallCount s) → (level : Value-F Value) → passes_state test level ≡ true → length (state_at argument level) ≤ 10
+  pub state_size : (test : AggState → Bool) → ((s : AggState) → test s ≡ true → IsSmallCount s) → (level : Value-F Value) → passes_state test level ≡ true → length (state_at argument level) ≤ 17
   state_size test small (Value-F.Num n) fits = lit≤ tt
+  state_size test small (Value-F.Huge n) fits = lit≤ tt
   state_size test small (Value-F.Text bytes) fits = lit≤ tt
   state_size test small Value-F.Null fits = lit≤ tt
   state_size test small (Value-F.List items) fits = lit≤ tt

@@ -1,9 +1,9 @@
 -- The writer's folder of writable rows stands for these rows.
-use Rattle.std.proofs.Common.{◌≡◌, ◌≢◌, ℕ, suc, ◌<◌, ◌≤◌, List, [], ◌∷◌, ◌++◌, length, get_or, refl, sym, subst, arith}
-use Rattle.std.specs.Prelude.{All, AllPairs, IsTrue}
+use Rattle.std.proofs.Common.{◌≡◌, ◌≢◌, ℕ, suc, ◌<◌, ◌≤◌, List, [], ◌∷◌, ◌++◌, length, get_or, refl, sym, subst, arith, inr}
+use Rattle.std.specs.Prelude.{All, AllPairs, Contains, IsSome, IsTrue}
 use Rattle.std.proofs.lemmas.List.Elements.{All-weaker}
 use Rattle.mt_types.specs.Profile.{is_profile}
-use Rattle.mt_shelf.specs.declared.file.FileBytes.{FileBytes}
+use Rattle.mt_fault.specs.declared.file.FileBytes.{FileBytes}
 use Rattle.mt_table.specs.declared.column.Column.{Column}
 use Rattle.mt_table.specs.declared.definition.Table.{Table}
 use Rattle.mt_table.specs.declared.definition.PartDef.{PartDef}
@@ -14,7 +14,7 @@ use Rattle.mt_defs.specs.Folder.{Folder, folder_of, folder_below}
 use Rattle.mt_defs.specs.Rows.{Row, ArePartRows}
 use Rattle.mt_defs.specs.Compact.{compact_marks_name}
 use Rattle.mt_defs.specs.Metadata.{no_column}
-use Rattle.mt_defs.specs.Part.{HasProjection, HoldsRows, StandsForIn, is_compact, marks_ending}
+use Rattle.mt_defs.specs.Part.{HasProjection, HoldsRows, StandsForIn, is_compact, known_names, marks_ending}
 use Rattle.mt_defs.specs.Projections.{base_of, inner_of, projection_prefix}
 use Rattle.mt_defs.specs.SkipIndexes.{HasSkipIndex}
 use Rattle.mt_defs.specs.WrittenGranules.{written_granules}
@@ -28,7 +28,9 @@ use Rattle.mt_law_written.proofs.ListLemmas.{All-left, All-right, All-of_flat_ma
 use Rattle.mt_law_written.proofs.WideLemmas.{HasFile, column_holds}
 use Rattle.mt_law_written.proofs.OrderLemmas.{Differently, each_later, later_sorted, pairs_of}
 use Rattle.mt_law_written.proofs.ApartLemmas.{EachLater}
-use Rattle.mt_law_written.proofs.DefinitionLemmas.{definition_held, definition_layout, written_layout}
+use Rattle.mt_law_written.proofs.ListedLemmas.{ArePlaces, own_order}
+use Rattle.mt_law_written.proofs.MustLemmas.{base_must, inner_must}
+use Rattle.mt_law_written.proofs.DefinitionLemmas.{definition_held, definition_layout, held_order, written_layout}
 use Rattle.mt_law_written.proofs.DataNames.{AreOwn, definition_apart}
 use Rattle.mt_law_written.proofs.StoredLemmas.{base_own, inner_own}
 use Rattle.mt_law_written.proofs.PartitionLemmas.{partition_held}
@@ -50,18 +52,18 @@ own_columns columns names types = record { differ = later columns names; types =
 own_of : (definition : PartDef) → IsStored definition → AreOwn definition.columns
 own_of definition stored = own_columns definition.columns stored.names stored.types
 
-stored_of : (definition : PartDef) → AreOwn definition.columns → IsStored definition
-stored_of definition own = record { names = pairs_of (λ a b. a.name ≢ b.name) definition.columns own.differ; types = own.types }
+stored_of : (definition : PartDef) → AreOwn definition.columns → ArePlaces definition.columns definition.must → IsStored definition
+stored_of definition own must = record { names = pairs_of (λ a b. a.name ≢ b.name) definition.columns own.differ; types = own.types; must = must }
 
 -- the definitions of a table
 pub base_stored : (table : Table) → IsStored (base_of table)
-base_stored table = stored_of (base_of table) (base_own table.columns (rules_of table).columns)
+base_stored table = stored_of (base_of table) (base_own table.columns (rules_of table).columns) (base_must table)
 
 pub inner_stored : (table : Table) → All (λ projection. IsStored (inner_of table projection)) table.projections
 inner_stored table k d inside =
     let rules = rules_of table in
     let projection : Projection = get_or table.projections k d in
-    stored_of (inner_of table projection) (inner_own table projection rules.columns (rules.projections.each k d inside))
+    stored_of (inner_of table projection) (inner_own table projection rules.columns (rules.projections.each k d inside)) (inner_must table projection)
 
 -- the writer's files of a definition's rows hold these rows
 pub definition_holds : (settings : Settings) (definition : PartDef) (rows : List Row) → IsStored definition → ArePartRows definition rows
@@ -69,7 +71,7 @@ pub definition_holds : (settings : Settings) (definition : PartDef) (rows : List
 definition_holds settings definition rows stored are =
     let own = own_of definition stored in
     let files = definition_files settings definition rows in
-    definition_held settings definition rows (folder_of files) own.types are (λ wide. absent files compact_marks_name (definition_absent settings definition rows own.types wide))
+    definition_held settings definition rows (folder_of files) own.types stored.must are (λ wide. absent files compact_marks_name (definition_absent settings definition rows own.types wide))
     (all_found files (definition_apart settings definition rows own))
 
 -- ---- the parts of a table's folder
@@ -128,7 +130,7 @@ module _ (table : Table) (rows : List Row) (writable : IsWritable table rows) wh
         stored = stored;
         granules = written_granules table.settings definition.columns stored;
         holds =
-            definition_held table.settings definition stored (folder_below folder (projection_prefix projection)) (inner_own table projection rules.columns (rules.projections.each k d inside)).types (writable.projections k d inside)
+            definition_held table.settings definition stored (folder_below folder (projection_prefix projection)) (inner_own table projection rules.columns (rules.projections.each k d inside)).types (inner_must table projection) (writable.projections k d inside)
             (below_absent table rows rules k d inside) (parts.stored k d inside);
         stands = written_stand table projection rows;
       }
@@ -141,14 +143,23 @@ module _ (table : Table) (rows : List Row) (writable : IsWritable table rows) wh
         definition_layout table.settings (inner_of table projection) (projection_rows table projection rows) (folder_below folder (projection_prefix projection)) (below_absent table rows rules k d inside) (parts.stored k d inside);
   }
 
+  abbrev AllKnown : List ℕ → Type 0
+  AllKnown order = (name : List ℕ) → IsSome (folder name) → Contains (known_names table order folder) name
+
+  types : All (λ column. IsTrue (is_profile column.ty)) table.columns
+  types = (base_own table.columns rules.columns).types
+
+  lists_all : (definition_held table.settings (base_of table) rows folder types (base_must table) writable.part_rows (marks_absent table rows rules) parts.own).order ≡ own_order table.columns
+  lists_all = held_order table.settings (base_of table) rows folder types (base_must table) writable.part_rows (marks_absent table rows rules) parts.own
+
   files_stand : StandsForIn table folder rows (written_granules table.settings table.columns rows)
   files_stand = record {
-    holds = definition_held table.settings (base_of table) rows folder (base_own table.columns rules.columns).types writable.part_rows (marks_absent table rows rules) parts.own;
+    holds = definition_held table.settings (base_of table) rows folder types (base_must table) writable.part_rows (marks_absent table rows rules) parts.own;
     one_partition = writable.one_partition;
     partition = partition_held table rows folder writable.part_rows.not_empty (partition_absent table rows rules) parts.partition;
-    skips = λ k d inside. has_index (get_or table.skips k d) (rules.skips.known k d inside) (rules.skips.coarse k d inside) (parts.indexes k d inside);
-    projections = has_projection;
-    known = names_known table rows folder refl layouts;
+    skips = λ k d inside. inr (has_index (get_or table.skips k d) (rules.skips.known k d inside) (rules.skips.coarse k d inside) (parts.indexes k d inside));
+    projections = λ k d inside. inr (has_projection k d inside);
+    known = subst AllKnown (sym lists_all) (names_known table rows folder refl layouts);
   }
 
 -- each file of the writer's folder is found by its name

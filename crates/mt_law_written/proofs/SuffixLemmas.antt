@@ -6,15 +6,17 @@ use Rattle.std.proofs.lemmas.Fmt.{decimal_digit}
 use Rattle.std.proofs.lemmas.Bool.{ne_eqb}
 use Rattle.std.proofs.lemmas.List.Elements.{All-nil, All-cons, All-weaker}
 use Rattle.mt_types.specs.declared.limits.TheConstants.{MAX_ARRAY_DEPTH}
+use Rattle.mt_types.specs.declared.ty.Width.{Width}
+use Rattle.mt_types.specs.declared.ty.Width.TheVariants.{W8, W16, W32, W64, W128}
 use Rattle.mt_types.specs.declared.ty.Ty.{Ty, map-Ty, out-Ty}
 use Rattle.mt_types.specs.declared.ty.Ty.TheOpen.{Ty-F}
 use Rattle.mt_types.specs.declared.ty.Ty.TheVariants.{Nullable, Array, outs-Nullable, outs-Array}
 use Rattle.mt_types.specs.declared.ty.Ty.TheFolds.{fold-Ty, fold_out-Ty}
-use Rattle.mt_types.specs.Profile.{Kind, Whole, Day, Bytes, Optional, Stored, Unknown, kind_of, is_profile}
+use Rattle.mt_types.specs.Profile.{Kind, Day, Plain, Optional, Stored, Unknown, width_kind, kind_of, is_profile}
 use Rattle.mt_types.proofs.Levels.{same_level}
-use Rattle.mt_types.proofs.KindLemmas.{Known, unsigned, signed, day, text, fixed, optional, nested, stored, counted, outside, known, array_depth}
+use Rattle.mt_types.proofs.KindLemmas.{Known, unsigned, signed, day, moment, text, fixed, optional, nested, stored, counted, outside, known, array_depth}
 use Rattle.mt_defs.specs.FileNames.{stream_suffixes, suffix_step}
-use Rattle.mt_codec.specs.StreamOrder.{array_levels, levels_of_kind}
+use Rattle.mt_defs.specs.FileNames.{array_levels, levels_of_kind}
 use Rattle.mt_codec.proofs.WrittenLemmas.{IsSingleLevel, nullable_level, array_inside}
 use Rattle.mt_law_written.proofs.NameLemmas.{has_slash}
 use Rattle.mt_law_written.proofs.PlainLemmas.{is_plain, plain_byte}
@@ -63,6 +65,7 @@ single_suffix t (Ty-F.Int w) k is single = suffixes_at t (Ty-F.Int w) k is
 single_suffix t (Ty-F.FixedString n) k is single = suffixes_at t (Ty-F.FixedString n) k is
 single_suffix t Ty-F.Str k is single = suffixes_at t Ty-F.Str k is
 single_suffix t Ty-F.Date k is single = suffixes_at t Ty-F.Date k is
+single_suffix t Ty-F.Moment k is single = suffixes_at t Ty-F.Moment k is
 single_suffix t (Ty-F.State agg u) k is single = suffixes_at t (Ty-F.State agg u) k is
 single_suffix t Ty-F.CountState k is single = suffixes_at t Ty-F.CountState k is
 
@@ -108,6 +111,7 @@ suffixes_within depth k t (Ty-F.Int w) is few small profile = subst (Suffixes k)
 suffixes_within depth k t (Ty-F.FixedString n) is few small profile = subst (Suffixes k) (sym (single_suffix t (Ty-F.FixedString n) k is tt)) (one_suffix k)
 suffixes_within depth k t Ty-F.Str is few small profile = subst (Suffixes k) (sym (single_suffix t Ty-F.Str k is tt)) (one_suffix k)
 suffixes_within depth k t Ty-F.Date is few small profile = subst (Suffixes k) (sym (single_suffix t Ty-F.Date k is tt)) (one_suffix k)
+suffixes_within depth k t Ty-F.Moment is few small profile = subst (Suffixes k) (sym (single_suffix t Ty-F.Moment k is tt)) (one_suffix k)
 suffixes_within depth k t (Ty-F.State agg u) is few small profile = subst (Suffixes k) (sym (single_suffix t (Ty-F.State agg u) k is tt)) (one_suffix k)
 suffixes_within depth k t Ty-F.CountState is few small profile = subst (Suffixes k) (sym (single_suffix t Ty-F.CountState k is tt)) (one_suffix k)
 suffixes_within depth k t (Ty-F.Nullable u) is few small profile =
@@ -129,12 +133,20 @@ suffixes_within (suc depth) k t (Ty-F.Array u) is few small profile =
 none_small : (t : Ty) (kind : Kind) → kind_of t ≡ kind → levels_of_kind kind ≡ 0 → array_levels t ≤ MAX_ARRAY_DEPTH
 none_small t kind is none = let zero : array_levels t ≡ 0 = ap levels_of_kind is ∙ none in omega (arith, zero)
 
+width_levels : (w : Width) → levels_of_kind (width_kind w) ≡ 0
+width_levels W8 = refl
+width_levels W16 = refl
+width_levels W32 = refl
+width_levels W64 = refl
+width_levels W128 = refl
+
 levels_small : (t : Ty) → Known t → array_levels t ≤ MAX_ARRAY_DEPTH
-levels_small t (unsigned w is k) = none_small t Whole k refl
-levels_small t (signed w is k) = none_small t Whole k refl
+levels_small t (unsigned w is k) = none_small t (width_kind w) k (width_levels w)
+levels_small t (signed w is k) = none_small t (width_kind w) k (width_levels w)
 levels_small t (day is k) = none_small t Day k refl
-levels_small t (text is k) = none_small t Bytes k refl
-levels_small t (fixed n is low high k) = none_small t Bytes k refl
+levels_small t (moment is k) = none_small t Plain k refl
+levels_small t (text is k) = none_small t Plain k refl
+levels_small t (fixed n is low high k) = none_small t Plain k refl
 levels_small t (optional inner is s k) = none_small t Optional k refl
 levels_small t (nested inner depth is e k) = let same : array_levels t ≡ depth = ap levels_of_kind k in omega (arith, same, (array_depth (kind_of inner) depth e).1)
 levels_small t (stored agg inner is e k) = none_small t Stored k refl

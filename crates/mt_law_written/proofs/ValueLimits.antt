@@ -18,7 +18,7 @@ use Rattle.mt_types.specs.Profile.{is_profile}
 use Rattle.mt_types.proofs.Levels.{same_level}
 use Rattle.mt_defs.specs.Rows.{element_count}
 use Rattle.mt_defs.specs.WrittenStreams.{elements_at, or_default}
-use Rattle.mt_agg.proofs.StateLemmas.{fits_at}
+use Rattle.mt_types.proofs.NumberLemmas.{fits_at}
 use Rattle.mt_codec.proofs.WrittenLemmas.{IsSingleLevel, array_inside, default_fits_too, nullable_inside, nullable_level}
 use Rattle.mt_layout.specs.Sizes.{value_size}
 use Rattle.mt_layout.proofs.SizeLemmas.{value_size_Array, value_size_Nullable, value_size_single}
@@ -60,6 +60,7 @@ limited_elements t limited profile value (Value-F.List items) is fits =
     let fit = (and_parts (nat_le (length items) MAX_ELEMENTS) (list_all (fits_of t) items) fits).1 in
     omega (arith, limited_values t limited profile items fit, list_cells value items is)
 limited_elements t limited profile value (Value-F.Num n) is fits = cc
+limited_elements t limited profile value (Value-F.Huge n) is fits = cc
 limited_elements t limited profile value (Value-F.Text bytes) is fits = cc
 limited_elements t limited profile value Value-F.Null is fits = cc
 limited_elements t limited profile value (Value-F.State s) is fits = cc
@@ -82,6 +83,7 @@ limited_level (Ty-F.Int w) = limited_single _ (Ty-F.Int w) (out-roll-Ty (Ty-F.In
 limited_level (Ty-F.FixedString n) = limited_single _ (Ty-F.FixedString n) (out-roll-Ty (Ty-F.FixedString n)) tt
 limited_level Ty-F.Str = limited_single _ Ty-F.Str (out-roll-Ty Ty-F.Str) tt
 limited_level Ty-F.Date = limited_single _ Ty-F.Date (out-roll-Ty Ty-F.Date) tt
+limited_level Ty-F.Moment = limited_single _ Ty-F.Moment (out-roll-Ty Ty-F.Moment) tt
 limited_level (Ty-F.Nullable b) = subst IsLimited (same_level (Nullable b.0) (roll-Ty (Ty-F.Nullable b.0)) (outs-Nullable b.0 ∙ sym (out-roll-Ty (Ty-F.Nullable b.0)))) (limited_Nullable b.0)
 limited_level (Ty-F.Array b) = subst IsLimited (same_level (Array b.0) (roll-Ty (Ty-F.Array b.0)) (outs-Array b.0 ∙ sym (out-roll-Ty (Ty-F.Array b.0)))) (limited_Array b.0 b.1)
 limited_level (Ty-F.State agg b) = limited_single _ (Ty-F.State agg b.0) (out-roll-Ty (Ty-F.State agg b.0)) tt

@@ -1,7 +1,7 @@
 -- Rows that stand in granules, as the writers of the Wide and the Compact layout take them.
 use Rattle.std.specs.Prelude.{◌≢◌, ℕ, ◌≤◌, ◌<◌, ◌^◌, List, length, All, AllPairs, IsTrue}
 use Rattle.mt_types.specs.Profile.{is_profile}
-use Rattle.mt_shelf.specs.declared.file.FileBytes.{FileBytes}
+use Rattle.mt_fault.specs.declared.file.FileBytes.{FileBytes}
 use Rattle.mt_table.specs.declared.column.Column.{Column}
 use Rattle.mt_table.specs.declared.limits.TheConstants.{MAX_CELLS, MAX_ROWS}
 use Rattle.mt_defs.specs.Granules.{AreGranules}

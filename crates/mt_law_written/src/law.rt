@@ -33,7 +33,8 @@ pub fn written_compact_files_are_read()
         → compact_reading (folder_of (compact_files columns rows granules)) (length rows) columns ≡ Ok (rows, granules) }
 {}
 
-/// What each folder of a table stores has columns of different names and of types of the profile.
+/// What each folder of a table stores has columns of different names and of types of the profile, and those that it must
+/// list are among them.
 pub fn definitions_are_stored()
     ensures base { (table : Table) → IsStored (base_of table) }
     ensures projections { (table : Table)

@@ -1,7 +1,7 @@
 -- The steps of a merge.
 use Rattle.std.proofs.Common.{◌≡◌, inl, inr, ℕ, false, List, [], ◌∷◌, map, Option, Some, None, IfSome, Result, Ok, Err, refl, sym, subst, string_bytes, Global, String}
 use Rattle.mt_table.specs.declared.definition.Table.{Table}
-use Rattle.mt_shelf.specs.declared.file.FileBytes.{FileBytes}
+use Rattle.mt_fault.specs.declared.file.FileBytes.{FileBytes}
 use Rattle.mt_shelf.specs.Files.{Files}
 use Rattle.mt_defs.specs.Rows.{Row}
 use Rattle.mt_defs.specs.Sorting.{merged_rows}

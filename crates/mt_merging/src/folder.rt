@@ -8,8 +8,9 @@ ghost use Rattle.mt_command.specs.Steps.{StepCausedBy, of_nothing};
 ghost use Rattle.mt_merging.specs.Inputs.{AreInputs, folder_of};
 
 use mt_command::{Status, few_cells, sorted_folder};
+use mt_fault::FileBytes;
 use mt_merge::merge_rows;
-use mt_shelf::{FileBytes, Gate};
+use mt_shelf::Gate;
 use mt_table::Table;
 use mt_types::{List, Row};
 use std::alloc::Global;

@@ -38,10 +38,7 @@ number_fits v n is h = natural_of n (sym (ap (num_at (is_unsigned 64)) (ap out-V
 
 number_level : (l : Value-F Value) → num_at (is_unsigned 64) l ≡ true → (n : ℤ) × (l ≡ Value-F.Num n)
 number_level (Value-F.Num n) h = (n, refl)
-number_level (Value-F.Text bytes) h = cc
-number_level Value-F.Null h = cc
-number_level (Value-F.List items) h = cc
-number_level (Value-F.State s) h = cc
+number_level _ h = cc
 
 -- a value that fits is a number
 pub fitting_is_number : (v : Value) → fits_of (UInt W64) v ≡ true → (n : ℤ) × (v ≡ Num n)

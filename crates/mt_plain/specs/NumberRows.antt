@@ -7,7 +7,7 @@ use Rattle.mt_types.specs.Fits.{fits_of}
 use Rattle.mt_types.specs.Items.{item_bytes}
 use Rattle.mt_table.specs.declared.definition.Table.{Table}
 use Rattle.mt_table.specs.Form.{IsNumbersTable}
-use Rattle.mt_shelf.specs.declared.file.FileBytes.{FileBytes}
+use Rattle.mt_fault.specs.declared.file.FileBytes.{FileBytes}
 use Rattle.mt_defs.specs.Rows.{Row, RowFits, cell, column_values}
 use Rattle.mt_defs.specs.Granules.{granule_rows}
 use Rattle.mt_defs.specs.Marks.{entry_bytes}

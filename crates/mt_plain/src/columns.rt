@@ -10,7 +10,7 @@ ghost use Rattle.mt_plain.specs.NumberRows.{HasNumbers, IsStream, granule_frames
 
 use crate::frames::append_frames;
 use crate::items::{append_items, append_u64};
-use mt_shelf::FileBytes;
+use mt_fault::FileBytes;
 use mt_types::{List, NoMemory, Row};
 use std::alloc::Global;
 

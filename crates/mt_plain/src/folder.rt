@@ -12,7 +12,7 @@ use crate::granules::granules_of;
 use crate::index::primary_index;
 use crate::order::in_order;
 use crate::texts::{columns_text, count_text};
-use mt_shelf::FileBytes;
+use mt_fault::FileBytes;
 use mt_table::Table;
 use mt_types::{List, NoMemory, Row};
 use std::alloc::Global;

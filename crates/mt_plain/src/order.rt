@@ -6,7 +6,7 @@ ghost use Rattle.std.specs.Ordering.{is_gt};
 ghost use Rattle.mt_defs.specs.Sorting.{placed_by, sorted_by};
 ghost use Rattle.mt_defs.specs.Writer.{file_cmp};
 
-use mt_shelf::FileBytes;
+use mt_fault::FileBytes;
 use mt_types::{List, NoMemory};
 use std::alloc::Global;
 

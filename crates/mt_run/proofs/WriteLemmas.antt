@@ -4,7 +4,7 @@ use Rattle.std.proofs.lemmas.List.{append-nil}
 use Rattle.std.specs.Option.{option_map}
 use Rattle.std.specs.Io.KnownBytes.{append_known, IsAtEnd}
 use Rattle.mt_table.specs.declared.definition.Table.{Table}
-use Rattle.mt_shelf.specs.declared.file.FileBytes.{FileBytes}
+use Rattle.mt_fault.specs.declared.file.FileBytes.{FileBytes}
 use Rattle.mt_shelf.specs.Streams.{GrowsByPrefix}
 use Rattle.mt_shelf.specs.Files.{Files, gained_files}
 use Rattle.mt_shelf.specs.Held.{pair_of}

@@ -2,7 +2,7 @@
 use Rattle.std.specs.Prelude.{ℕ, true, false, nat_lt, List, [], ◌∷◌, length, if◌then◌else◌, Result, Ok, Err}
 use Rattle.mt_table.specs.declared.definition.Table.{Table}
 use Rattle.mt_tsv.specs.Reading.{rows_reading}
-use Rattle.mt_shelf.specs.declared.file.FileBytes.{FileBytes}
+use Rattle.mt_fault.specs.declared.file.FileBytes.{FileBytes}
 use Rattle.mt_shelf.specs.Files.{Files}
 use Rattle.mt_defs.specs.Rows.{Row}
 use Rattle.mt_defs.specs.Sorting.{sorted_rows}

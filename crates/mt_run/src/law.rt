@@ -3,7 +3,7 @@
 ghost use Rattle.std.specs.Prelude.{◌≡◌, ◌≢◌, ℕ, List, [], true, Ok};
 ghost use Rattle.std.specs.List.{list_all};
 ghost use Rattle.mt_types.specs.Bytes.{is_byte};
-ghost use Rattle.mt_shelf.specs.declared.file.FileBytes.{FileBytes};
+ghost use Rattle.mt_fault.specs.declared.file.FileBytes.{FileBytes};
 ghost use Rattle.mt_table.specs.declared.definition.Table.{Table};
 ghost use Rattle.mt_defs.specs.Folder as folders;
 ghost use Rattle.mt_defs.specs.Part.{StandsFor};

@@ -5,8 +5,8 @@ ghost use Rattle.mt_run.specs.Notes.{table_why_name, what_name, why_name};
 
 use itoa::Buffer;
 use mt_command::{Status, What};
+use mt_fault::{Fault, Why};
 use mt_query::QueryWhy;
-use mt_shelf::{Fault, Why};
 use mt_table_text::TableWhy;
 use mt_tsv::RowWhy;
 use mt_types::{List, NoMemory};

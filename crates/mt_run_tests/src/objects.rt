@@ -2,7 +2,8 @@
 ghost use Rattle.std.specs.Prelude.{◌≡◌, IfOk, true};
 ghost use Rattle.mt_shelf.specs.Held.{all_paths, AllDiffer};
 
-use mt_shelf::{FileBytes, FileSet};
+use mt_fault::FileBytes;
+use mt_shelf::FileSet;
 use mt_types::List;
 use std::alloc::Global;
 use std::test::Fail;

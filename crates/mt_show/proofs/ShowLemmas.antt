@@ -1,8 +1,9 @@
 -- The steps of `show`, each as the outcome of what follows it.
+use Rattle.std.specs.Prelude.{option_map}
 use Rattle.std.proofs.Common.{◌≡◌, ℕ, true, false, List, map, Option, Some, None, IfSome, Result, Ok, Err, inl, inr, refl, sym, ap, subst, ◌∙◌}
-use Rattle.mt_shelf.specs.declared.fault.Fault.{Fault}
-use Rattle.mt_shelf.specs.declared.fault.ReadError.{ReadError}
-use Rattle.mt_shelf.specs.declared.fault.ReadError.TheVariants as read
+use Rattle.mt_fault.specs.declared.fault.Fault.{Fault}
+use Rattle.mt_fault.specs.declared.error.FileError.{FileError}
+use Rattle.mt_fault.specs.declared.error.FileError.TheVariants as error
 use Rattle.mt_shelf.specs.declared.file.Entry.{Entry}
 use Rattle.mt_shelf.specs.Files.{Files, entries_below}
 use Rattle.mt_table.specs.declared.definition.Table.{Table}
@@ -11,6 +12,7 @@ use Rattle.mt_definition.specs.declared.accepted.Accepted.{Accepted}
 use Rattle.mt_check.specs.declared.folder.PartFiles.{PartFiles}
 use Rattle.mt_check.specs.ListedChecks.{listed_checks}
 use Rattle.mt_check.specs.PartFiles.{part_files}
+use Rattle.mt_files.specs.Listings.{names_of}
 use Rattle.mt_files.specs.NamedFiles.{part_folder}
 use Rattle.mt_check.proofs.PartLemmas.{whole_gives}
 use Rattle.mt_command.specs.Outcomes.{Outcomes, ◌>>=◌, Returns, gives, refused_by}
@@ -57,28 +59,30 @@ outside_refused table part status (Some f) outside = λ inside. let never : true
 
 -- the files that were read are at fault
 pub listed_refused : (table : Table) (part : List ℕ) (listing : List Entry) (files : PartFiles) (status : Status) (stored : Option Files) → IfSome stored (λ f. listing ≡ entries_below part f)
-    → IfSome stored (λ f. files ≡ part_files table (part_folder part f)) → Returns (let r : Result Accepted Status = Err status in r) (refused_by (AtFault part) (λ answer. listed_checks table files listing ≡ answer)) → IfSome stored (RefusesListed table part status)
+    → IfSome stored (λ f. files ≡ part_files table (part_folder part f) (names_of listing)) → Returns (let r : Result Accepted Status = Err status in r) (refused_by (AtFault part) (λ answer. listed_checks table files listing ≡ answer)) → IfSome stored (RefusesListed table part status)
 listed_refused table part listing files status None is are refuses = tt
 listed_refused table part listing files status (Some f) is are refuses = λ inside. refused (refuses inside)
   where
     refused : ((fault : Fault) × (listed_checks table files listing ≡ Err fault) × (status ≡ AtFault part fault)) → listed_text table part f (Err status)
     refused found =
-        let answer : Result Accepted ReadError = Err (read.AtFault found.0) in
+        let answer : Result Accepted FileError = Err (error.AtFault found.0) in
         let whole = whole_gives table part listing (Some f) files answer is are found.1 in
         inr (status, (found.0, checks_listed table part listing (Err found.0) (Some f) is whole, found.2), refl)
 
 -- the text of the files that were read
 pub listed_given : (table : Table) (part : List ℕ) (listing : List Entry) (files : PartFiles) (accepted : Accepted) (text : List ℕ) (stored : Option Files) → IfSome stored (λ f. listing ≡ entries_below part f)
-    → IfSome stored (λ f. files ≡ part_files table (part_folder part f)) → listed_checks table files listing ≡ Ok accepted
-    → text ≡ show_text table (shape_in table (folder_of files.base) (map folder_of files.projections)) accepted → IfSome stored (λ f. listed_text table part f (Ok text))
+    → IfSome stored (λ f. files ≡ part_files table (part_folder part f) (names_of listing)) → listed_checks table files listing ≡ Ok accepted
+    → text ≡ show_text table (shape_in table (folder_of files.base) (map (option_map folder_of) files.projections)) accepted → IfSome stored (λ f. listed_text table part f (Ok text))
 listed_given table part listing files accepted text None is are accepts made = tt
 listed_given table part listing files accepted text (Some f) is are accepts made =
-    let answer : Result Accepted ReadError = Ok accepted in
+    let answer : Result Accepted FileError = Ok accepted in
     let whole = whole_gives table part listing (Some f) files answer is are accepts in
     let folder = part_folder part f in
-    let same : text ≡ folder_text table folder accepted =
-    made ∙ ap (λ (fs : PartFiles). show_text table (shape_in table (folder_of fs.base) (map folder_of fs.projections)) accepted) are ∙ ap (λ (shape : Shape). show_text table shape accepted) (shape_same table folder) in
-    inl (accepted, checks_listed table part listing (Ok accepted) (Some f) is whole, ok_is text (folder_text table folder accepted) same)
+    let names = names_of (entries_below part f) in
+    let same : text ≡ folder_text table folder names accepted =
+    made ∙ ap (λ (fs : PartFiles). show_text table (shape_in table (folder_of fs.base) (map (option_map folder_of) fs.projections)) accepted) are
+    ∙ ap (λ (shape : Shape). show_text table shape accepted) (shape_same table folder (names_of listing)) ∙ ap (λ (es : List Entry). folder_text table folder (names_of es) accepted) is in
+    inl (accepted, checks_listed table part listing (Ok accepted) (Some f) is whole, ok_is text (folder_text table folder names accepted) same)
   where
     ok_is : (a b : List ℕ) → a ≡ b → (let r : Result (List ℕ) Status = Ok a in r) ≡ Ok b
     ok_is a b same = cc

@@ -1,22 +1,20 @@
--- The lines of projections, one after another.
+-- Lines, one after another.
 use Rattle.std.proofs.Common.{◌≡◌, ℕ, ◌+◌, List, ◌∷◌, ◌++◌, drop, get_or, length, sym, ap, ◌∙◌, ◌<◌, arith}
 use Rattle.std.specs.Prelude.{OnOk, Result, Ok, Err}
 use Rattle.std.proofs.lemmas.List.{append_assoc, drop_more}
-use Rattle.mt_table.specs.declared.projection.Projection.{Projection}
-use Rattle.mt_show.specs.declared.shape.Size.{Size}
-use Rattle.mt_show.specs.Text.{projection_line, projection_lines}
+use Rattle.mt_show.specs.Text.{pair_lines}
 
--- the line of one projection more
-pub projections_step : (projections : List Projection) (sizes : List Size) (i : ℕ) (projection : Projection) (e : Size) (out new whole : List ℕ) → length sizes ≡ length projections → i < length sizes → projection ≡ get_or projections i projection
-    → new ≡ out ++ projection_line projection (get_or sizes i e) → out ++ projection_lines (drop i projections) (drop i sizes) ≡ whole → new ++ projection_lines (drop (i + 1) projections) (drop (i + 1) sizes) ≡ whole
-projections_step projections sizes i projection e out new whole long known is_projection line so_far =
-    let rest = projection_lines (drop (i + 1) projections) (drop (i + 1) sizes) in
-    let size = get_or sizes i e in
-    let first : drop i projections ≡ projection ∷ drop (i + 1) projections = drop_more projections i projection (omega (arith, long, known)) ∙ ap (λ (p : Projection). p ∷ drop (i + 1) projections) (sym is_projection) in
-    let second : drop i sizes ≡ size ∷ drop (i + 1) sizes = drop_more sizes i e known in
-    let both : projection_lines (drop i projections) (drop i sizes) ≡ projection_line projection size ++ rest =
-    ap (λ (ps : List Projection). projection_lines ps (drop i sizes)) first ∙ ap (λ (ss : List Size). projection_lines (projection ∷ drop (i + 1) projections) ss) second in
-    ap (λ (l : List ℕ). l ++ rest) line ∙ append_assoc out (projection_line projection size) rest ∙ ap (λ (l : List ℕ). out ++ l) (sym both) ∙ so_far
+-- the line of one pair more
+pub pairs_step : {X Y : Type 0} (line : X → Y → List ℕ) (xs : List X) (ys : List Y) (i : ℕ) (x : X) (e : Y) (out new whole : List ℕ) → length ys ≡ length xs → i < length ys → x ≡ get_or xs i x
+    → new ≡ out ++ line x (get_or ys i e) → out ++ pair_lines line (drop i xs) (drop i ys) ≡ whole → new ++ pair_lines line (drop (i + 1) xs) (drop (i + 1) ys) ≡ whole
+pairs_step {X} {Y} line xs ys i x e out new whole long known is_x made so_far =
+    let rest = pair_lines line (drop (i + 1) xs) (drop (i + 1) ys) in
+    let y = get_or ys i e in
+    let first : drop i xs ≡ x ∷ drop (i + 1) xs = drop_more xs i x (omega (arith, long, known)) ∙ ap (λ (z : X). z ∷ drop (i + 1) xs) (sym is_x) in
+    let second : drop i ys ≡ y ∷ drop (i + 1) ys = drop_more ys i e known in
+    let both : pair_lines line (drop i xs) (drop i ys) ≡ line x y ++ rest =
+    ap (λ (l : List X). pair_lines line l (drop i ys)) first ∙ ap (λ (l : List Y). pair_lines line (x ∷ drop (i + 1) xs) l) second in
+    ap (λ (l : List ℕ). l ++ rest) made ∙ append_assoc out (line x y) rest ∙ ap (λ (l : List ℕ). out ++ l) (sym both) ∙ so_far
 
 -- four texts that were appended, one after another
 pub four_appended : {A E : Type 0} (result : Result A E) (old a b c new first second third last : List ℕ) → a ≡ old ++ first → b ≡ a ++ second → c ≡ b ++ third → OnOk result (new ≡ c ++ last) → OnOk result (new ≡ old ++ (((first ++ second) ++ third) ++ last))

@@ -1,6 +1,6 @@
 -- What a part's folder tells besides its rows: docs/CLI.md, "show".
-use Rattle.std.specs.Prelude.{ℕ, List, [], ◌∷◌, length, Result, Ok, Err}
-use Rattle.mt_shelf.specs.declared.fault.Fault.{Fault}
+use Rattle.std.specs.Prelude.{ℕ, Bool, List, [], ◌∷◌, length, map, Option, option_map, Result, Ok, Err}
+use Rattle.mt_fault.specs.declared.fault.Fault.{Fault}
 use Rattle.mt_table.specs.declared.definition.Table.{Table}
 use Rattle.mt_table.specs.declared.projection.Projection.{Projection}
 use Rattle.mt_defs.specs.Folder.{Folder}
@@ -9,6 +9,7 @@ use Rattle.mt_defs.specs.Projections.{base_of, inner_of}
 use Rattle.mt_definition.specs.declared.accepted.Accepted.{Accepted}
 use Rattle.mt_definition.specs.DefinitionReading.{definition_reading}
 use Rattle.mt_files.specs.PartTexts.{order_reading}
+use Rattle.mt_check.specs.FolderChecks.{skip_is_there}
 use Rattle.mt_show.specs.declared.shape.Shape.{Shape}
 use Rattle.mt_show.specs.declared.shape.Size.{Size}
 
@@ -22,12 +23,12 @@ abbrev pub size_or_none : Result Accepted Fault → Size
 size_or_none (Ok stored) = record { rows = length stored.rows; granules = length stored.granules }
 size_or_none (Err fault) = record { rows = 0; granules = 0 }
 
--- how much a projection's folder holds
-abbrev pub size_in : Table → Projection → Folder → Size
-size_in table projection folder = size_or_none (definition_reading (inner_of table projection) folder)
+-- how much a projection's folder holds, if it is there
+abbrev pub size_in : Table → Projection → Option Folder → Option Size
+size_in table projection folder = option_map (λ found. size_or_none (definition_reading (inner_of table projection) found)) folder
 
 -- the same of projections, each by its folder
-abbrev pub sizes_in : Table → List Projection → List Folder → List Size
+abbrev pub sizes_in : Table → List Projection → List (Option Folder) → List (Option Size)
 sizes_in table (projection ∷ projections) (folder ∷ folders) = size_in table projection folder ∷ sizes_in table projections folders
 sizes_in table _ _ = []
 
@@ -35,6 +36,11 @@ sizes_in table _ _ = []
 abbrev pub order_in : Table → Folder → List ℕ
 order_in table folder = order_or_none (order_reading (base_of table) folder)
 
--- the shape of a part by its own folder and those of its projections
-abbrev pub shape_in : Table → Folder → List Folder → Shape
-shape_in table folder folders = record { compact = is_compact folder; order = order_in table folder; projections = sizes_in table table.projections folders }
+-- which skip indexes are there
+abbrev pub skips_in : Table → Folder → List Bool
+skips_in table folder = map (skip_is_there folder) table.skips
+
+-- the shape of a part by its own folder and those of its projections that are there
+abbrev pub shape_in : Table → Folder → List (Option Folder) → Shape
+shape_in table folder folders =
+    record { compact = is_compact folder; order = order_in table folder; skips = skips_in table folder; projections = sizes_in table table.projections folders }

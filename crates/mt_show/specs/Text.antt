@@ -1,5 +1,5 @@
 -- The text of `show`: docs/CLI.md, "show".
-use Rattle.std.specs.Prelude.{ℕ, ◌+◌, ◌-◌, Bool, if◌then◌else◌, List, [], ◌∷◌, ◌++◌, length, map, take, drop, codes, decimal}
+use Rattle.std.specs.Prelude.{ℕ, ◌+◌, ◌-◌, Bool, true, false, if◌then◌else◌, Option, Some, None, List, [], ◌∷◌, ◌++◌, length, map, take, drop, codes, decimal}
 use Rattle.std.specs.List.{flat_map}
 use Rattle.mt_types.specs.Names.{type_name}
 use Rattle.mt_table.specs.declared.column.Column.{Column}
@@ -40,8 +40,10 @@ abbrev pub kind_text : SkipKind → List ℕ
 kind_text Minmax = codes "minmax "
 kind_text (Set max_rows) = codes "set(" ++ decimal max_rows ++ codes ") "
 
-abbrev pub skip_line : Skip → List ℕ
-skip_line skip = codes "index " ++ skip.name ++ codes " " ++ kind_text skip.kind ++ decimal skip.granularity ++ codes "\n"
+-- the line of an index that is there
+abbrev pub skip_line : Skip → Bool → List ℕ
+skip_line skip true = codes "index " ++ skip.name ++ codes " " ++ kind_text skip.kind ++ decimal skip.granularity ++ codes "\n"
+skip_line skip false = []
 
 abbrev pub size_text : Size → List ℕ
 size_text size = decimal size.rows ++ codes " rows " ++ decimal size.granules ++ codes " granules\n"
@@ -50,13 +52,15 @@ size_text size = decimal size.rows ++ codes " rows " ++ decimal size.granules ++
 abbrev pub named_line : (name : List ℕ) → Size → List ℕ
 named_line name size = codes "projection " ++ name ++ codes " " ++ size_text size
 
-abbrev pub projection_line : Projection → Size → List ℕ
-projection_line projection size = named_line (projection_name projection) size
+-- the line of a projection that is there
+abbrev pub projection_line : Projection → Option Size → List ℕ
+projection_line projection (Some size) = named_line (projection_name projection) size
+projection_line projection None = []
 
--- projections, each with its size
-abbrev pub projection_lines : List Projection → List Size → List ℕ
-projection_lines (projection ∷ projections) (size ∷ sizes) = projection_line projection size ++ projection_lines projections sizes
-projection_lines _ _ = []
+-- the lines of two lists, pair by pair
+abbrev pub pair_lines : {X Y : Type 0} → (X → Y → List ℕ) → List X → List Y → List ℕ
+pair_lines line (x ∷ xs) (y ∷ ys) = line x y ++ pair_lines line xs ys
+pair_lines line _ _ = []
 
 -- ---- granules
 
@@ -90,7 +94,7 @@ head_lines compact accepted = kind_line compact ++ count_line (codes "rows ") (l
 
 -- what is stored
 abbrev pub stored_lines : Table → Shape → List ℕ
-stored_lines table shape = column_lines table.columns shape.order ++ flat_map skip_line table.skips ++ projection_lines table.projections shape.projections
+stored_lines table shape = column_lines table.columns shape.order ++ pair_lines skip_line table.skips shape.skips ++ pair_lines projection_line table.projections shape.projections
 
 -- the granules, and the last row
 abbrev pub row_lines : Key → Accepted → List ℕ

@@ -1,12 +1,13 @@
 //! The steps that read and check a part, and keep the files that were read.
 
-ghost use Rattle.std.specs.Prelude.{◌≡◌, length, map, true, IfErr, IfOk, IfSome, IsTrue};
+ghost use Rattle.std.specs.Prelude.{◌≡◌, length, map, option_map, true, IfErr, IfOk, IfSome, IsTrue};
 ghost use Rattle.mt_shelf.specs.Files.{IsListing, entries_below};
 ghost use Rattle.mt_shelf.specs.Paths.{is_path};
 ghost use Rattle.mt_shelf.specs.State.{files_of};
 ghost use Rattle.mt_defs.specs.Folder.{folder_of};
 ghost use Rattle.mt_check.specs.ListedChecks.{listed_checks};
 ghost use Rattle.mt_check.specs.PartFiles.{part_files};
+ghost use Rattle.mt_files.specs.Listings.{names_of};
 ghost use Rattle.mt_files.specs.NamedFiles.{part_folder};
 ghost use Rattle.mt_command.specs.Outcomes.{Returns, refused_by};
 ghost use Rattle.mt_command.specs.Status.{is_outside};
@@ -20,7 +21,8 @@ use crate::text::show_text;
 use mt_check::{PartFiles, check_listed, read_part};
 use mt_command::{Status, at_fault, status_of_shelf};
 use mt_definition::Accepted;
-use mt_shelf::{Entry, ReadError, Shelf};
+use mt_fault::FileError;
+use mt_shelf::{Entry, Shelf};
 use mt_table::Table;
 use mt_types::{List, NoMemory};
 use std::alloc::Global;
@@ -36,7 +38,7 @@ pub(crate) fn read_files<F: Shelf>(
     requires path { IsTrue (is_path part.now) }
     requires form { IsListing listing.now }
     requires known { IfSome (files_of (F.state shelf.old)) (λ files. listing.now ≡ entries_below part.now files) }
-    ensures known { IfOk result (λ read. IfSome (files_of (F.state shelf.old)) (λ files. read ≡ part_files table.now (part_folder part.now files))) }
+    ensures known { IfOk result (λ read. IfSome (files_of (F.state shelf.old)) (λ files. read ≡ part_files table.now (part_folder part.now files) (names_of listing.now))) }
     ensures each { IfOk result (λ read. length read.projections ≡ length table.now.projections) }
     ensures outside { IfErr result (λ status. is_outside status ≡ true) }
     ensures files { files_of (F.state shelf.new) ≡ files_of (F.state shelf.old) }
@@ -64,8 +66,8 @@ pub(crate) fn judge_files(
 {
     match check_listed(alloc, table, files, listing) {
         Ok(accepted) => Ok(accepted),
-        Err(ReadError::AtFault(fault)) => Err(at_fault(alloc, part, fault)),
-        Err(ReadError::Shelf | ReadError::NoMemory) => Err(Status::NoMemory),
+        Err(FileError::AtFault(fault)) => Err(at_fault(alloc, part, fault)),
+        Err(FileError::NoMemory) => Err(Status::NoMemory),
     }
 }
 
@@ -78,7 +80,7 @@ pub(crate) fn files_text(
 ) -> Result<List<u8>, NoMemory>
     requires { length files.now.projections ≡ length table.now.projections }
     ensures { IfOk result (λ made. made ≡ text.show_text table.now
-        (shape_in table.now (folder_of files.now.base) (map folder_of files.now.projections)) accepted.now) }
+        (shape_in table.now (folder_of files.now.base) (map (option_map folder_of) files.now.projections)) accepted.now) }
 {
     let shape = shape_of(alloc, table, files)?;
     show_text(alloc, table, &shape, accepted)

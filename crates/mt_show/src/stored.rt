@@ -1,8 +1,7 @@
 //! The lines of what is stored: columns, skip indexes and projections.
 
 ghost use Rattle.std.specs.Prelude.{◌≡◌, ◌<◌, ◌++◌, decimal, length, All, OnOk};
-ghost use Rattle.std.specs.List.{flat_map};
-ghost use Rattle.mt_show.specs.Text.{column_line, column_lines, kind_text, named_line, projection_line, projection_lines, size_text, skip_line};
+ghost use Rattle.mt_show.specs.Text.{column_line, column_lines, kind_text, named_line, pair_lines, projection_line, size_text, skip_line};
 
 use crate::shape::Size;
 use itoa::Buffer;
@@ -43,19 +42,28 @@ fn append_column(alloc: Global, column: &Column, out: &mut List<u8>) -> Result<(
     out.append(b"\n")
 }
 
-/// Appends the lines of skip indexes.
-pub(crate) fn append_skips(skips: &[Skip], out: &mut List<u8>) -> Result<(), NoMemory>
-    ensures { OnOk result (out.new ≡ out.old ++ flat_map skip_line skips.now) }
+/// Appends the lines of the skip indexes that are there.
+pub(crate) fn append_skips(
+    skips: &[Skip],
+    there: &[bool],
+    out: &mut List<u8>,
+) -> Result<(), NoMemory>
+    requires { length there.now ≡ length skips.now }
+    ensures { OnOk result (out.new ≡ out.old ++ pair_lines skip_line skips.now there.now) }
 {
-    for skip in skips {
-        append_skip(skip, out)?;
+    for (place, is_there) in there.iter().enumerate() {
+        append_skip(&skips[place], *is_there, out)?;
     }
     Ok(())
 }
 
-fn append_skip(skip: &Skip, out: &mut List<u8>) -> Result<(), NoMemory>
-    ensures { OnOk result (out.new ≡ out.old ++ skip_line skip.now) }
+/// Appends the line of an index that is there.
+fn append_skip(skip: &Skip, is_there: bool, out: &mut List<u8>) -> Result<(), NoMemory>
+    ensures { OnOk result (out.new ≡ out.old ++ skip_line skip.now is_there) }
 {
+    if !is_there {
+        return Ok(());
+    }
     out.append(b"index ")?;
     out.append(skip.name.as_slice())?;
     out.append(b" ")?;
@@ -77,14 +85,14 @@ fn append_kind(kind: SkipKind, out: &mut List<u8>) -> Result<(), NoMemory>
     }
 }
 
-/// Appends the lines of projections, each with its size.
+/// Appends the lines of the projections that are there, each with its size.
 pub(crate) fn append_projections(
     projections: &[Projection],
-    sizes: &[Size],
+    sizes: &[Option<Size>],
     out: &mut List<u8>,
 ) -> Result<(), NoMemory>
     requires { length sizes.now ≡ length projections.now }
-    ensures { OnOk result (out.new ≡ out.old ++ projection_lines projections.now sizes.now) }
+    ensures { OnOk result (out.new ≡ out.old ++ pair_lines projection_line projections.now sizes.now) }
 {
     for (place, size) in sizes.iter().enumerate() {
         append_projection(&projections[place], *size, out)?;
@@ -92,13 +100,17 @@ pub(crate) fn append_projections(
     Ok(())
 }
 
+/// Appends the line of a projection that is there.
 fn append_projection(
     projection: &Projection,
-    size: Size,
+    size: Option<Size>,
     out: &mut List<u8>,
 ) -> Result<(), NoMemory>
     ensures { OnOk result (out.new ≡ out.old ++ projection_line projection.now size) }
 {
+    let Some(size) = size else {
+        return Ok(());
+    };
     match projection {
         Projection::Normal { name, .. } => append_named(name.as_slice(), size, out),
         Projection::Grouped { name, .. } => append_named(name.as_slice(), size, out),

@@ -22,6 +22,7 @@ pub fn show_text(
     accepted: &Accepted,
 ) -> Result<List<u8>, NoMemory>
     requires order { All (λ place. place < length table.now.columns) shape.now.order }
+    requires skips { length shape.now.skips ≡ length table.now.skips }
     requires sizes { length shape.now.projections ≡ length table.now.projections }
     ensures { IfOk result (λ made. made ≡ text.show_text table.now shape.now accepted.now) }
 {
@@ -68,11 +69,12 @@ fn append_stored(
     out: &mut List<u8>,
 ) -> Result<(), NoMemory>
     requires order { All (λ place. place < length table.now.columns) shape.now.order }
+    requires skips { length shape.now.skips ≡ length table.now.skips }
     requires sizes { length shape.now.projections ≡ length table.now.projections }
     ensures { OnOk result (out.new ≡ out.old ++ stored_lines table.now shape.now) }
 {
     append_columns(alloc, table.columns.as_slice(), shape.order.as_slice(), out)?;
-    append_skips(table.skips.as_slice(), out)?;
+    append_skips(table.skips.as_slice(), shape.skips.as_slice(), out)?;
     append_projections(
         table.projections.as_slice(),
         shape.projections.as_slice(),

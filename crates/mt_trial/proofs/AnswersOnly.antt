@@ -1,11 +1,12 @@
 -- The answers over rows have one outcome.
-use Rattle.std.proofs.Common.{◌≡◌, ℕ, List, ◌++◌, refl, ap, Result, Ok, Err}
+use Rattle.std.proofs.Common.{◌≡◌, ℕ, List, ◌++◌, refl, ap, subst, sym, Result, Ok, Err}
 use Rattle.mt_query.specs.declared.query.Query.{Query}
 use Rattle.mt_query.specs.declared.why.QueryWhy.{QueryWhy}
 use Rattle.mt_query.specs.Queries.{Asks}
 use Rattle.mt_query.proofs.ReadLemmas.{one_thing}
 use Rattle.mt_fold.specs.Answer.{answer_text}
 use Rattle.mt_defs.specs.Rows.{Row}
+use Rattle.mt_command.specs.declared.status.Status.{Status}
 use Rattle.mt_select.specs.Select.{query_of}
 use Rattle.mt_trial.specs.Queries.{totals_query, totals_text, groups_query, groups_text, great_query, great_text}
 use Rattle.mt_trial.specs.Steps.{answer_of, answers_of}
@@ -21,8 +22,11 @@ no_query : (query : Query) (why : QueryWhy) → (let r : Result Query QueryWhy =
 no_query query why e = cc
 
 query_only : (text : List ℕ) (query : Query) → Asks text trial_table (Ok query) → IsOnly (query_of trial_table text) query
-query_only text query asked (Ok other) is = ap Ok (same_query other query (one_thing text trial_table (Ok other) (Ok query) is asked))
-query_only text query asked (Err status) (why, is, named) = absurd (no_query query why (one_thing text trial_table (Err why) (Ok query) is asked))
+query_only text query asked outcome = (came outcome, λ same. subst (query_of trial_table text) (sym same) asked)
+  where
+    came : (o : Result Query Status) → query_of trial_table text o → o ≡ Ok query
+    came (Ok other) is = ap Ok (same_query other query (one_thing text trial_table (Ok other) (Ok query) is asked))
+    came (Err status) (why, is, named) = absurd (no_query query why (one_thing text trial_table (Err why) (Ok query) is asked))
 
 answer_only : (rows : List Row) (text : List ℕ) (query : Query) → Asks text trial_table (Ok query) → IsOnly (answer_of trial_table rows text) (answer_text trial_table query rows)
 answer_only rows text query asked =

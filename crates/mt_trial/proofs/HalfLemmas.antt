@@ -5,7 +5,7 @@ use Rattle.mt_table.specs.declared.column.Column.{Column}
 use Rattle.mt_table.specs.declared.definition.Table.{Table}
 use Rattle.mt_defs.specs.Partition.{HaveOnePartition}
 use Rattle.std.specs.List.Sorted.{IsSorted}
-use Rattle.mt_shelf.specs.declared.file.FileBytes.{FileBytes}
+use Rattle.mt_fault.specs.declared.file.FileBytes.{FileBytes}
 use Rattle.mt_defs.specs.Writer.{written_folder}
 use Rattle.mt_command.specs.Status.{Gives}
 use Rattle.mt_command.specs.Targets.{within_limit}

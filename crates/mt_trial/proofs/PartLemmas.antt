@@ -1,9 +1,9 @@
 -- A part on a shelf that is accepted, as the part of certain rows and with no other outcome.
-use Rattle.std.proofs.Common.{◌≡◌, inl, inr, ℕ, false, List, map, Option, Some, None, Result, Ok, refl}
+use Rattle.std.proofs.Common.{◌≡◌, inl, inr, ℕ, false, List, map, Option, Some, None, Result, Ok, refl, subst, sym}
 use Rattle.std.specs.Prelude.{◌↔◌}
 use Rattle.mt_table.specs.declared.definition.Table.{Table}
 use Rattle.mt_shelf.specs.declared.file.Entry.{Entry}
-use Rattle.mt_shelf.specs.declared.file.FileBytes.{FileBytes}
+use Rattle.mt_fault.specs.declared.file.FileBytes.{FileBytes}
 use Rattle.mt_shelf.specs.Files.{Draft, Files, entries_below, gained_files, listing_of}
 use Rattle.mt_shelf.specs.Held.{pair_of}
 use Rattle.mt_shelf.specs.Paths.{is_at_or_below}
@@ -66,10 +66,10 @@ pub part_published : (laws : PartLaws) (table : Table) (rows : List Row) (part :
     → within_limit (written_folder table (sorted_rows table.sort rows)) ≡ Ok (written_folder table (sorted_rows table.sort rows)) → HasPart table part (sorted_rows table.sort rows) (with_part part (written_folder table (sorted_rows table.sort rows)) files)
 part_published laws table rows part files storable free small =
     let (accepted, given, same) = laws.accepted table rows part files storable free small in
-    record { accepted = accepted; same = same; given = given; only = λ outcome is. laws.one table part _ outcome (Ok accepted) is given }
+    record { accepted = accepted; same = same; given = given; only = λ outcome. (λ is. laws.one table part _ outcome (Ok accepted) is given, λ same. subst (part_steps table part _) (sym same) given) }
 
 pub part_stays : (laws : PartLaws) (table : Table) (part target : List ℕ) (rows : List Row) (folder : List FileBytes) (files : Files) → is_at_or_below target part ≡ false → is_at_or_below part target ≡ false
     → HasPart table part rows files → HasPart table part rows (with_part target folder files)
 part_stays laws table part target rows folder files one two has =
     let given = (laws.steps table target part (map pair_of folder) files (Ok has.accepted) one two).1 has.given in
-    record { accepted = has.accepted; same = has.same; given = given; only = λ outcome is. laws.one table part _ outcome (Ok has.accepted) is given }
+    record { accepted = has.accepted; same = has.same; given = given; only = λ outcome. (λ is. laws.one table part _ outcome (Ok has.accepted) is given, λ same. subst (part_steps table part _) (sym same) given) }

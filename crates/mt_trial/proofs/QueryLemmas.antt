@@ -7,21 +7,23 @@ use Rattle.mt_types.specs.declared.ty.Width.TheVariants.{W32, W64}
 use Rattle.mt_types.specs.declared.value.Value.TheVariants.{Num}
 use Rattle.mt_tokens.specs.Lexis.{token_at}
 use Rattle.mt_tokens.specs.Numbers.{number_of}
-use Rattle.mt_syntax.specs.declared.tree.Selected.TheVariants.{Items}
-use Rattle.mt_syntax.specs.declared.tree.Selection.TheVariants as item
-use Rattle.mt_syntax.specs.Readers.{more}
+use Rattle.mt_phrases.specs.declared.selection.Selected.TheVariants.{Items}
+use Rattle.mt_phrases.specs.declared.selection.Selection.TheVariants as item
+use Rattle.mt_phrases.specs.Readers.{more}
 use Rattle.mt_table_text.specs.TextReading.{tokens_from, tokens_of}
-use Rattle.mt_query_syntax.specs.declared.op.Op.{Op}
-use Rattle.mt_query_syntax.specs.declared.op.Op.TheVariants.{Lt, Ge}
-use Rattle.mt_query_syntax.specs.declared.tree.CondText.{CondText}
-use Rattle.mt_query_syntax.specs.declared.tree.CondText.TheFolds.{fold_out-CondText}
-use Rattle.mt_query_syntax.specs.declared.tree.CondText.TheVariants.{Cmp, outs-Cmp}
-use Rattle.mt_query_syntax.specs.declared.tree.Literal.{Literal}
-use Rattle.mt_query_syntax.specs.declared.tree.Literal.TheVariants as literal
+use Rattle.mt_cond_syntax.specs.declared.op.Op.{Op}
+use Rattle.mt_cond_syntax.specs.declared.op.Op.TheVariants.{Lt, Ge}
+use Rattle.mt_cond_syntax.specs.declared.tree.CondText.{CondText}
+use Rattle.mt_cond_syntax.specs.declared.tree.CondText.TheFolds.{fold_out-CondText}
+use Rattle.mt_cond_syntax.specs.declared.tree.CondText.TheVariants.{Cmp, outs-Cmp}
+use Rattle.mt_cond_syntax.specs.declared.tree.Literal.{Literal}
+use Rattle.mt_cond_syntax.specs.declared.tree.Literal.TheVariants as literal
 use Rattle.mt_query_syntax.specs.declared.tree.QueryText.{QueryText}
-use Rattle.mt_query_syntax.specs.Joins.{joins}
-use Rattle.mt_query_syntax.specs.Numbers.{positive_of}
-use Rattle.mt_query_syntax.specs.Reading.{atom_at, item_at, sentence_at, unit_at}
+use Rattle.mt_cond_syntax.specs.Joins.{joins}
+use Rattle.mt_tokens.specs.Numbers.{wide_number_of}
+use Rattle.mt_cond_syntax.specs.Reading.{atom_at, unit_at}
+use Rattle.mt_phrases.specs.Selections.{item_at}
+use Rattle.mt_query_syntax.specs.Reading.{sentence_at}
 use Rattle.mt_query.specs.declared.cond.Cond.{Cond}
 use Rattle.mt_query.specs.Columns.{is_there}
 use Rattle.mt_query.specs.Conditions.{cond_of, cond_step, comparison_of, given_cond, is_present, present_step}
@@ -44,7 +46,7 @@ totals_read = refl
 
 -- a number below 2^127
 abbrev number : ℕ → Literal
-number n = literal.Number (Some (pos n))
+number n = literal.Number (Some n)
 
 abbrev groups_cond : CondText
 groups_cond = Cmp (codes "k") Lt (number 30)
@@ -53,7 +55,7 @@ abbrev groups_sentence : QueryText
 groups_sentence = record { items = Items (item.Column (codes "k") ∷ item.Count ∷ item.Of agg.Sum (codes "v") ∷ []); cond = Some groups_cond; group = codes "k" ∷ []; limit = Some 3 }
 
 groups_read : option_and_then sentence_at (tokens_of groups_text) ≡ Some groups_sentence
-unfolding groups_text tokens_from token_at number_of more item_at sentence_at unit_at atom_at joins positive_of
+unfolding groups_text tokens_from token_at number_of more item_at sentence_at unit_at atom_at joins wide_number_of
 groups_read = refl
 
 abbrev great_cond : CondText
@@ -63,16 +65,16 @@ abbrev great_sentence : QueryText
 great_sentence = record { items = Items (item.Column (codes "k") ∷ item.Column (codes "v") ∷ []); cond = Some great_cond; group = []; limit = Some 2 }
 
 great_read : option_and_then sentence_at (tokens_of great_text) ≡ Some great_sentence
-unfolding great_text tokens_from token_at number_of more item_at sentence_at unit_at atom_at joins positive_of
+unfolding great_text tokens_from token_at number_of more item_at sentence_at unit_at atom_at joins wide_number_of
 great_read = refl
 
 -- ---- their conditions
 
-u32_value : (n : ℕ) → value_of (UInt W32) (number n) ≡ Some (Num (pos n))
-u32_value n = simp (outs-UInt W32)
+u32_value : value_of (UInt W32) (number 30) ≡ Some (Num (pos 30))
+u32_value = simp (outs-UInt W32)
 
-u64_value : (n : ℕ) → value_of (UInt W64) (number n) ≡ Some (Num (pos n))
-u64_value n = simp (outs-UInt W64)
+u64_value : value_of (UInt W64) (number 900) ≡ Some (Num (pos 900))
+u64_value = simp (outs-UInt W64)
 
 -- a comparison is one level
 comparison_is : (name : List ℕ) (op : Op) (given : Literal) → cond_of trial_columns (Cmp name op given) ≡ comparison_of trial_columns name op given

@@ -8,19 +8,21 @@ use Rattle.mt_types.specs.declared.ty.Agg.TheVariants as agg
 use Rattle.mt_types.specs.declared.ty.Width.TheVariants.{W32, W64}
 use Rattle.mt_types.specs.NameReading.{type_named}
 use Rattle.mt_tokens.specs.Lexis.{token_at}
-use Rattle.mt_syntax.specs.declared.tree.Element.{Element}
-use Rattle.mt_syntax.specs.declared.tree.Element.TheVariants as element
-use Rattle.mt_syntax.specs.declared.tree.IndexKind.TheVariants.{Minmax}
-use Rattle.mt_syntax.specs.declared.tree.Selected.TheVariants.{Items}
-use Rattle.mt_syntax.specs.declared.tree.Selection.TheVariants as item
+use Rattle.mt_element_syntax.specs.declared.tree.Element.{Element}
+use Rattle.mt_element_syntax.specs.declared.tree.Element.TheVariants as element
+use Rattle.mt_element_syntax.specs.declared.tree.IndexKind.TheVariants.{Minmax}
+use Rattle.mt_phrases.specs.declared.selection.Selected.TheVariants.{Items}
+use Rattle.mt_phrases.specs.declared.selection.Selection.TheVariants as item
 use Rattle.mt_syntax.specs.declared.tree.PartitionText.TheVariants.{Month}
 use Rattle.mt_syntax.specs.declared.tree.TableText.{TableText}
-use Rattle.mt_syntax.specs.declared.tree.TypeText.{TypeText}
-use Rattle.mt_syntax.specs.Readers.{more}
+use Rattle.mt_element_syntax.specs.declared.tree.TypeText.{TypeText}
+use Rattle.mt_phrases.specs.Readers.{more}
 use Rattle.mt_tokens.specs.Numbers.{number_of}
 use Rattle.std.proofs.lemmas.List.{append-nil}
 use Rattle.mt_table.specs.ColumnTypes.{is_state_at}
-use Rattle.mt_syntax.specs.Reading.{sentence_at, type_at, column_at, index_at, item_at, projection_at, element_at, expression_at, clause_at, more_clauses, engine_at, body_at, rest_at}
+use Rattle.mt_syntax.specs.Reading.{sentence_at, expression_at, clause_at, more_clauses, engine_at, body_at, rest_at}
+use Rattle.mt_element_syntax.specs.Reading.{type_at, column_at, index_at, projection_at, element_at}
+use Rattle.mt_phrases.specs.Selections.{item_at}
 use Rattle.mt_table_text.specs.Sentence.{columns_of}
 use Rattle.mt_table_text.specs.TypeTexts.{column_type_of, column_type_if}
 use Rattle.mt_table_text.specs.TextReading.{tokens_of, tokens_from}

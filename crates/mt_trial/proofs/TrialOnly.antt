@@ -1,7 +1,7 @@
 -- A trial has one outcome: its text.
 use Rattle.std.proofs.Common.{◌≡◌, ℕ, false, List, [], ◌∷◌, map, refl, ap, subst, sym, Ok}
 use Rattle.std.specs.Prelude.{codes}
-use Rattle.mt_shelf.specs.declared.file.FileBytes.{FileBytes}
+use Rattle.mt_fault.specs.declared.file.FileBytes.{FileBytes}
 use Rattle.mt_shelf.specs.Files.{Files, stands}
 use Rattle.mt_shelf.specs.Held.{files_in, pair_of}
 use Rattle.mt_defs.specs.Rows.{Row}

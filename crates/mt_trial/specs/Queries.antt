@@ -2,7 +2,7 @@
 use Rattle.std.specs.Prelude.{ℕ, pos, List, [], ◌∷◌, codes, Some, None}
 use Rattle.mt_types.specs.declared.ty.Agg.TheVariants.{Sum, Min, Max}
 use Rattle.mt_types.specs.declared.value.Value.TheVariants.{Num}
-use Rattle.mt_query_syntax.specs.declared.op.Op.TheVariants.{Lt, Ge}
+use Rattle.mt_cond_syntax.specs.declared.op.Op.TheVariants.{Lt, Ge}
 use Rattle.mt_query.specs.declared.cond.Cond.TheVariants.{Cmp}
 use Rattle.mt_query.specs.declared.query.Item.TheVariants.{Column, Count, Of}
 use Rattle.mt_query.specs.declared.query.Query.{Query}

@@ -1,7 +1,7 @@
 -- The steps of `trial`: two parts are written, merged, checked and asked, docs/CLI.md. A law says what they come to.
 use Rattle.std.specs.Prelude.{ℕ, List, [], ◌∷◌, ◌++◌, map, codes, Result, Ok}
 use Rattle.mt_table.specs.declared.definition.Table.{Table}
-use Rattle.mt_shelf.specs.declared.file.FileBytes.{FileBytes}
+use Rattle.mt_fault.specs.declared.file.FileBytes.{FileBytes}
 use Rattle.mt_shelf.specs.Files.{Files, gained_files}
 use Rattle.mt_shelf.specs.Held.{files_in, pair_of}
 use Rattle.mt_fold.specs.Answer.{answer_text}

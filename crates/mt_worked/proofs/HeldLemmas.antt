@@ -1,14 +1,13 @@
 -- What rows must be, for which a folder of the worked example's table stands.
-use Rattle.std.proofs.Common.{◌≡◌, ◌⊎◌, ℕ, zero, suc, ◌+◌, ◌-◌, true, false, List, [], ◌∷◌, ◌++◌, length, map, take, drop, get_or, refl, ap, sym, ◌∙◌, subst, arith, lit<, inl, inr}
-use Rattle.std.specs.Prelude.{All, IsTrue, Option, Some, None, is_some, Contains, codes, sum}
-use Rattle.std.specs.List.{flat_map, concat, enumerate_from, range_with_len}
-use Rattle.std.specs.List.Sorted.{IsPermutation, IsSorted}
+use Rattle.std.proofs.Common.{◌≡◌, ℕ, zero, suc, ◌+◌, ◌-◌, ◌<◌, ◌≤◌, true, false, List, [], ◌∷◌, ◌++◌, length, map, take, drop, get_or, refl, ap, sym, ◌∙◌, subst, arith, lit<, inl, inr}
+use Rattle.std.specs.Prelude.{All, IsTrue, Option, Some, None, is_some, codes, sum}
+use Rattle.std.specs.List.{flat_map, concat, enumerate_from}
+use Rattle.std.specs.List.Sorted.{IsSorted}
 use Rattle.std.specs.Fmt.{digits}
 use Rattle.std.proofs.lemmas.Option.{same_Some}
 use Rattle.std.proofs.lemmas.List.{take-append-drop, map-append, length-map, length-drop}
 use Rattle.std.proofs.lemmas.List.Concat.{flat_map-append}
-use Rattle.std.proofs.lemmas.List.Elements.{All-head, All-weaker}
-use Rattle.std.proofs.lemmas.List.Sorted.{length_permutation, Contains-permutation}
+use Rattle.std.proofs.lemmas.List.Elements.{All-head, All-tail, All-weaker}
 use Rattle.std.proofs.lemmas.List.Sums.{sum_by-cons}
 use Rattle.mt_types.specs.declared.ty.Ty.TheVariants.{UInt}
 use Rattle.mt_types.specs.declared.ty.Width.TheVariants.{W64}
@@ -17,6 +16,7 @@ use Rattle.mt_types.specs.declared.value.Value.TheVariants.{Null}
 use Rattle.mt_types.specs.Fits.{fits_of}
 use Rattle.mt_types.specs.Items.{item_bytes}
 use Rattle.mt_table.specs.declared.column.Column.{Column}
+use Rattle.mt_table.specs.Names.{places_differ}
 use Rattle.mt_defs.specs.Lists.{Pointwise}
 use Rattle.mt_defs.specs.Folder.{Folder}
 use Rattle.mt_defs.specs.Rows.{Row, RowFits, cell, column_values, key_of, key_cmp}
@@ -30,8 +30,9 @@ use Rattle.mt_defs.specs.Compact.{compact_marks_name}
 use Rattle.mt_defs.specs.Metadata.{column_at, columns_name, columns_text}
 use Rattle.mt_defs.specs.PrimaryIndex.{index_name, primary_index_of}
 use Rattle.mt_defs.specs.Projections.{base_of}
-use Rattle.mt_defs.specs.Part.{StandsFor, HasColumns}
+use Rattle.mt_defs.specs.Part.{StandsFor, StandsForIn, HasColumns}
 use Rattle.mt_defs.specs.WorkedExample.{table, u64_column}
+use Rattle.mt_defs.proofs.ListedColumns.{listed, listed_few}
 use Rattle.mt_defs.proofs.Numbers.{stream_suffixes_UInt}
 use Rattle.mt_worked.specs.NumberColumns.{HasNumbers}
 use Rattle.mt_law_written.proofs.ListLemmas.{Pointwise-get_or}
@@ -48,40 +49,41 @@ example_columns_text = codes "columns format version: 1\n2 columns:\n`k` UInt64\
 abbrev text_in : List ℕ → List ℕ
 text_in order = columns_text (map (column_at table.columns) order)
 
--- where an element stands among two
-among_two : (a b x : ℕ) → Contains (a ∷ b ∷ []) x → (a ≡ x) ⊎ (b ≡ x)
-among_two a b x (zero, inside, is) = inl is
-among_two a b x (suc zero, inside, is) = inr is
-among_two a b x (suc (suc k), inside, is) = absurd (omega (arith, inside))
+none_text : text_in [] ≡ example_columns_text → ⊥
+unfolding digits
+none_text e = let bad : 48 ≡ 50 = ap (λ bytes. get_or bytes 26 0) e in omega (arith, bad)
+
+one_text : (a : ℕ) → text_in (a ∷ []) ≡ example_columns_text → ⊥
+unfolding digits
+one_text a e = let bad : 49 ≡ 50 = ap (λ bytes. get_or bytes 26 0) e in omega (arith, bad)
 
 turned_text : text_in (1 ∷ 0 ∷ []) ≡ example_columns_text → ⊥
 unfolding digits
 turned_text e = let bad : 118 ≡ 107 = ap (λ bytes. get_or bytes 38 0) e in omega (arith, bad)
 
-order_of : (order : List ℕ) → Contains order 0 → Contains order 1 → length order ≡ 2 → text_in order ≡ example_columns_text → order ≡ 0 ∷ 1 ∷ []
-order_of [] has_zero has_one two e = absurd (omega (arith, two))
-order_of (a ∷ []) has_zero has_one two e = absurd (omega (arith, two))
-order_of (a ∷ b ∷ []) has_zero has_one two e =
-    elim (among_two a b 0 has_zero) [
-      | inl a_zero ↦
-          elim (among_two a b 1 has_one) [
-            | inl a_one ↦ absurd (omega (arith, a_zero, a_one))
-            | inr b_one ↦ ap (λ x. x ∷ b ∷ []) a_zero ∙ ap (λ x. 0 ∷ x ∷ []) b_one
-          ]
-      | inr b_zero ↦
-          elim (among_two a b 1 has_one) [
-            | inl a_one ↦
-                let is : a ∷ b ∷ [] ≡ 1 ∷ 0 ∷ [] = ap (λ x. x ∷ b ∷ []) a_one ∙ ap (λ x. 1 ∷ x ∷ []) b_zero in
-                absurd (turned_text (ap text_in (sym is) ∙ e))
-            | inr b_one ↦ absurd (omega (arith, b_zero, b_one))
-          ]
-    ]
-order_of (a ∷ b ∷ c ∷ order) has_zero has_one two e = absurd (omega (arith, two))
+-- two different columns of two
+both_listed : (a b : ℕ) → a < 2 → b < 2 → places_differ (a ∷ b ∷ []) ≡ true → text_in (a ∷ b ∷ []) ≡ example_columns_text → a ∷ b ∷ [] ≡ 0 ∷ 1 ∷ []
+both_listed zero zero in_a in_b differ e = cc
+both_listed zero (suc zero) in_a in_b differ e = refl
+both_listed zero (suc (suc b)) in_a in_b differ e = absurd (omega (arith, in_b))
+both_listed (suc zero) zero in_a in_b differ e = absurd (turned_text e)
+both_listed (suc zero) (suc zero) in_a in_b differ e = cc
+both_listed (suc zero) (suc (suc b)) in_a in_b differ e = absurd (omega (arith, in_b))
+both_listed (suc (suc a)) b in_a in_b differ e = absurd (omega (arith, in_a))
 
-in_order : (order : List ℕ) → IsPermutation (range_with_len 0 2) order → text_in order ≡ example_columns_text → order ≡ 0 ∷ 1 ∷ []
-in_order order once e =
-    order_of order (Contains-permutation (0 ∷ 1 ∷ []) order 0 once (0, lit< tt, refl)) (Contains-permutation (0 ∷ 1 ∷ []) order 1 once (1, lit< tt, refl))
-    (length_permutation (0 ∷ 1 ∷ []) order once) e
+listed_both : (order : List ℕ) → All (λ i. i < 2) order → places_differ order ≡ true → length order ≤ 2 → text_in order ≡ example_columns_text → order ≡ 0 ∷ 1 ∷ []
+listed_both [] known differ few e = absurd (none_text e)
+listed_both (a ∷ []) known differ few e = absurd (one_text a e)
+listed_both (a ∷ b ∷ []) known differ few e = both_listed a b (All-head (λ i. i < 2) a (b ∷ []) known) (All-head (λ i. i < 2) b [] (All-tail (λ i. i < 2) a (b ∷ []) known)) differ e
+listed_both (a ∷ b ∷ c ∷ order) known differ few e = absurd (omega (arith, few))
+
+-- a folder with the example's columns.txt lists both columns
+pub both_columns : (folder : Folder) (rows : List Row) (granules : List ℕ) → folder columns_name ≡ Some example_columns_text → (stands : StandsForIn table folder rows granules) → stands.holds.order ≡ 0 ∷ 1 ∷ []
+both_columns folder rows granules text stands =
+    let order = stands.holds.order in
+    let must = (base_of table).must in
+    let is = listed table.columns must order stands.holds.metadata.listed in
+    listed_both order is.known is.once (listed_few table.columns must order stands.holds.metadata.listed) (same_Some (text_in order) example_columns_text (sym stands.holds.metadata.lists_columns ∙ text))
 
 -- ---- what the folder says
 
@@ -102,8 +104,7 @@ wide_of columns rows granules folder none (inr wide) = wide.1
 
 pub held : (folder : Folder) (rows : List Row) → folder columns_name ≡ Some example_columns_text → folder compact_marks_name ≡ None → StandsFor table folder rows → Held folder rows
 held folder rows text none (granules, stands) =
-    let order = stands.holds.order in
-    let is : order ≡ 0 ∷ 1 ∷ [] = in_order order stands.holds.metadata.each_once (same_Some (text_in order) example_columns_text (sym stands.holds.metadata.lists_columns ∙ text)) in
+    let is : stands.holds.order ≡ 0 ∷ 1 ∷ [] = both_columns folder rows granules text stands in
     let fit : All (RowFits table.columns) rows = stands.holds.part_rows.fit in
     let there : HasColumns (map (column_at table.columns) (0 ∷ 1 ∷ [])) (map (key_of (0 ∷ 1 ∷ [])) rows) granules folder =
     subst (λ o. HasColumns (map (column_at table.columns) o) (map (key_of o) rows) granules folder) is stands.holds.columns in

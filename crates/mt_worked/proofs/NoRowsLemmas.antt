@@ -28,7 +28,7 @@ use Rattle.mt_defs.specs.Marks.{MarksPosition, marks_bytes, granule_starts}
 use Rattle.mt_defs.specs.Metadata.{columns_name, count_name}
 use Rattle.mt_defs.specs.PrimaryIndex.{index_name, key_bytes, primary_index_of}
 use Rattle.mt_defs.specs.Projections.{base_of}
-use Rattle.mt_defs.specs.Part.{StandsFor, side_names}
+use Rattle.mt_defs.specs.Part.{StandsFor, known_names, side_names}
 use Rattle.mt_defs.specs.WorkedExample.{table, u64_column, eight, data_of, seven_files}
 use Rattle.mt_defs.specs.WorkedExample as example
 use Rattle.mt_defs.proofs.Examples.{value_order}
@@ -41,7 +41,7 @@ use Rattle.mt_worked.specs.WrongFolders.{with_stray_file, with_short_index, with
 use Rattle.mt_worked.proofs.ItemLemmas.{number_fits, fitting_is_number, number_item}
 use Rattle.mt_worked.proofs.NumberLemmas.{items_length}
 use Rattle.mt_law_written.proofs.LookupLemmas.{same_name}
-use Rattle.mt_worked.proofs.HeldLemmas.{Held, held, HeldColumn, held_column, key_stream, key_name}
+use Rattle.mt_worked.proofs.HeldLemmas.{Held, held, HeldColumn, held_column, both_columns, key_stream, key_name}
 
 -- ---- a stray file
 
@@ -64,7 +64,9 @@ names_with some others = (columns_name ∷ count_name ∷ index_name ∷ ((strea
 pub stray : (bytes : List ℕ) (rows : List Row) → StandsFor table (folder_of (with_stray_file bytes)) rows → ⊥
 stray bytes rows stands =
     let P : List (List ℕ) → List (List ℕ) → Type 0 = λ some others. Contains (names_with some others) (codes "k.bak") in
-    let known : P (stream_names (u64_column key_name)) (stream_names (u64_column (codes "v"))) = stands.1.known (codes "k.bak") refl in
+    let folder : Folder = folder_of (with_stray_file bytes) in
+    let known : P (stream_names (u64_column key_name)) (stream_names (u64_column (codes "v"))) =
+    subst (λ order. Contains (known_names table order folder) (codes "k.bak")) (both_columns folder rows stands.0 refl stands.1) (stands.1.known (codes "k.bak") refl) in
     let listed : P (key_name ∷ []) (codes "v" ∷ []) = subst (P (key_name ∷ [])) value_stream (subst (λ names. P names (stream_names (u64_column (codes "v")))) key_stream known) in
     not_among (names_with (key_name ∷ []) (codes "v" ∷ [])) (codes "k.bak") refl listed
 
@@ -199,8 +201,8 @@ record Key (row : Row) : Type 0 where
 
 key_in : (row : Row) → IsTrue (fits_of (UInt W64) (cell row 0)) → Key row
 key_in row fits =
-    let number = fitting_is_number W64 (cell row 0) fits in
-    let natural = number_fits W64 (cell row 0) number.0 number.1 fits in
+    let number = fitting_is_number (cell row 0) fits in
+    let natural = number_fits (cell row 0) number.0 number.1 fits in
     let is : cell row 0 ≡ Num (pos natural.natural) = number.1 ∙ ap Num natural.is in
     record { number = natural.natural; is = is; small = natural.fits_u64; item = number_item W64 (cell row 0) natural.natural is }
 

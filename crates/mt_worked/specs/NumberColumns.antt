@@ -2,16 +2,8 @@
 use Rattle.std.specs.Prelude.{ℕ, List, All, IsTrue}
 use Rattle.mt_types.specs.declared.ty.Ty.TheVariants.{UInt}
 use Rattle.mt_types.specs.declared.ty.Width.{Width}
-use Rattle.mt_types.specs.declared.ty.Width.TheVariants.{W8, W16, W32, W64}
 use Rattle.mt_types.specs.Fits.{fits_of}
 use Rattle.mt_defs.specs.Rows.{Row, cell}
-
--- the bytes of an item
-abbrev pub item_size : Width → ℕ
-item_size W8 = 1
-item_size W16 = 2
-item_size W32 = 4
-item_size W64 = 8
 
 -- each row has a number of this width in a column
 abbrev pub HasNumbers : Width → ℕ → List Row → Type 0

@@ -1,6 +1,6 @@
 -- Folders that differ from the worked example's in one thing, and stand for no rows.
 use Rattle.std.specs.Prelude.{ℕ, List, [], ◌∷◌, ◌++◌, codes, replicate, drop}
-use Rattle.mt_shelf.specs.declared.file.FileBytes.{FileBytes}
+use Rattle.mt_fault.specs.declared.file.FileBytes.{FileBytes}
 use Rattle.mt_defs.specs.WrittenColumns.{file}
 use Rattle.mt_defs.specs.WorkedExample.{eight, mark_entry, data_of, marks, seven_files}
 

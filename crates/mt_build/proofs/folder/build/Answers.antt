@@ -1,6 +1,6 @@
 use Rattle.std.proofs.Common.{◌≡◌, List, ap, sym, subst, ◌∙◌}
 use Rattle.std.specs.Prelude.{IfOk}
-use Rattle.mt_shelf.specs.declared.file.FileBytes.{FileBytes}
+use Rattle.mt_fault.specs.declared.file.FileBytes.{FileBytes}
 use Rattle.mt_defs.specs.Granules.{AreGranules}
 use Rattle.mt_defs.specs.WrittenGranules.{is_small, written_granules}
 use Rattle.mt_build.specs.Definitions.{IsDefinition}

@@ -1,8 +1,6 @@
-use Rattle.std.proofs.Common.{◌++◌, sym, subst, ap, ◌∙◌, map, length}
-use Rattle.std.specs.Prelude.{codes}
+use Rattle.std.proofs.Common.{sym, subst, ap, ◌∙◌, map, length}
 use Rattle.std.specs.List.{concat, flat_map}
 use Rattle.mt_granules.specs.declared.data_file.DataFile.{DataFile}
-use Rattle.mt_defs.specs.FileNames.{file_name}
 use Rattle.mt_defs.specs.Granules.{AreGranules}
 use Rattle.mt_defs.specs.Lists.{offsets_from}
 use Rattle.mt_defs.specs.WrittenFrames.{mark_at, written_frames}
@@ -27,7 +25,6 @@ returns c =
     (c.in_ok-entries.ensures ∙ ap (written_entries table skip rows) c.as_slice.ensures)
     (ap (λ (f : DataFile). f.bytes) c.in_ok-bytes.ensures ∙ ap (λ es. concat (map written_frames es)) c.as_slice-2.ensures)
     (ap (λ (f : DataFile). f.marks) c.in_ok-bytes.ensures ∙ ap (λ es. map mark_at (offsets_from 0 (map length (map written_frames es)))) c.as_slice-2.ensures)
-    (c.in_ok-name.ensures ∙ ap (λ name. codes "skp_idx_" ++ file_name name ++ c.data_ending.result.now) c.as_slice-3.ensures ∙ ap (λ ending. codes "skp_idx_" ++ file_name skip.name ++ ending) c.data_ending.ensures)
-    (c.in_ok-name-2.ensures ∙ ap (λ name. codes "skp_idx_" ++ file_name name ++ c.marks_ending.result.now) c.as_slice-4.ensures ∙ ap (λ ending. codes "skp_idx_" ++ file_name skip.name ++ ending) c.marks_ending.ensures)
-    (c.in_ok-bytes-2.ensures ∙ ap (flat_map passed_mark) c.as_slice-5.ensures)
+    c.in_ok-name.ensures c.in_ok-name-2.ensures
+    (c.in_ok-bytes-2.ensures ∙ ap (flat_map passed_mark) c.as_slice-3.ensures)
     c.in_ok-push.ensures.items c.in_ok-push-2.ensures.items

@@ -1,6 +1,6 @@
 use Rattle.std.proofs.Common.{◌≡◌, List, subst}
 use Rattle.std.specs.Prelude.{OnOk}
-use Rattle.mt_shelf.specs.declared.file.FileBytes.{FileBytes}
+use Rattle.mt_fault.specs.declared.file.FileBytes.{FileBytes}
 use Rattle.mt_plain.proofs.FolderLemmas.{texts_are}
 use Rattle.mt_plain.proofs.IndexLemmas.{key_numbers}
 use Rattle.mt_plain.proofs.folder.append_texts.Goals as goal

@@ -1,8 +1,7 @@
-use Rattle.std.proofs.Common.{◌≡◌, ◌++◌, take}
-use Rattle.std.specs.List.{flat_map}
-use Rattle.mt_show.specs.Text.{skip_line}
+use Rattle.std.proofs.Common.{◌≡◌, ◌++◌, drop}
+use Rattle.mt_show.specs.Text.{pair_lines, skip_line}
 use Rattle.mt_show.proofs.stored.append_skips.Given as goal
 
--- the lines so far
-abbrev pub invariant-loop-skip : goal.invariant-loop-skip
-invariant-loop-skip l = l.out ≡ l.initial.out ++ flat_map skip_line (take l.skip-index l.skips)
+-- the lines so far and of what is left
+abbrev pub invariant-loop-place : goal.invariant-loop-place
+invariant-loop-place l = l.out ++ pair_lines skip_line (drop l.place l.skips) (drop l.place l.there) ≡ l.initial.out ++ pair_lines skip_line l.skips l.there
