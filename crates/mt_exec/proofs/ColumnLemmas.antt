@@ -7,7 +7,7 @@ use Rattle.mt_query.specs.declared.cond.Cond.TheFolds.{fold-roll-Cond, ind-Cond}
 use Rattle.mt_query.specs.declared.query.Item.{Item}
 use Rattle.mt_query.specs.declared.query.Item.TheVariants.{Column, Count, Of}
 use Rattle.mt_query.specs.declared.query.Query.{Query}
-use Rattle.mt_fold.specs.Columns.{columns_step, cond_passes, given_cond_passes, item_passes, query_passes}
+use Rattle.mt_query.specs.Named.{columns_step, cond_passes, given_cond_passes, item_passes, query_passes}
 
 -- a test that every column passes
 abbrev any : ℕ → Bool

@@ -27,7 +27,7 @@ use Rattle.mt_query.specs.declared.cond.Cond.{Cond}
 use Rattle.mt_query.specs.declared.query.Item.{Item}
 use Rattle.mt_query.specs.declared.query.Item.TheVariants as item
 use Rattle.mt_query.specs.declared.query.Query.{Query}
-use Rattle.mt_fold.specs.Truth.{Truth, truth_of}
+use Rattle.mt_query.specs.Truth.{Truth, truth_of}
 
 -- ---- which rows
 

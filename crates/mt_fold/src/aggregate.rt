@@ -5,7 +5,7 @@ ghost use Rattle.mt_types.specs.declared.value.Value.{out-Value};
 ghost use Rattle.mt_defs.specs.Folds as folds;
 ghost use Rattle.mt_look.specs.Seen.{row_at, value_seen};
 ghost use Rattle.mt_fold.specs.Answer as answer;
-ghost use Rattle.mt_fold.specs.Columns.{item_passes};
+ghost use Rattle.mt_query.specs.Named.{item_passes};
 ghost use Rattle.mt_fold.specs.Steps.{aggregate_item, option_list};
 
 use mt_look::{Look, Seen};

@@ -3,8 +3,8 @@
 ghost use Rattle.std.specs.Prelude.{◌≡◌, ◌<◌, length, IsTrue};
 ghost use Rattle.mt_look.specs.Seen.{row_at};
 ghost use Rattle.mt_fold.specs.Answer as answer;
-ghost use Rattle.mt_fold.specs.Columns.{cond_passes, given_cond_passes};
-ghost use Rattle.mt_fold.specs.Truth.{and3, not3, or3, truth_of};
+ghost use Rattle.mt_query.specs.Named.{cond_passes, given_cond_passes};
+ghost use Rattle.mt_query.specs.Truth.{and3, not3, or3, truth_of};
 
 use crate::value::{compared, has, null_is, one_of, starts};
 use mt_look::Look;

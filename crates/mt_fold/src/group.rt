@@ -7,7 +7,7 @@ ghost use Rattle.mt_types.specs.declared.value.Value.{Value};
 ghost use Rattle.mt_defs.specs.Projections.{is_same_key};
 ghost use Rattle.mt_look.specs.Seen.{row_at};
 ghost use Rattle.mt_fold.specs.Answer.{aggregates};
-ghost use Rattle.mt_fold.specs.Columns.{item_passes};
+ghost use Rattle.mt_query.specs.Named.{item_passes};
 ghost use Rattle.mt_fold.specs.Gathered.{folds_of};
 ghost use Rattle.mt_fold.specs.Steps.{each_with};
 

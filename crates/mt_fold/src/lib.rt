@@ -13,7 +13,9 @@ mod row;
 mod state;
 mod value;
 
-pub use aggregate::is_grouped;
+pub use aggregate::{aggregate_of, is_grouped};
 pub use condition::{keeps, truth};
 pub use item::item_columns;
 pub use partial::Partial;
+pub use row::key_of;
+pub use state::empty_states;

@@ -4,7 +4,7 @@ ghost use Rattle.std.specs.Prelude.{◌≡◌, ◌<◌, [], ◌∷◌, ◌++◌,
 ghost use Rattle.mt_defs.specs.Rows as defined;
 ghost use Rattle.mt_look.specs.Seen.{row_at};
 ghost use Rattle.mt_fold.specs.Answer.{answer_rows, answer_text};
-ghost use Rattle.mt_fold.specs.Columns.{query_passes};
+ghost use Rattle.mt_query.specs.Named.{query_passes};
 ghost use Rattle.mt_fold.specs.Gathered.{Gathers, Suits};
 
 use crate::aggregate::{is_grouped, is_one_group};

@@ -6,7 +6,7 @@ ghost use Rattle.mt_table.specs.Stored as stored;
 ghost use Rattle.mt_defs.specs.Rows as rows;
 ghost use Rattle.mt_look.specs.Seen.{row_at};
 ghost use Rattle.mt_fold.specs.Answer as answer;
-ghost use Rattle.mt_fold.specs.Columns.{item_passes};
+ghost use Rattle.mt_query.specs.Named.{item_passes};
 ghost use Rattle.mt_fold.specs.Steps as steps;
 
 use crate::item::state_value;

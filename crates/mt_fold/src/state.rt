@@ -4,7 +4,7 @@ ghost use Rattle.std.specs.Prelude.{◌≡◌, ◌<◌, [], length, IsTrue, IfOk
 ghost use Rattle.std.specs.List.{list_all};
 ghost use Rattle.mt_look.specs.Seen.{row_at};
 ghost use Rattle.mt_fold.specs.Answer.{aggregates};
-ghost use Rattle.mt_fold.specs.Columns.{item_passes};
+ghost use Rattle.mt_query.specs.Named.{item_passes};
 ghost use Rattle.mt_fold.specs.Gathered.{folds_of};
 ghost use Rattle.mt_fold.specs.Steps.{each_with};
 

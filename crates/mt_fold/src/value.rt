@@ -6,7 +6,7 @@ ghost use Rattle.mt_types.specs.declared.value.Value.{out-Value};
 ghost use Rattle.mt_types.specs.Fits.{null_at, text_at, list_at};
 ghost use Rattle.mt_types.specs.Order.{value_cmp};
 ghost use Rattle.mt_look.specs.Seen.{value_seen};
-ghost use Rattle.mt_fold.specs.Truth.{begins_with, holds, is_same, null_is, unless_null};
+ghost use Rattle.mt_query.specs.Truth.{begins_with, holds, is_same, null_is, unless_null};
 
 use mt_look::Seen;
 use mt_query::Op;
@@ -44,10 +44,11 @@ fn compare_seen(seen: Seen, literal: &Value) -> Ordering
     match seen {
         Seen::Num(m) => match literal {
             Value::Num(n) => m.cmp(n),
-            _ => Ordering::Less,
+            _ => compare(&Value::Num(m), literal),
         },
+        Seen::Huge(m) => compare(&Value::Huge(m), literal),
         Seen::Text(a) => match literal {
-            Value::Num(_) => Ordering::Greater,
+            Value::Num(_) | Value::Huge(_) => Ordering::Greater,
             Value::Text(b) => a.cmp(b.as_slice()),
             _ => Ordering::Less,
         },
@@ -106,7 +107,7 @@ pub fn starts(seen: Seen, prefix: &[u8]) -> Option<bool>
         (text_at (begins_with prefix.now) (out-Value (value_seen seen.entry))) }
 {
     match seen {
-        Seen::Num(_) => Some(false),
+        Seen::Num(_) | Seen::Huge(_) => Some(false),
         Seen::Text(bytes) => Some(begins_with(prefix, bytes)),
         Seen::Null => None,
         Seen::Held(value) => match value {

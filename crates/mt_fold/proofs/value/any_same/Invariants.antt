@@ -1,6 +1,6 @@
 use Rattle.std.proofs.Common.{◌≡◌, drop}
 use Rattle.std.specs.List.{list_any}
-use Rattle.mt_fold.specs.Truth.{is_same}
+use Rattle.mt_query.specs.Truth.{is_same}
 use Rattle.mt_fold.proofs.value.any_same.Given as goal
 
 -- what is left decides

@@ -1,7 +1,7 @@
 use Rattle.std.proofs.Common.{◌≡◌, drop}
 use Rattle.std.specs.List.{list_any}
 use Rattle.mt_look.specs.Seen.{value_seen}
-use Rattle.mt_fold.specs.Truth.{is_same}
+use Rattle.mt_query.specs.Truth.{is_same}
 use Rattle.mt_fold.proofs.value.one_of.Given as goal
 
 -- what is left decides

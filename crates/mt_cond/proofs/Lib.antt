@@ -1,0 +1,9 @@
+pub mod LevelLemmas
+pub mod OrderLemmas
+pub mod PrefixLemmas
+pub mod SuitedLemmas
+pub mod SoundLemmas
+pub mod KeyLemmas
+pub mod WalkLemmas
+pub mod HoldLemmas
+pub mod BoxLemmas

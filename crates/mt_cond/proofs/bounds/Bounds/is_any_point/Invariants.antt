@@ -1,0 +1,9 @@
+use Rattle.std.proofs.Common.{◌≡◌, drop}
+use Rattle.std.specs.List.{list_any}
+use Rattle.mt_cond.specs.Intervals.{is_point}
+use Rattle.mt_cond.specs.Views.{interval_of}
+use Rattle.mt_cond.proofs.bounds.Bounds.is_any_point.Given as goal
+
+-- what is left decides
+abbrev pub invariant-loop-value : goal.invariant-loop-value
+invariant-loop-value l = list_any (is_point (interval_of l.self)) (drop l.value-index l.values) ≡ list_any (is_point (interval_of l.self)) l.values

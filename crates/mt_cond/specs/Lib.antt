@@ -1,0 +1,5 @@
+pub mod Intervals
+pub mod Masks
+pub mod Keys
+pub mod Cover
+pub mod Views
