@@ -1,0 +1,14 @@
+mod OnlyLemmas
+mod NeverLemmas
+mod KnownLemmas
+mod ReadLemmas
+mod RefusalLemmas
+mod InputLemmas
+mod KeptLemmas
+mod GainedLemmas
+mod WriteLemmas
+mod CanWriteLemmas
+mod MergeLemmas
+mod CanMergeLemmas
+mod DoneLemmas
+mod TableLemmas
