@@ -200,7 +200,7 @@ CUT = b"7777777777777777\x02\x0b\x00\x00\x00\x02\x00\x00\x00a"
 DEFINITIONS = [
     (WIDE, [("columns.txt", None)], [], "columns.txt: Missing"),
     (WIDE, [("columns.txt", b"`k` UInt32\n")], [], "columns.txt: Syntax"),
-    (WIDE, [("columns.txt", b"columns format version: 1\n1 columns:\n`k` UInt32\n")], [], "columns.txt: Columns"),
+    (WIDE, [("columns.txt", b"columns format version: 1\n1 columns:\n`s` String\n")], [], "columns.txt: Columns"),
     (WIDE, [("count.txt", None)], [], "count.txt: Missing"),
     (WIDE, [("count.txt", b"03")], [], "count.txt: Syntax"),
     (WIDE, [("count.txt", b"4194305")], [], "count.txt: TooLong"),
@@ -306,10 +306,10 @@ SIDE_FILES = [
     (PROJECTED, ["p.proj/ttl.txt"], "1\t18446744073709551615\n1\t2\n"),
 ]
 
-# Texts of columns.txt that have the form, and other columns than `k` UInt32 and `s` String.
+# Texts of columns.txt that have the form, and columns that a part of `k` UInt32 and `s` String, ordered by `k`, can't list.
 OTHER_COLUMNS = [
     "columns format version: 1\n0 columns:\n",
-    "columns format version: 1\n1 columns:\n`k` UInt32\n",
+    "columns format version: 1\n1 columns:\n`s` String\n",
     "columns format version: 1\n2 columns:\n`k` UInt32\n`k` UInt32\n",
     "columns format version: 1\n2 columns:\n`k` UInt32\n`s` FixedString(1)\n",
     "columns format version: 1\n2 columns:\n`k` UInt32\n`S` String\n",

@@ -23,12 +23,35 @@ LINES = [
         "[[],['a','\\'b']]\t['2024-02-29']\n",
         "[[],['a\\0','\\'b']]\t['2024-02-29']\n",
     ),
+    (
+        ["UInt128", "Int128"],
+        f"{2**127 - 1}\t{-(2**127)}\n{2**127}\t{2**127 - 1}\n{2**128 - 1}\t-1\n18446744073709551616\t{-(2**64)}\n",
+        f"{2**127 - 1}\t{-(2**127)}\n{2**127}\t{2**127 - 1}\n{2**128 - 1}\t-1\n18446744073709551616\t{-(2**64)}\n",
+    ),
+    (["UInt128", "Int128"], f"{'0' * 60}{2**128 - 1}\t-{'0' * 60}7\n-0\t-{'0' * 60}\n", f"{2**128 - 1}\t-7\n0\t0\n"),
+    (
+        ["DateTime('UTC')", "Nullable(DateTime('UTC'))"],
+        "1970-01-01 00:00:00\t\\N\n2106-02-07 06:28:15\t2024-02-29 23:59:59\n",
+        "1970-01-01 00:00:00\t\\N\n2106-02-07 06:28:15\t2024-02-29 23:59:59\n",
+    ),
+    (
+        ["Array(Nullable(UInt128))", "Array(DateTime('UTC'))"],
+        f"[ NULL , {2**128 - 1},0]\t[ '2024-02-29 23:59:59' ,'1970-01-01 00:00:00']\n[]\t[ ]\n",
+        f"[NULL,{2**128 - 1},0]\t['2024-02-29 23:59:59','1970-01-01 00:00:00']\n[]\t[]\n",
+    ),
+    (
+        ["Nullable(Int128)", "Array(Nullable(DateTime('UTC')))"],
+        f"\\N\t[NULL,'2106-02-07 06:28:15']\n{-(2**127)}\t[NULL]\n",
+        f"\\N\t[NULL,'2106-02-07 06:28:15']\n{-(2**127)}\t[NULL]\n",
+    ),
 ]
 
 PLAIN = ["UInt32", "String"]
 OTHERS = ["Date", "FixedString(2)"]
 FLAT = ["Array(UInt8)", "Array(String)"]
 DEEP = ["Array(Array(UInt8))", "Array(Date)"]
+WIDE = ["UInt128", "Int128"]
+MOMENTS = ["DateTime('UTC')", "Array(DateTime('UTC'))"]
 
 # The types of columns, lines, the first bad one and what is wrong with it first.
 REFUSED = [
@@ -90,6 +113,45 @@ REFUSED = [
     (DEEP, "[NULL]\t[]\n", 1, "Null"),
     (DEEP, "[]\t['2024-01-0\\q']\n", 1, "Date"),
     (DEEP, "[]\t[2024-01-01]\n", 1, "List"),
+    (WIDE, f"{2**128}\t0\n", 1, "Range"),
+    (WIDE, f"-1\tx\n", 1, "Range"),
+    (WIDE, f"0\t{2**127}\n", 1, "Range"),
+    (WIDE, f"0\t{-(2**127) - 1}\n", 1, "Range"),
+    (WIDE, f"{'9' * 60}\t{'9' * 60}\n", 1, "Range"),
+    (WIDE, f"0\t{'9' * 60}\n", 1, "Range"),
+    (WIDE, f"0\t-{2**128}\n", 1, "Range"),
+    (WIDE, f"{'9' * 60}x\t0\n", 1, "Number"),
+    (WIDE, f"{2**127}x\t0\n", 1, "Number"),
+    (WIDE, "+1\t0\n", 1, "Number"),
+    (WIDE, "\\N\t0\n", 1, "Null"),
+    (["UInt64", "Int64"], "18446744073709551616\t0\n", 1, "Range"),
+    (["UInt64", "Int64"], f"0\t{2**127}\n", 1, "Range"),
+    (["Array(UInt128)", "Array(Int128)"], f"[{2**128}]\t[]\n", 1, "Range"),
+    (["Array(UInt128)", "Array(Int128)"], f"[]\t['{2**64}']\n", 1, "Number"),
+    (MOMENTS, "2106-02-07 06:28:16\t[]\n", 1, "Date"),
+    (MOMENTS, "2106-02-08 00:00:00\t[]\n", 1, "Date"),
+    (MOMENTS, "2149-06-06 00:00:00\t[]\n", 1, "Date"),
+    (MOMENTS, "2149-06-07 00:00:00\t[]\n", 1, "Date"),
+    (MOMENTS, "1969-12-31 23:59:59\t[]\n", 1, "Date"),
+    (MOMENTS, "2024-02-30 00:00:00\t[]\n", 1, "Date"),
+    (MOMENTS, "2023-02-29 00:00:00\t[]\n", 1, "Date"),
+    (MOMENTS, "2016-12-31 23:59:60\t[]\n", 1, "Date"),
+    (MOMENTS, "2024-02-29 24:00:00\t[]\n", 1, "Date"),
+    (MOMENTS, "2024-02-29 23:60:00\t[]\n", 1, "Date"),
+    (MOMENTS, "2024-02-29T00:00:00\t[]\n", 1, "Date"),
+    (MOMENTS, "2024-02-29 0:00:00\t[]\n", 1, "Date"),
+    (MOMENTS, "2024-02-29 00:00\t[]\n", 1, "Date"),
+    (MOMENTS, "2024-02-29 00:00:00 \t[]\n", 1, "Date"),
+    (MOMENTS, "2024-02-29 00:00:00.0\t[]\n", 1, "Date"),
+    (MOMENTS, "2024-02-29\t[]\n", 1, "Date"),
+    (MOMENTS, "2024-02-2\t[]\n", 1, "Date"),
+    (MOMENTS, "\t[]\n", 1, "Date"),
+    (MOMENTS, "0\t[]\n", 1, "Date"),
+    (MOMENTS, "\\N\t[]\n", 1, "Null"),
+    (MOMENTS, "2024-02-29 00:00:00\t[2024-02-29 00:00:00]\n", 1, "List"),
+    (MOMENTS, "2024-02-29 00:00:00\t['2024-02-29 00:00:60']\n", 1, "Date"),
+    (MOMENTS, "2024-02-29 00:00:00\t[NULL]\n", 1, "Null"),
+    (["Date", "DateTime('UTC')"], "2024-02-29 00:00:00\t2024-02-29 00:00:00\n", 1, "Date"),
 ]
 
 # The bytes that are written with a backslash, and the letters after it.
@@ -101,18 +163,23 @@ ELEMENTS = [
     ("UInt16", "65535"),
     ("UInt32", "4294967295"),
     ("UInt64", "18446744073709551615"),
+    ("UInt128", "340282366920938463463374607431768211455"),
     ("Int8", "-128"),
     ("Int16", "-32768"),
     ("Int32", "-2147483648"),
     ("Int64", "-9223372036854775808"),
+    ("Int128", "-170141183460469231731687303715884105728"),
     ("FixedString(2)", "'a,'"),
     ("String", "'[\\'\\\\,\\n'"),
     ("Date", "'2024-02-29'"),
+    ("DateTime('UTC')", "'2024-02-29 23:59:59'"),
     ("Nullable(UInt64)", "NULL"),
+    ("Nullable(UInt128)", "170141183460469231731687303715884105728"),
     ("Nullable(Int8)", "127"),
     ("Nullable(String)", "'NULL'"),
     ("Nullable(FixedString(1))", "NULL"),
     ("Nullable(Date)", "NULL"),
+    ("Nullable(DateTime('UTC'))", "NULL"),
 ]
 
 
@@ -132,10 +199,40 @@ DAYS = [
     ("2149-06-06", 65535, 214906),
 ]
 
+# Dates and times, in seconds since 1970-01-01 00:00:00.
+SECONDS = [
+    ("1970-01-01 00:00:00", 0),
+    ("1970-01-01 23:59:59", 86399),
+    ("1970-01-02 00:00:00", 86400),
+    ("1972-06-30 23:59:59", 78796799),
+    ("2000-02-29 12:34:56", 951827696),
+    ("2016-12-31 23:59:59", 1483228799),
+    ("2017-01-01 00:00:00", 1483228800),
+    ("2038-01-19 03:14:07", 2147483647),
+    ("2038-01-19 03:14:08", 2147483648),
+    ("2100-03-01 00:00:00", 4107542400),
+    ("2106-02-07 00:00:00", 4294944000),
+    ("2106-02-07 06:28:15", 4294967295),
+]
+
 # The columns of a sort key and of a table, its lines, and the places of the lines in key order.
 SORTED = [
     ("k", "k UInt64", ["18446744073709551615", "5", "0", "18446744073709551614", "5", "9223372036854775808"], [2, 1, 4, 5, 3, 0]),
     ("k", "k Int64", ["0", "-1", "9223372036854775807", "-9223372036854775808", "1", "-1"], [3, 1, 5, 0, 4, 2]),
+    ("k", "k UInt128", [str(n) for n in (2**128 - 1, 5, 0, 2**127, 2**127 - 1, 5, 2**64)], [2, 1, 5, 6, 4, 3, 0]),
+    ("k", "k Int128", [str(n) for n in (0, -1, 2**127 - 1, -(2**127), 1, -1, -(2**64))], [3, 6, 1, 5, 0, 4, 2]),
+    (
+        "z, k",
+        "k UInt128, z DateTime('UTC')",
+        [
+            f"{2**128 - 1}\t2024-02-29 23:59:59",
+            f"{2**127}\t2024-02-29 23:59:59",
+            "7\t2106-02-07 06:28:15",
+            "7\t1970-01-01 00:00:00",
+            f"{2**127 - 1}\t2024-02-29 23:59:59",
+        ],
+        [3, 4, 1, 0, 2],
+    ),
     ("d", "d Date", ["2024-02-29", "1970-01-01", "2149-06-06", "2024-02-28"], [1, 3, 0, 2]),
     (
         "s",
@@ -228,6 +325,10 @@ def stories():
         files = {"p/minmax_c0.idx": day.to_bytes(2, "little") * 2, "p/partition.dat": u32(month)}
         steps = [Step(WRITE, f"0\t{date}\n", files=files), Step(ROWS, stdout=f"0\t{date}\n")]
         yield Story(date, table_of(["Date"], "PARTITION BY toYYYYMM(c0) ORDER BY key"), steps)
+    for moment, second in SECONDS:
+        files = {"p/minmax_c0.idx": u32(second) * 2, "p/partition.dat": u32(second)}
+        steps = [Step(WRITE, f"0\t{moment}\n", files=files), Step(ROWS, stdout=f"0\t{moment}\n")]
+        yield Story(moment, table_of(["DateTime('UTC')"], "PARTITION BY c0 ORDER BY key"), steps)
     for it in SORTED:
         yield sorted_lines(*it)
     for it in MERGED:

@@ -6,7 +6,7 @@ from calls import Step, Story, refused
 KINDS = (
     "CREATE TABLE t (k UInt32, s String, n Nullable(Int8), f FixedString(4), d Date, a "
     "Array(Nullable(String)), b Array(Array(UInt8)), nf Nullable(FixedString(2)), ad Array(Date), `order` "
-    "UInt64) ENGINE = MergeTree ORDER BY k"
+    "UInt64, w UInt128, i Nullable(Int128), e DateTime('UTC'), ae Array(DateTime('UTC'))) ENGINE = MergeTree ORDER BY k"
 )
 
 # Queries of it.
@@ -36,6 +36,13 @@ GOOD = [
     "SELECT k FROM t WHERE k = - 07 ORDER BY ALL",
     "SELECT k FROM t WHERE k = 170141183460469231731687303715884105727 ORDER BY ALL",
     "SELECT k FROM t WHERE n = -170141183460469231731687303715884105728 ORDER BY ALL",
+    "SELECT k FROM t WHERE k = 340282366920938463463374607431768211455 ORDER BY ALL",
+    "SELECT k FROM t WHERE w = 340282366920938463463374607431768211455 ORDER BY ALL",
+    "SELECT k FROM t WHERE i IN (170141183460469231731687303715884105728, -1) ORDER BY ALL",
+    "SELECT k FROM t WHERE e = '2106-02-07 06:28:15' ORDER BY ALL",
+    "SELECT k FROM t WHERE e IN ('1970-01-01 00:00:00', '2024-02-29 23:59:59') ORDER BY ALL",
+    "SELECT k FROM t WHERE has(ae, '1970-01-01 00:00:00') ORDER BY ALL",
+    "SELECT w, e, count() FROM t GROUP BY w, e ORDER BY ALL",
     "SELECT k FROM t WHERE s = 'a\\'\\n' ORDER BY ALL",
     "SELECT k FROM t WHERE f = 'abcd' ORDER BY ALL",
     "SELECT k FROM t WHERE f = 'a' ORDER BY ALL",
@@ -121,9 +128,24 @@ REFUSED = [
     ("SELECT k FROM part WHERE k IN (1, 'x') ORDER BY ALL", "BadLiteral"),
     ("SELECT k FROM part WHERE has(s, 'x') ORDER BY ALL", "BadLiteral"),
     ("SELECT k FROM part WHERE has(b, 1) ORDER BY ALL", "BadLiteral"),
-    ("SELECT k FROM part WHERE k = 170141183460469231731687303715884105728 ORDER BY ALL", "BadLiteral"),
+    ("SELECT k FROM part WHERE k = 340282366920938463463374607431768211456 ORDER BY ALL", "BadLiteral"),
+    ("SELECT k FROM part WHERE w = 340282366920938463463374607431768211456 ORDER BY ALL", "BadLiteral"),
+    ("SELECT k FROM part WHERE w = 999999999999999999999999999999999999999999999999 ORDER BY ALL", "BadLiteral"),
     ("SELECT k FROM part WHERE k = -170141183460469231731687303715884105729 ORDER BY ALL", "BadLiteral"),
+    ("SELECT k FROM part WHERE i = -170141183460469231731687303715884105729 ORDER BY ALL", "BadLiteral"),
+    ("SELECT k FROM part WHERE e = '2106-02-07 06:28:16' ORDER BY ALL", "BadLiteral"),
+    ("SELECT k FROM part WHERE e = '2024-02-30 00:00:00' ORDER BY ALL", "BadLiteral"),
+    ("SELECT k FROM part WHERE e = '2024-02-29 24:00:00' ORDER BY ALL", "BadLiteral"),
+    ("SELECT k FROM part WHERE e = '2016-12-31 23:59:60' ORDER BY ALL", "BadLiteral"),
+    ("SELECT k FROM part WHERE e = '2024-02-29' ORDER BY ALL", "BadLiteral"),
+    ("SELECT k FROM part WHERE e = 0 ORDER BY ALL", "BadLiteral"),
+    ("SELECT k FROM part WHERE d = '2024-02-29 00:00:00' ORDER BY ALL", "BadLiteral"),
+    ("SELECT k FROM part WHERE startsWith(e, '2024') ORDER BY ALL", "BadLiteral"),
+    ("SELECT k FROM part WHERE has(ae, '2024-02-29') ORDER BY ALL", "BadLiteral"),
     # Aggregates.
+    ("SELECT sum(w) FROM part ORDER BY ALL", "BadAggregate"),
+    ("SELECT min(w) FROM part ORDER BY ALL", "BadAggregate"),
+    ("SELECT max(e) FROM part ORDER BY ALL", "BadAggregate"),
     ("SELECT sum(s) FROM part ORDER BY ALL", "BadAggregate"),
     ("SELECT sum(d) FROM part ORDER BY ALL", "BadAggregate"),
     ("SELECT min(n) FROM part ORDER BY ALL", "BadAggregate"),
@@ -234,6 +256,37 @@ ORDERS = [
     ("SELECT s, count() FROM part GROUP BY s ORDER BY ALL LIMIT 2", "a\t1\nab\t1\n"),
 ]
 
+WIDE = (
+    "CREATE TABLE t (k UInt128, i Int128, z DateTime('UTC')) ENGINE = MergeTree ORDER BY k SETTINGS "
+    "index_granularity = 1, min_bytes_for_wide_part = 0"
+)
+
+WIDE_LINES = (
+    f"{2**128 - 1}\t-1\t2106-02-07 06:28:15\n0\t{2**127 - 1}\t1970-01-01 00:00:00\n"
+    f"{2**127}\t{-(2**127)}\t2024-02-29 23:59:59\n{2**127 - 1}\t{2**64}\t2024-02-29 23:59:59\n"
+)
+
+WIDE_QUERIES = [
+    (f"SELECT z FROM part WHERE k > {2**127 - 1} ORDER BY ALL", "2024-02-29 23:59:59\n2106-02-07 06:28:15\n"),
+    (f"SELECT z FROM part WHERE k > {2**127} ORDER BY ALL", "2106-02-07 06:28:15\n"),
+    (f"SELECT k FROM part WHERE k = {2**128 - 1} ORDER BY ALL", f"{2**128 - 1}\n"),
+    (f"SELECT k FROM part WHERE k != {2**128 - 1} ORDER BY ALL", f"0\n{2**127 - 1}\n{2**127}\n"),
+    (f"SELECT k FROM part WHERE k <= {2**127 - 1} ORDER BY ALL", f"0\n{2**127 - 1}\n"),
+    ("SELECT k FROM part WHERE k >= -5 ORDER BY ALL LIMIT 2", f"0\n{2**127 - 1}\n"),
+    (f"SELECT i FROM part WHERE i < {2**127} ORDER BY ALL", f"{-(2**127)}\n-1\n{2**64}\n{2**127 - 1}\n"),
+    (f"SELECT i FROM part WHERE i IN ({-(2**127)}, {2**128 - 1}, {2**127 - 1}) ORDER BY ALL", f"{-(2**127)}\n{2**127 - 1}\n"),
+    ("SELECT i, k FROM part WHERE i < 0 ORDER BY ALL", f"{-(2**127)}\t{2**127}\n-1\t{2**128 - 1}\n"),
+    ("SELECT k FROM part WHERE z >= '2024-02-29 23:59:59' ORDER BY ALL", f"{2**127 - 1}\n{2**127}\n{2**128 - 1}\n"),
+    ("SELECT k FROM part WHERE z > '2024-02-29 23:59:59' ORDER BY ALL", f"{2**128 - 1}\n"),
+    ("SELECT k FROM part WHERE z IN ('1970-01-01 00:00:00', '2106-02-07 06:28:15') ORDER BY ALL", f"0\n{2**128 - 1}\n"),
+    (
+        "SELECT z, count() FROM part GROUP BY z ORDER BY ALL",
+        "1970-01-01 00:00:00\t1\n2024-02-29 23:59:59\t2\n2106-02-07 06:28:15\t1\n",
+    ),
+    ("SELECT k, count() FROM part GROUP BY k ORDER BY ALL LIMIT 1", "0\t1\n"),
+    ("SELECT k FROM part WHERE k IS NULL OR z IS NULL ORDER BY ALL", ""),
+]
+
 
 # Tables, lines, and the answers of queries over their rows.
 ANSWERS = [
@@ -248,6 +301,7 @@ ANSWERS = [
         "3\t-9223372036854775808\t0\t2024-01-01\t\\N\n",
         SIGNED_QUERIES,
     ),
+    (WIDE, WIDE_LINES, WIDE_QUERIES),
     (ORDERED, "1\tb\t\\N\t[2]\n2\ta\t5\t[]\n3\tb\t-5\t[1,9]\n4\tab\t\\N\t[2,1]\n", ORDERS),
 ]
 
