@@ -18,10 +18,11 @@ use Rattle.mt_table.specs.ColumnTypes.{is_column_type, is_key_type, is_state_typ
 use Rattle.mt_element_syntax.specs.Formed.{has_one, is_formed_element}
 use Rattle.mt_table.specs.Kept.{is_column, keeps_columns, keeps_key, names_of}
 use Rattle.mt_table.specs.Names.{are_among, begins, names_differ}
-use Rattle.mt_table_text.specs.Projections.{is_key}
-use Rattle.mt_table_text.specs.Rules.{is_short}
-use Rattle.mt_table_text.specs.Sentence.{column_names, columns_of, places_in, with_column}
-use Rattle.mt_table_text.specs.TypeTexts.{column_type_if, column_type_of, type_text}
+use Rattle.mt_table_rules.specs.Projections.{is_key}
+use Rattle.mt_table_rules.specs.Rules.{is_short}
+use Rattle.mt_table_names.specs.Sentence.{column_names, places_in}
+use Rattle.mt_table_rules.specs.Columns.{columns_of, with_column}
+use Rattle.mt_table_rules.specs.TypeTexts.{column_type_if, column_type_of, type_text}
 use Rattle.mt_table_text.proofs.PlacesDiffer.{differ_in, places_are_named}
 
 -- ---- columns

@@ -10,20 +10,23 @@ use Rattle.mt_syntax.specs.declared.tree.TableText.{TableText}
 use Rattle.mt_table.specs.declared.column.Column.{Column}
 use Rattle.mt_table.specs.declared.partition.PartExpr.{PartExpr}
 use Rattle.mt_table.specs.declared.projection.Projection.{Projection}
-use Rattle.mt_table_text.specs.declared.names.Names.{Names}
-use Rattle.mt_table_text.specs.declared.sentence.ElementNames.{ElementNames}
+use Rattle.mt_table_names.specs.declared.names.Names.{Names}
+use Rattle.mt_table_names.specs.declared.sentence.ElementNames.{ElementNames}
 use Rattle.mt_table.specs.declared.settings.Settings.{Settings}
 use Rattle.mt_table.specs.declared.skip.Skip.{Skip}
 use Rattle.mt_table_text.specs.declared.why.TableWhy.{TableWhy}
 use Rattle.mt_table_text.specs.declared.why.TableWhy.TheVariants.{BadKey, BadPartition, BadProjection, BadSkip, Codec, NoSuchColumn, NotAType, Setting, TooMany, TwoNames}
 use Rattle.mt_table.specs.Fields.{Fields, fields}
 use Rattle.mt_table.specs.Kept.{keeps_rules}
-use Rattle.mt_table_text.specs.Rules.{all_are_there, are_few, are_own, fields_judged, fields_of, has_form, has_keys, has_own_names, is_index, is_partition, is_uncompressed}
-use Rattle.mt_table_text.specs.Judging.{from_codecs, from_counts, from_forms, from_indexes, from_keys, from_partition, from_present, from_settings}
-use Rattle.mt_table_text.specs.NameSets.{AreListed, listed}
-use Rattle.mt_table_text.specs.Sentence.{column_names, columns_of, index_names, projection_names}
-use Rattle.mt_table_text.specs.SentenceNames.{AreOfElements}
-use Rattle.mt_table_text.specs.SettingTexts.{settings_of}
+use Rattle.mt_table_names.specs.Present.{all_are_there}
+use Rattle.mt_table_rules.specs.Rules.{are_few, has_form, has_keys, is_index, is_partition, is_uncompressed}
+use Rattle.mt_table_names.specs.OwnNames.{are_own, has_own_names}
+use Rattle.mt_table_text.specs.Judging.{fields_judged, fields_of, from_codecs, from_counts, from_forms, from_indexes, from_keys, from_partition, from_present, from_settings}
+use Rattle.mt_table_names.specs.NameSets.{AreListed, listed}
+use Rattle.mt_table_names.specs.Sentence.{column_names, index_names, projection_names}
+use Rattle.mt_table_rules.specs.Columns.{columns_of}
+use Rattle.mt_table_names.specs.SentenceNames.{AreOfElements}
+use Rattle.mt_table_rules.specs.SettingTexts.{settings_of}
 use Rattle.mt_table_text.proofs.KeepingLemmas.{rules_are_kept}
 
 -- ---- one rule is kept or broken

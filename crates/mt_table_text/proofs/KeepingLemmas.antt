@@ -20,11 +20,15 @@ use Rattle.mt_syntax.specs.Formed.{is_formed}
 use Rattle.mt_element_syntax.specs.Trees.{is_column}
 use Rattle.mt_table.specs.Kept.{keeps_rules, keeps_settings, names_of}
 use Rattle.mt_table.specs.Names.{are_among, are_apart, begins, names_differ}
-use Rattle.mt_table_text.specs.Projections.{is_key}
-use Rattle.mt_table_text.specs.Rules.{all_are_there, are_few, element_is_there, expression_is_there, fields_of, has_form, has_keys, has_own_names, is_index, is_partition, is_short, is_small, primary_names}
-use Rattle.mt_table_text.specs.Sentence.{◌>>=◌, column_names, columns_of, index_names, names_or_none, places_in, projection_names}
-use Rattle.mt_table_text.specs.SettingTexts.{number_in, one_in, setting_in, settings_of, values_named}
-use Rattle.mt_table_text.proofs.ColumnLemmas.{read_names}
+use Rattle.mt_table_rules.specs.Projections.{is_key}
+use Rattle.mt_table_names.specs.Present.{all_are_there, element_is_there, expression_is_there}
+use Rattle.mt_table_rules.specs.Rules.{are_few, has_form, has_keys, is_index, is_partition, is_short, is_small, primary_names}
+use Rattle.mt_table_text.specs.Judging.{fields_of}
+use Rattle.mt_table_names.specs.OwnNames.{has_own_names}
+use Rattle.mt_table_rules.specs.Columns.{◌>>=◌, columns_of}
+use Rattle.mt_table_names.specs.Sentence.{column_names, index_names, names_or_none, places_in, projection_names}
+use Rattle.mt_table_rules.specs.SettingTexts.{number_in, one_in, setting_in, settings_of, values_named}
+use Rattle.mt_table_rules.proofs.ColumnLemmas.{read_names}
 use Rattle.mt_table_text.proofs.ColumnsKept.{begins_within, columns_kept, key_kept}
 use Rattle.mt_table_text.proofs.PartitionKept.{partition_kept, skips_kept}
 use Rattle.mt_table_text.proofs.ProjectionsKept.{projections_kept}

@@ -1,9 +1,3 @@
-pub mod SetLemmas
-pub mod SentenceLemmas
-pub mod TypeTextLemmas
-pub mod ColumnLemmas
-pub mod KeyLemmas
-pub mod PartLemmas
 pub mod JudgeLemmas
 pub mod KeepingLemmas
 pub mod PlacesDiffer

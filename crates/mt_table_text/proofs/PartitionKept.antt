@@ -19,8 +19,10 @@ use Rattle.mt_table.specs.ColumnTypes.{is_date_type, is_key_type, named_has}
 use Rattle.mt_element_syntax.specs.Formed.{is_formed_element}
 use Rattle.mt_table.specs.Kept.{keeps_expression, keeps_kind, keeps_partition, keeps_skip, keeps_skips, month_place, names_of, plain_place, skip_names}
 use Rattle.mt_table.specs.Names.{are_among, are_apart, is_among, names_differ, places_differ}
-use Rattle.mt_table_text.specs.Rules.{expression_is_there, expression_of, is_expression, is_index, is_kind, is_partition, kind_of, skip_of}
-use Rattle.mt_table_text.specs.Sentence.{index_names, month_name, place_in, places_in, plain_name}
+use Rattle.mt_table_names.specs.Present.{expression_is_there}
+use Rattle.mt_table_names.specs.Places.{expression_of, kind_of, skip_of}
+use Rattle.mt_table_rules.specs.Rules.{is_expression, is_index, is_kind, is_partition}
+use Rattle.mt_table_names.specs.Sentence.{index_names, month_name, place_in, places_in, plain_name}
 use Rattle.mt_table_text.proofs.PlacesDiffer.{all_same, differ_in, place_is_named}
 
 -- ---- the partition key

@@ -13,8 +13,8 @@ use Rattle.mt_table.specs.declared.column.Column.{Column}
 use Rattle.mt_table.specs.ColumnTypes.{column_has, named_has, place_has}
 use Rattle.mt_table.specs.Kept.{names_of}
 use Rattle.mt_table.specs.Names.{are_among, is_among, names_differ, places_differ}
-use Rattle.mt_table_text.specs.Sentence.{place_in, places_in}
-use Rattle.mt_table_text.proofs.ColumnLemmas.{named_is}
+use Rattle.mt_table_names.specs.Sentence.{place_in, places_in}
+use Rattle.mt_table_rules.proofs.ColumnLemmas.{named_is}
 
 -- ---- the place of a name that is there
 

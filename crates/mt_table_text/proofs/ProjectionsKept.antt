@@ -29,9 +29,11 @@ use Rattle.mt_table.specs.ColumnTypes.{is_integer_type}
 use Rattle.mt_table.specs.Kept as kept
 use Rattle.mt_table.specs.Kept.{is_one_of, is_place, keeps_aggregate, keeps_grouped, keeps_key, keeps_normal, keeps_projection, keeps_projections, max_place, min_place, name_of, names_of, sum_place}
 use Rattle.mt_table.specs.Names.{are_among, is_among, names_differ, places_differ}
-use Rattle.mt_table_text.specs.Projections.{aggregate_of, aggregates_differ, are_same, is_grouped, is_key, is_normal, is_over, is_projection, projection_of, selected_places, selects_key}
-use Rattle.mt_table_text.specs.Rules.{element_is_there, has_few_aggregates, has_form, is_short, is_small, item_is_there, items_are_there, projection_in}
-use Rattle.mt_table_text.specs.Sentence.{is_aggregate, is_count, item_column, max_column, min_column, names_or_none, place_in, places_in, projection_names, sum_column}
+use Rattle.mt_table_names.specs.Places.{aggregate_of, projection_in, projection_of, selected_places}
+use Rattle.mt_table_rules.specs.Projections.{aggregates_differ, are_same, is_grouped, is_key, is_normal, is_over, is_projection, selects_key}
+use Rattle.mt_table_names.specs.Present.{element_is_there, item_is_there, items_are_there}
+use Rattle.mt_table_rules.specs.Rules.{has_few_aggregates, has_form, is_short, is_small}
+use Rattle.mt_table_names.specs.Sentence.{is_aggregate, is_count, item_column, max_column, min_column, names_or_none, place_in, places_in, projection_names, sum_column}
 use Rattle.mt_table_text.proofs.ColumnsKept.{key_kept}
 use Rattle.mt_table_text.proofs.PlacesDiffer.{differ_in, place_below, place_is_named}
 

@@ -13,7 +13,7 @@ use Rattle.mt_table_text.specs.declared.why.TableWhy.{TableWhy}
 use Rattle.mt_table_text.specs.declared.why.TableWhy.TheVariants.{Syntax}
 use Rattle.mt_table_text.specs.declared.why.TableError.{TableError}
 use Rattle.mt_table_text.specs.declared.why.TableError.TheVariants as error
-use Rattle.mt_table_text.specs.Rules.{fields_judged}
+use Rattle.mt_table_text.specs.Judging.{fields_judged}
 use Rattle.mt_table_text.specs.Tables.{Defines, GivesFields, GivesTable, fields_answered}
 use Rattle.mt_table_text.specs.TextReading.{table_if, table_of_fields}
 

@@ -13,7 +13,7 @@ use Rattle.mt_syntax.proofs.FormedLemmas.{text_is_formed}
 use Rattle.mt_table.specs.Fields.{Fields}
 use Rattle.mt_table.specs.Kept.{keeps_rules}
 use Rattle.mt_table_text.specs.declared.why.TableWhy.{TableWhy}
-use Rattle.mt_table_text.specs.Rules.{fields_judged}
+use Rattle.mt_table_text.specs.Judging.{fields_judged}
 use Rattle.mt_table_text.specs.Tables.{Defines, fields_answered}
 use Rattle.mt_table_text.specs.TextReading.{judged, judged_sentence, table_of_fields, table_reading, token_onto, tokens_from, tokens_of}
 use Rattle.mt_table_text.proofs.JudgeLemmas.{judged_keeps}

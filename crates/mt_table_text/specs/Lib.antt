@@ -1,10 +1,3 @@
-pub mod NameSets
-pub mod TypeTexts
-pub mod Sentence
-pub mod SentenceNames
-pub mod SettingTexts
-pub mod Projections
-pub mod Rules
 pub mod Judging
 pub mod Tables
 pub mod TextReading

@@ -9,7 +9,7 @@ use Rattle.mt_table_text.specs.declared.why.TableWhy.{TableWhy}
 use Rattle.mt_table_text.specs.declared.why.TableWhy.TheVariants.{Syntax}
 use Rattle.mt_table_text.specs.declared.why.TableError.{TableError}
 use Rattle.mt_table_text.specs.declared.why.TableError.TheVariants as error
-use Rattle.mt_table_text.specs.Rules.{fields_judged}
+use Rattle.mt_table_text.specs.Judging.{fields_judged}
 
 -- what an answer says: the table's fields, or the rule that is broken
 abbrev pub fields_answered : Result Table TableWhy → Result Fields TableWhy

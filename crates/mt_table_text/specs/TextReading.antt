@@ -12,7 +12,7 @@ use Rattle.mt_table.specs.Kept.{keeps_rules}
 use Rattle.mt_table.specs.Tables.{table_with}
 use Rattle.mt_table_text.specs.declared.why.TableWhy.{TableWhy}
 use Rattle.mt_table_text.specs.declared.why.TableWhy.TheVariants.{Syntax, TooMany}
-use Rattle.mt_table_text.specs.Rules.{fields_judged}
+use Rattle.mt_table_text.specs.Judging.{fields_judged}
 
 -- a token before the others
 abbrev pub token_onto : Tok → Option (List Tok) → Option (List Tok)

@@ -3,25 +3,20 @@
 ghost use Rattle.std.specs.Prelude.{◌≡◌, ◌≤◌, length, IfOk, IsTrue};
 ghost use Rattle.mt_syntax.specs.Formed.{is_formed};
 ghost use Rattle.mt_table.specs.Kept.{keeps_rules, names_of};
-ghost use Rattle.mt_table_text.specs.Judging.{from_codecs, from_keys};
-ghost use Rattle.mt_table_text.specs.NameSets.{listed};
-ghost use Rattle.mt_table_text.specs.Rules.{fields_of, fields_judged};
-ghost use Rattle.mt_table_text.specs.Sentence.{column_names};
-ghost use Rattle.mt_table_text.specs.SentenceNames.{AreOfElements};
+ghost use Rattle.mt_table_text.specs.Judging.{fields_judged, fields_of, from_codecs, from_keys};
+ghost use Rattle.mt_table_names.specs.NameSets.{listed};
+ghost use Rattle.mt_table_names.specs.Sentence.{column_names};
+ghost use Rattle.mt_table_names.specs.SentenceNames.{AreOfElements};
 ghost use Rattle.mt_table.specs.Tables.{fields_of_table};
 ghost use Rattle.mt_table_text.specs.Tables.{GivesFields};
 
-use crate::codecs::are_uncompressed;
-use crate::columns::{Columns, read_columns};
-use crate::counts::are_few;
-use crate::keys::primary_names;
-use crate::names::Names;
-use crate::own_names::own_names;
-use crate::sentence::{ElementNames, element_names};
-use crate::setting_texts::read_settings;
 use crate::why::{TableError, TableWhy};
 use mt_syntax::TableText;
 use mt_table::{Column, MAX_COLUMNS, Settings, Table};
+use mt_table_names::{ElementNames, Names, element_names, own_names};
+use mt_table_rules::{
+    Columns, are_few, are_uncompressed, primary_names, read_columns, read_settings,
+};
 use mt_types::{List, NoMemory};
 use std::alloc::Global;
 

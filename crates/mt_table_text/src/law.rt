@@ -7,7 +7,7 @@ ghost use Rattle.mt_table.specs.declared.definition.Table.{Table};
 ghost use Rattle.mt_table.specs.Fields.{Fields};
 ghost use Rattle.mt_table.specs.Kept.{keeps_rules};
 ghost use Rattle.mt_table_text.specs.declared.why.TableWhy.{TableWhy};
-ghost use Rattle.mt_table_text.specs.Rules.{fields_judged};
+ghost use Rattle.mt_table_text.specs.Judging.{fields_judged};
 ghost use Rattle.mt_table_text.specs.Tables.{Defines};
 
 /// What a sentence says that breaks no rule of texts keeps the rules of tables.

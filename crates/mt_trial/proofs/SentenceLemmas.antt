@@ -23,10 +23,10 @@ use Rattle.mt_table.specs.ColumnTypes.{is_state_at}
 use Rattle.mt_syntax.specs.Reading.{sentence_at, expression_at, clause_at, more_clauses, engine_at, body_at, rest_at}
 use Rattle.mt_element_syntax.specs.Reading.{type_at, column_at, index_at, projection_at, element_at}
 use Rattle.mt_phrases.specs.Selections.{item_at}
-use Rattle.mt_table_text.specs.Sentence.{columns_of}
-use Rattle.mt_table_text.specs.TypeTexts.{column_type_of, column_type_if}
+use Rattle.mt_table_rules.specs.Columns.{columns_of}
+use Rattle.mt_table_rules.specs.TypeTexts.{column_type_of, column_type_if}
 use Rattle.mt_table_text.specs.TextReading.{tokens_of, tokens_from}
-use Rattle.mt_table_text.proofs.TypeTextLemmas.{type_text_is}
+use Rattle.mt_table_rules.proofs.TypeTextLemmas.{type_text_is}
 use Rattle.mt_trial.specs.Tables.{trial_columns, trial_table_text}
 
 -- ---- the sentence

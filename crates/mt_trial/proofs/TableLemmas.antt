@@ -11,13 +11,14 @@ use Rattle.mt_table_text.specs.declared.why.TableWhy.{TableWhy}
 use Rattle.mt_table_text.specs.declared.why.TableWhy.TheVariants.{BadKey, BadPartition, BadProjection, BadSkip, Codec, NoSuchColumn, TooMany}
 use Rattle.mt_table.specs.Fields.{Fields}
 use Rattle.mt_table.specs.Kept.{keeps_rules}
-use Rattle.mt_table_text.specs.Rules.{all_are_there, are_few, fields_judged, fields_of, has_form, has_keys, is_index, is_partition, is_uncompressed}
-use Rattle.mt_table_text.specs.Sentence.{column_names}
-use Rattle.mt_table_text.specs.SettingTexts.{settings_of}
+use Rattle.mt_table_names.specs.Present.{all_are_there}
+use Rattle.mt_table_rules.specs.Rules.{are_few, has_form, has_keys, is_index, is_partition, is_uncompressed}
+use Rattle.mt_table_text.specs.Judging.{fields_judged, fields_of, from_codecs, from_forms, from_indexes, from_keys, from_partition, from_settings}
+use Rattle.mt_table_names.specs.Sentence.{column_names}
+use Rattle.mt_table_rules.specs.SettingTexts.{settings_of}
 use Rattle.mt_table.specs.declared.definition.Table.{Table}
 use Rattle.mt_table.specs.Tables.{table_with}
 use Rattle.mt_table_text.specs.TextReading.{judged, judged_sentence, table_if, table_of_fields, table_reading}
-use Rattle.mt_table_text.specs.Judging.{from_codecs, from_forms, from_indexes, from_keys, from_partition, from_settings}
 use Rattle.mt_table_text.proofs.JudgeLemmas.{begun, kept, set}
 use Rattle.mt_trial.specs.Tables.{trial_columns, trial_fields, trial_partition, trial_settings, trial_table_text}
 use Rattle.mt_trial.specs.KeptRules.{trial_keeps}

@@ -1,11 +1,12 @@
 use Rattle.std.proofs.Common.{◌≡◌, ◌∙◌, ap, false, subst, sym, true}
 use Rattle.std.specs.Prelude.{MatchOption}
-use Rattle.mt_table_text.specs.NameSets.{AreListed}
-use Rattle.mt_table_text.specs.Judging.{from_keys}
-use Rattle.mt_table_text.specs.Rules.{all_are_there, are_own, fields_judged}
-use Rattle.mt_table_text.specs.Sentence.{columns_of}
-use Rattle.mt_table_text.specs.SentenceNames.{AreOfElements}
-use Rattle.mt_table_text.proofs.ColumnLemmas.{read_names}
+use Rattle.mt_table_names.specs.NameSets.{AreListed}
+use Rattle.mt_table_text.specs.Judging.{fields_judged, from_keys}
+use Rattle.mt_table_names.specs.Present.{all_are_there}
+use Rattle.mt_table_names.specs.OwnNames.{are_own}
+use Rattle.mt_table_rules.specs.Columns.{columns_of}
+use Rattle.mt_table_names.specs.SentenceNames.{AreOfElements}
+use Rattle.mt_table_rules.proofs.ColumnLemmas.{read_names}
 use Rattle.mt_table_text.proofs.JudgeLemmas.{begun, broken, kept, no_types, owned, set_found, two_names}
 use Rattle.mt_table_text.proofs.judge.judge.Goals as goal
 

@@ -1,9 +1,9 @@
 use Rattle.std.proofs.Common.{◌∙◌, ap, sym}
 use Rattle.std.specs.Prelude.{Ok}
 use Rattle.std.specs.List.{list_all}
-use Rattle.mt_table_text.specs.Judging.{from_settings}
-use Rattle.mt_table_text.specs.Rules.{fields_judged, fields_of, is_uncompressed}
-use Rattle.mt_table_text.specs.SettingTexts.{settings_of}
+use Rattle.mt_table_text.specs.Judging.{fields_judged, fields_of, from_settings}
+use Rattle.mt_table_rules.specs.Rules.{is_uncompressed}
+use Rattle.mt_table_rules.specs.SettingTexts.{settings_of}
 use Rattle.mt_table_text.proofs.JudgeLemmas.{broken, judged_keeps, kept, no_setting, set}
 use Rattle.mt_table_text.proofs.judge.judge_rest.Goals as goal
 

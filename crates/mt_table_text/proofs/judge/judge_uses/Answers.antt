@@ -1,8 +1,8 @@
 use Rattle.std.proofs.Common.{◌∙◌, ap, sym}
 use Rattle.std.specs.List.{list_all}
 use Rattle.mt_table.specs.Kept.{names_of}
-use Rattle.mt_table_text.specs.Judging.{from_codecs, from_forms, from_indexes, from_partition}
-use Rattle.mt_table_text.specs.Rules.{fields_judged, has_form, has_keys, is_index, is_partition}
+use Rattle.mt_table_text.specs.Judging.{fields_judged, from_codecs, from_forms, from_indexes, from_partition}
+use Rattle.mt_table_rules.specs.Rules.{has_form, has_keys, is_index, is_partition}
 use Rattle.mt_table_text.proofs.JudgeLemmas.{broken, kept}
 use Rattle.mt_table_text.proofs.judge.judge_uses.Goals as goal
 

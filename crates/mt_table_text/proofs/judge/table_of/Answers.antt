@@ -2,9 +2,10 @@ use Rattle.std.proofs.Common.{◌≤◌, ◌∙◌, ap, arith, length, map, subs
 use Rattle.std.specs.List.{filter_map}
 use Rattle.mt_table.specs.declared.limits.TheConstants.{MAX_KEY}
 use Rattle.mt_table.specs.Kept.{keeps_rules}
-use Rattle.mt_table_text.specs.NameSets.{listed}
-use Rattle.mt_table_text.specs.Rules.{expression_of, fields_of, projection_in, skip_of}
-use Rattle.mt_table_text.specs.Sentence.{places_in}
+use Rattle.mt_table_names.specs.NameSets.{listed}
+use Rattle.mt_table_names.specs.Places.{expression_of, projection_in, skip_of}
+use Rattle.mt_table_text.specs.Judging.{fields_of}
+use Rattle.mt_table_names.specs.Sentence.{places_in}
 use Rattle.mt_table_text.proofs.JudgeLemmas.{same_fields}
 use Rattle.mt_table.proofs.KeptLemmas.{primary_small}
 use Rattle.mt_table_text.proofs.judge.table_of.Goals as goal

@@ -1,0 +1,3 @@
+pub mod TypeTextLemmas
+pub mod ColumnLemmas
+pub mod KeyLemmas

@@ -1,7 +1,0 @@
-use Rattle.std.proofs.Common.{◌∙◌, sym}
-use Rattle.std.specs.Str.{bytes_eq}
-use Rattle.mt_table_text.proofs.SetLemmas.{any_map}
-use Rattle.mt_table_text.proofs.names.Names.contains.Goals as goal
-
-pub returns : goal.returns
-returns c = c.contains.ensures ∙ sym (any_map (bytes_eq c.args.name.now) (λ k. k.now) c.args.self.now.set.keys)

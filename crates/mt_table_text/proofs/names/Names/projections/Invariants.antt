@@ -1,8 +1,0 @@
-use Rattle.std.proofs.Common.{◌≡◌, take}
-use Rattle.std.specs.List.{filter_map}
-use Rattle.mt_table_text.specs.Rules.{projection_in}
-use Rattle.mt_table_text.specs.NameSets.{listed}
-use Rattle.mt_table_text.proofs.names.Names.projections.Given as goal
-
-abbrev pub invariant-loop-element : goal.invariant-loop-element
-invariant-loop-element l = l.projections ≡ filter_map (projection_in (listed l.self)) (take l.element-index l.elements)

@@ -1,8 +1,0 @@
-use Rattle.std.proofs.Common.{◌≡◌, take}
-use Rattle.std.specs.List.{filter_map}
-use Rattle.mt_table_text.specs.Rules.{skip_of}
-use Rattle.mt_table_text.specs.NameSets.{listed}
-use Rattle.mt_table_text.proofs.names.Names.skips.Given as goal
-
-abbrev pub invariant-loop-element : goal.invariant-loop-element
-invariant-loop-element l = l.skips ≡ filter_map (skip_of (listed l.self)) (take l.element-index l.elements)

@@ -1,6 +1,0 @@
-use Rattle.std.proofs.Common.{take}
-use Rattle.mt_table_text.specs.SentenceNames.{AreOfElements}
-use Rattle.mt_table_text.proofs.sentence.element_names.Given as goal
-
-abbrev pub invariant-loop-element : goal.invariant-loop-element
-invariant-loop-element l = AreOfElements l.names (take l.element-index l.elements)
