@@ -1,2 +1,2 @@
-mod ColumnLemmas
+pub mod ColumnLemmas
 mod PlainLemmas
