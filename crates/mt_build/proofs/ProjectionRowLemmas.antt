@@ -35,8 +35,8 @@ use Rattle.mt_defs.specs.Rows.{Row, RowFits, cell, key_of}
 use Rattle.mt_defs.specs.Sorting.{sorted_rows}
 use Rattle.mt_defs.specs.Writer.{folded_row, projection_rows}
 use Rattle.mt_defs.proofs.Sorted.{All-sorted_rows}
-use Rattle.mt_build.proofs.DefinitionLemmas.{HasColumn, has_column, key_columns}
-use Rattle.mt_build.proofs.InnerLemmas.{KeptGrouped, kept_grouped, stored_known}
+use Rattle.mt_meta.proofs.DefinitionLemmas.{HasColumn, has_column, key_columns}
+use Rattle.mt_meta.proofs.InnerLemmas.{KeptGrouped, kept_grouped, stored_known}
 
 -- ---- pointwise
 

@@ -43,7 +43,7 @@ use Rattle.mt_defs.specs.WrittenSkips.{skip_files, written_entries, written_skip
 use Rattle.mt_meta.specs.PartitionKeys.{ArePartitionKeys, IsExpression}
 use Rattle.mt_build.specs.Definitions.{IsLayout}
 use Rattle.mt_build.specs.SkipFiles.{IsSkip, passed_mark}
-use Rattle.mt_build.proofs.DefinitionLemmas.{all_pass, has_column, key_scalar}
+use Rattle.mt_meta.proofs.DefinitionLemmas.{all_pass, has_column, key_scalar}
 
 -- ---- skip indexes
 

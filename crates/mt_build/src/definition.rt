@@ -5,7 +5,8 @@ ghost use Rattle.mt_defs.specs.Granules.{AreGranules};
 ghost use Rattle.mt_defs.specs.Rows.{RowFits};
 ghost use Rattle.mt_defs.specs.WrittenColumns.{compact_files, file, wide_files};
 ghost use Rattle.mt_defs.specs.Writer as defined;
-ghost use Rattle.mt_build.specs.Definitions.{AreColumns, IsDefinition, text_files};
+ghost use Rattle.mt_meta.specs.Definitions.{AreColumns, IsDefinition};
+ghost use Rattle.mt_build.specs.Definitions.{text_files};
 
 use mt_compact::write_compact;
 use mt_fault::FileBytes;

@@ -15,7 +15,7 @@ use Rattle.mt_defs.specs.Projections.{base_of, inner_of, projection_prefix, is_p
 use Rattle.mt_defs.specs.SkipIndexes.{entry_rows, skip_data_name, skip_marks_name}
 use Rattle.mt_definition.specs.declared.accepted.Accepted.{Accepted}
 use Rattle.mt_types.specs.Steps.{◌>>=◌, require}
-use Rattle.mt_files.specs.Definitions.{IsDefinition}
+use Rattle.mt_meta.specs.Definitions.{IsDefinition}
 use Rattle.mt_definition.specs.DefinitionReading.{definition_reading}
 use Rattle.mt_fault.specs.Faults.{file_fault}
 use Rattle.mt_files.specs.Faults.{named_below}

@@ -21,7 +21,7 @@ use Rattle.mt_defs.specs.Projections.{base_of, inner_of, projection_prefix}
 use Rattle.mt_definition.specs.declared.accepted.Accepted.{Accepted}
 use Rattle.mt_types.specs.Steps.{◌>>=◌}
 use Rattle.mt_fault.specs.declared.fault.Fault.{Fault}
-use Rattle.mt_files.specs.Definitions.{IsDefinition}
+use Rattle.mt_meta.specs.Definitions.{IsDefinition}
 use Rattle.mt_check.specs.FolderChecks.{projection_checks, files_checks, stored_checks, projection_folder_in, projection_folders, projection_is_there, projections_checks}
 use Rattle.mt_files.specs.OwnNames as own
 use Rattle.mt_files.specs.OwnNames.{base_names, own_names, skip_names_in}
@@ -32,7 +32,8 @@ use Rattle.mt_definition.proofs.AgreeOnData.{order_same}
 use Rattle.mt_check.proofs.AgreeOnChecks.{part_same, projection_same}
 use Rattle.mt_check.proofs.FolderLemmas.{as_folders}
 use Rattle.mt_files.proofs.FileLemmas.{name_is, same_name}
-use Rattle.mt_files.proofs.TableLemmas.{base_checked, projections_checked}
+use Rattle.mt_meta.proofs.DefinitionLemmas.{base_is}
+use Rattle.mt_meta.proofs.InnerLemmas.{projections_are}
 
 -- ---- the folder of the files of some names
 
@@ -146,9 +147,9 @@ pub part_read : (table : Table) (folder : Folder) (names : List (List ℕ))
     → files_checks table (folder_of (part_files table folder names).base) (as_folders (part_files table folder names).projections) ≡ files_checks table folder (projection_folders table folder names)
 part_read table folder names =
     let kind = base_layout table folder in
-    part_same (folder_of (base_files table folder)) folder table (as_folders (part_files table folder names).projections) (projection_folders table folder names) (base_checked table) kind
+    part_same (folder_of (base_files table folder)) folder table (as_folders (part_files table folder names).projections) (projection_folders table folder names) (base_is table) kind
     (subst (λ b. AgreeAt (folder_of (base_files table folder)) folder (base_names table b)) (sym kind) (agrees folder (base_names table (is_compact folder))))
-    (λ accepted. projections_same table folder names accepted table.projections (projections_checked table))
+    (λ accepted. projections_same table folder names accepted table.projections (projections_are table))
 
 -- and list the same columns
 pub order_read : (table : Table) (folder : Folder) → order_reading (base_of table) (folder_of (base_files table folder)) ≡ order_reading (base_of table) folder

@@ -5,7 +5,7 @@ ghost use Rattle.std.specs.List.{zip};
 ghost use Rattle.mt_defs.specs.Folder.{folder_of};
 ghost use Rattle.mt_defs.specs.Projections as defined;
 ghost use Rattle.mt_table.specs.Stored.{projection_at};
-ghost use Rattle.mt_files.specs.Definitions.{HasProjections};
+ghost use Rattle.mt_meta.specs.Definitions.{HasProjections};
 ghost use Rattle.mt_check.specs.FolderChecks.{projection_checks, stored_checks, projections_checks};
 ghost use Rattle.mt_names.specs.ProjectionFolders.{projection_folder};
 ghost use Rattle.mt_fault.specs.Faults.{file_fault};

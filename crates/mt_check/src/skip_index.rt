@@ -11,7 +11,7 @@ ghost use Rattle.mt_defs.specs.Rows.{RowFits, cell, column_values};
 ghost use Rattle.mt_defs.specs.SkipIndexes.{summarizes, skip_data_name};
 ghost use Rattle.mt_item.specs.ItemTypes.{has_items};
 ghost use Rattle.mt_skip.specs.Items.{AllFit};
-ghost use Rattle.mt_files.specs.Definitions.{HasSkips, IsSkip};
+ghost use Rattle.mt_files.specs.SkipRules.{HasSkips, IsSkip};
 ghost use Rattle.mt_check.specs.FolderChecks.{each, entries_checks, index_checks, skip_checks};
 ghost use Rattle.mt_fault.specs.Faults.{granule_fault};
 ghost use Rattle.mt_fault.specs.Results.{Gives};

@@ -38,8 +38,8 @@ use Rattle.mt_defs.specs.Rows.{Row, RowFits, cell, key_of}
 use Rattle.mt_defs.specs.Sorting.{sorted_rows}
 use Rattle.mt_defs.specs.Writer.{folded_row, projection_rows}
 use Rattle.mt_defs.proofs.Sorted.{All-sorted_rows, cell_count-sorted_rows, length-sorted_rows}
-use Rattle.mt_build.proofs.DefinitionLemmas.{HasColumn, key_columns, key_scalar}
-use Rattle.mt_build.proofs.InnerLemmas.{kept_grouped, projections_kept}
+use Rattle.mt_meta.proofs.DefinitionLemmas.{HasColumn, key_columns, key_scalar}
+use Rattle.mt_meta.proofs.InnerLemmas.{kept_grouped, projections_kept}
 use Rattle.mt_build.proofs.ProjectionRowLemmas.{All-distinct_by, cell_fits}
 use Rattle.mt_command.specs.Targets.{has_many_cells}
 use Rattle.mt_command.proofs.RowLemmas.{row_length}

@@ -24,7 +24,7 @@ use Rattle.mt_wide.specs.WideReading.{wide_reading}
 use Rattle.mt_compact.specs.CompactReading.{compact_reading}
 use Rattle.mt_definition.specs.declared.accepted.Accepted.{Accepted}
 use Rattle.mt_definition.specs.DataReading.{data_reading}
-use Rattle.mt_files.specs.Definitions.{IsDefinition}
+use Rattle.mt_meta.specs.Definitions.{IsDefinition}
 use Rattle.mt_definition.specs.DefinitionReading.{cells_reading, definition_reading, in_definition_order, index_keys, stored_reading}
 use Rattle.mt_files.specs.PartTexts.{count_why, order_reading}
 use Rattle.mt_fault.specs.Faults.{file_fault, granule_fault}
@@ -107,7 +107,7 @@ data_by_same : (f g : Folder) (definition : PartDef) (order : List ℕ) (count :
     → data_by compact f count (map (column_at definition.columns) order) ≡ data_by compact g count (map (column_at definition.columns) order)
 data_by_same f g definition order count true is all = compact_same f g count (map (column_at definition.columns) order) all.0 all.1.0
 data_by_same f g definition order count false is all =
-    let some = is.some in
+    let some = is.columns.some in
     let same = placed_length definition.columns order in
     wide_same f g count (map (column_at definition.columns) order) (omega (arith, same, some)) (each_column f g definition.columns order all is.below)
 

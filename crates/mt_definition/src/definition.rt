@@ -5,7 +5,7 @@ ghost use Rattle.mt_table.specs.declared.limits.TheConstants.{MAX_ROWS};
 ghost use Rattle.mt_defs.specs.Folder.{folder_of};
 ghost use Rattle.mt_defs.specs.Granules.{AreGranules};
 ghost use Rattle.mt_defs.specs.Rows.{ArePartRows, RowFits};
-ghost use Rattle.mt_files.specs.Definitions.{IsDefinition};
+ghost use Rattle.mt_meta.specs.Definitions.{IsDefinition};
 ghost use Rattle.mt_definition.specs.DefinitionReading.{definition_reading, stored_reading};
 ghost use Rattle.mt_fault.specs.Results.{Gives};
 

@@ -8,7 +8,7 @@ ghost use Rattle.mt_defs.specs.Granules.{AreGranules};
 ghost use Rattle.mt_defs.specs.PrimaryIndex.{index_rows, key_bytes};
 ghost use Rattle.mt_defs.specs.Rows.{RowFits, cell};
 ghost use Rattle.mt_meta.specs.Keys.{AreKeys, is_scalar};
-ghost use Rattle.mt_files.specs.Definitions.{IsDefinition};
+ghost use Rattle.mt_meta.specs.Definitions.{IsDefinition};
 ghost use Rattle.mt_definition.specs.DefinitionReading.{index_reading};
 ghost use Rattle.mt_fault.specs.Results.{Gives};
 ghost use Rattle.mt_definition.specs.RowRefs.{rows_in};

@@ -4,7 +4,7 @@ ghost use Rattle.std.specs.Prelude.{◌≡◌, ◌≤◌, ◌<◌, Some, None, l
 ghost use Rattle.std.specs.Ordering.{is_lt};
 ghost use Rattle.mt_defs.specs.Folder.{folder_of};
 ghost use Rattle.mt_defs.specs.Rows.{key_cmp};
-ghost use Rattle.mt_files.specs.Definitions.{IsDefinition};
+ghost use Rattle.mt_meta.specs.Definitions.{IsDefinition};
 ghost use Rattle.mt_definition.specs.DefinitionReading.{sort_file, sorted_reading};
 ghost use Rattle.mt_fault.specs.Results.{Gives};
 ghost use Rattle.mt_definition.specs.RowsReading as defined;

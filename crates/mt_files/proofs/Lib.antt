@@ -5,9 +5,6 @@ pub mod TextLemmas
 pub mod PositionLemmas
 pub mod EntryLemmas
 pub mod FrameLemmas
-pub mod PartDefs
-pub mod DefinitionLemmas
-pub mod InnerLemmas
 pub mod TableLemmas
 pub mod OnceLemmas
 pub mod ListingLemmas

@@ -1,10 +1,8 @@
--- What the rules of a table give its checks.
-use Rattle.std.proofs.Common.{◌≡◌, ◌≤◌, true, List, length, map, refl, sym, ◌∙◌, arith}
-use Rattle.std.specs.Prelude.{nat_le, ◌&&◌}
+-- What the rules of a table say of its skip indexes and its partition key.
+use Rattle.std.proofs.Common.{◌≡◌, true, List, length, refl, sym, ◌∙◌}
+use Rattle.std.specs.Prelude.{nat_le}
 use Rattle.std.specs.List.{list_all, filter_map}
 use Rattle.std.proofs.lemmas.Bool.{leb-true}
-use Rattle.std.proofs.lemmas.List.{length-append, length-map}
-use Rattle.std.proofs.lemmas.List.FromFn.{length-range_with_len}
 use Rattle.std.proofs.lemmas.List.Elements.{All-weaker}
 use Rattle.mt_types.specs.declared.ty.Ty.{Ty, out-Ty}
 use Rattle.mt_types.specs.declared.ty.Ty.TheOpen.{Ty-F}
@@ -13,67 +11,20 @@ use Rattle.mt_types.proofs.Levels.{same_level}
 use Rattle.mt_types.proofs.StepLemmas.{both_true}
 use Rattle.mt_types.specs.Words.{is_name}
 use Rattle.mt_table.specs.declared.column.Column.{Column}
-use Rattle.mt_table.specs.declared.definition.PartDef.{PartDef}
 use Rattle.mt_table.specs.declared.definition.Table.{Table}
 use Rattle.mt_table.specs.declared.limits.TheConstants.{MAX_GRANULARITY, MAX_PARTITION, MAX_SKIPS}
 use Rattle.mt_table.specs.declared.partition.PartExpr.{PartExpr}
 use Rattle.mt_table.specs.declared.partition.PartExpr.TheVariants.{Plain, Month}
-use Rattle.mt_table.specs.declared.projection.Projection.{Projection}
-use Rattle.mt_table.specs.declared.projection.Projection.TheVariants.{Normal, Grouped}
 use Rattle.mt_table.specs.declared.skip.Skip.{Skip}
 use Rattle.mt_table.specs.ColumnTypes.{is_date_at, is_date_type, is_key_type, place_has}
-use Rattle.mt_table.specs.Kept.{is_one_of, keeps_expression, keeps_grouped, keeps_key, keeps_kind, keeps_normal, keeps_projection, keeps_skip, month_place, plain_place}
+use Rattle.mt_table.specs.Kept.{keeps_expression, keeps_kind, keeps_skip, month_place, plain_place}
 use Rattle.mt_table.specs.Names.{places_differ}
-use Rattle.mt_table.specs.Stored.{expression_column}
 use Rattle.mt_table.specs.Tables.{fields_of_table}
-use Rattle.mt_table.proofs.KeptLemmas.{each_of, key_length}
+use Rattle.mt_table.proofs.KeptLemmas.{each_of}
 use Rattle.mt_defs.specs.Metadata.{column_at}
-use Rattle.mt_defs.specs.Projections.{base_of, index_in, inner_of, stored_columns}
 use Rattle.mt_meta.specs.PartitionKeys.{ArePartitionKeys, IsExpression}
-use Rattle.mt_files.specs.Definitions.{HasProjections, HasSkips, IsDefinition, IsSkip}
-use Rattle.mt_files.proofs.DefinitionLemmas.{all_pass, base_is, has_column, key_scalar}
-use Rattle.mt_files.proofs.InnerLemmas.{inner_is, kept_grouped, projections_kept}
-use Rattle.mt_files.proofs.PartDefs.{IsPartDef}
-
--- ---- definitions
-
-flat : (definition : PartDef) → IsPartDef definition → 1 ≤ length definition.must → 1 ≤ length definition.sort → IsDefinition definition
-flat definition is listed sorted =
-    record { some = is.columns.some; few = is.columns.few; profile = is.columns.profile; listed = listed; keys = is.keys; sorted = sorted; primary = is.primary }
-
-pub base_checked : (table : Table) → IsDefinition (base_of table)
-base_checked table =
-    let some = (key_length table.columns table.sort (each_of (fields_of_table table) table.rules).sort).0 in
-    let long = length-append table.sort (map expression_column table.partition) in
-    flat (base_of table) (base_is table) (omega (arith, some, long)) some
-
--- the folder of a projection lists all its columns
-inner_listed : (table : Table) (projection : Projection) → IsPartDef (inner_of table projection) → 1 ≤ length (inner_of table projection).must
-inner_listed table (Normal name columns sort) is =
-    let some = is.columns.some in
-    let all = length-range_with_len 0 (length (inner_of table (Normal name columns sort)).columns) in
-    omega (arith, some, all)
-inner_listed table (Grouped name keys aggs) is =
-    let some = is.columns.some in
-    let all = length-range_with_len 0 (length (inner_of table (Grouped name keys aggs)).columns) in
-    omega (arith, some, all)
-
-inner_sorted : (table : Table) (projection : Projection) → keeps_projection table.columns projection ≡ true → 1 ≤ length (inner_of table projection).sort
-inner_sorted table (Normal name columns sort) keeps =
-    let parts = both_true _ (keeps_normal table.columns columns sort) keeps in
-    let more = both_true _ (list_all (is_one_of columns) sort && keeps_key table.columns sort) parts.1 in
-    let both = both_true (list_all (is_one_of columns) sort) (keeps_key table.columns sort) more.1 in
-    let some = (key_length table.columns sort both.1).0 in
-    omega (arith, some, length-map sort (index_in (stored_columns table columns)))
-inner_sorted table (Grouped name keys aggs) keeps =
-    let kept = kept_grouped table.columns keys aggs (both_true _ (keeps_grouped table.columns keys aggs) keeps).1 in
-    let some = (key_length table.columns keys kept.key).0 in
-    omega (arith, some, length-range_with_len 0 (length keys))
-
-pub projections_checked : (table : Table) → HasProjections table
-projections_checked table =
-    All-weaker (λ projection. keeps_projection table.columns projection ≡ true) (λ projection. IsDefinition (inner_of table projection))
-    (λ projection keeps. let is = inner_is table projection keeps in flat (inner_of table projection) is (inner_listed table projection is) (inner_sorted table projection keeps)) table.projections (projections_kept table)
+use Rattle.mt_meta.proofs.DefinitionLemmas.{all_pass, has_column, key_scalar}
+use Rattle.mt_files.specs.SkipRules.{HasSkips, IsSkip}
 
 -- ---- skip indexes
 

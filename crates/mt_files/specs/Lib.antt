@@ -1,5 +1,5 @@
 pub mod Faults
-pub mod Definitions
+pub mod SkipRules
 pub mod OwnNames
 pub mod Listings
 pub mod NamedFiles

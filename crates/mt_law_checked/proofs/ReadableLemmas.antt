@@ -24,9 +24,10 @@ use Rattle.mt_defs.specs.Metadata.{column_at, no_column}
 use Rattle.mt_defs.specs.Projections.{aggregate_word, base_of, inner_of, state_column, stored_columns}
 use Rattle.mt_meta.specs.declared.ascii.TheConstants.{LINE_END, BACKQUOTE}
 use Rattle.mt_meta.specs.ColumnsReading.{lacks}
-use Rattle.mt_files.specs.Definitions.{IsDefinition}
-use Rattle.mt_files.proofs.InnerLemmas.{projections_kept, stored_known}
-use Rattle.mt_files.proofs.TableLemmas.{base_checked, projections_checked}
+use Rattle.mt_meta.specs.Definitions.{IsDefinition}
+use Rattle.mt_meta.proofs.InnerLemmas.{projections_kept, stored_known}
+use Rattle.mt_meta.proofs.DefinitionLemmas.{base_is}
+use Rattle.mt_meta.proofs.InnerLemmas.{projections_are}
 use Rattle.mt_law_written.specs.Stored.{IsStored}
 use Rattle.mt_law_written.proofs.AggregateLemmas.{IsOver, is_over}
 use Rattle.mt_item.proofs.ItemBytes.{all_small}
@@ -123,8 +124,8 @@ readable_of definition is stored listed = record {
   some = is.listed;
   named = λ k d inside. (listed k d inside).bytes;
   listed = record {
-    few = is.few;
-    types = λ i inside. is.profile i no_column inside;
+    few = is.columns.few;
+    types = λ i inside. is.columns.profile i no_column inside;
     some = λ i inside. (listed i no_column inside).some;
     one_line = λ i inside. (listed i no_column inside).one_line;
     unquoted = λ i inside. (listed i no_column inside).unquoted;
@@ -139,9 +140,9 @@ readable_of definition is stored listed = record {
 -- ---- those of a table
 
 pub base_readable : (table : Table) → IsStored (base_of table) → IsReadable (base_of table)
-base_readable table stored = readable_of (base_of table) (base_checked table) stored (table_listed table)
+base_readable table stored = readable_of (base_of table) (base_is table) stored (table_listed table)
 
 pub projections_readable : (table : Table) → All (λ projection. IsStored (inner_of table projection)) table.projections → All (λ projection. IsReadable (inner_of table projection)) table.projections
 projections_readable table stored k d inside =
     let projection : Projection = get_or table.projections k d in
-    readable_of (inner_of table projection) (projections_checked table k d inside) (stored k d inside) (inner_listed table projection (projections_kept table k d inside))
+    readable_of (inner_of table projection) (projections_are table k d inside) (stored k d inside) (inner_listed table projection (projections_kept table k d inside))

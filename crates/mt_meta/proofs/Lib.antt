@@ -17,3 +17,5 @@ mod ItemFacts
 mod PartitionLemmas
 mod PartitionLaw
 mod KeyLaw
+pub mod DefinitionLemmas
+pub mod InnerLemmas

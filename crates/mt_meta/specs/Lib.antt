@@ -3,6 +3,7 @@ pub mod CountReading
 pub mod ColumnsReading
 pub mod Results
 pub mod Keys
+pub mod Definitions
 pub mod KeyReading
 pub mod Minmax
 pub mod PartitionKeys

@@ -20,7 +20,7 @@ use Rattle.mt_defs.specs.Writer.{IsWritable, written_folder}
 use Rattle.mt_defs.specs.WrittenGranules.{written_granules}
 use Rattle.mt_defs.proofs.Sorted.{IsSorted-sorted_rows, All-sorted_rows, cell_count-sorted_rows, length-sorted_rows, some_sorted_rows}
 use Rattle.mt_law_written.proofs.StandLemmas.{written_stands}
-use Rattle.mt_build.proofs.InnerLemmas.{projections_kept}
+use Rattle.mt_meta.proofs.InnerLemmas.{projections_kept}
 use Rattle.mt_command.specs.Status.{◌>>=◌, refused_by, status_of_rows}
 use Rattle.mt_run.specs.Partitions.{one_partition}
 use Rattle.mt_run.specs.Write.{folder_of, rows_of}

@@ -12,7 +12,7 @@ use Rattle.mt_defs.specs.Folder.{Folder, folder_below, folder_of}
 use Rattle.mt_defs.specs.Part.{is_compact}
 use Rattle.mt_defs.specs.Projections.{inner_of, projection_prefix}
 use Rattle.mt_definition.specs.declared.accepted.Accepted.{Accepted}
-use Rattle.mt_files.specs.Definitions.{IsDefinition}
+use Rattle.mt_meta.specs.Definitions.{IsDefinition}
 use Rattle.mt_definition.specs.DefinitionReading.{definition_reading}
 use Rattle.mt_check.specs.FolderChecks.{projection_folder_in, projection_folders, projection_is_there, skip_is_there}
 use Rattle.mt_check.specs.PartFiles.{base_files, inner_files, part_files, projection_files}
@@ -21,7 +21,7 @@ use Rattle.mt_definition.proofs.AgreeLemmas.{AgreeAt, agree_split}
 use Rattle.mt_definition.proofs.AgreeOnData.{definition_same}
 use Rattle.mt_check.proofs.AgreeOnChecks.{there_same}
 use Rattle.mt_check.proofs.ReadLemmas.{agrees, base_layout, inner_layout, order_read}
-use Rattle.mt_files.proofs.TableLemmas.{projections_checked}
+use Rattle.mt_meta.proofs.InnerLemmas.{projections_are}
 use Rattle.mt_show.specs.declared.shape.Shape.{Shape}
 use Rattle.mt_show.specs.declared.shape.Size.{Size}
 use Rattle.mt_show.specs.Shape.{order_in, order_or_none, shape_in, size_in, size_or_none, sizes_in, skips_in}
@@ -86,4 +86,4 @@ shape_same table folder names =
     ap (λ compact. shape_by compact (order_in table read) (skips_in table read) sizes) (base_layout table folder)
     ∙ ap (λ (r : Result (List ℕ) Fault). shape_by (is_compact folder) (order_or_none r) (skips_in table read) sizes) (order_read table folder)
     ∙ ap (λ (skips : List Bool). shape_by (is_compact folder) (order_in table folder) skips sizes) (skips_same table folder)
-    ∙ ap (λ (ss : List (Option Size)). shape_by (is_compact folder) (order_in table folder) (skips_in table folder) ss) (sizes_same table folder names table.projections (projections_checked table))
+    ∙ ap (λ (ss : List (Option Size)). shape_by (is_compact folder) (order_in table folder) (skips_in table folder) ss) (sizes_same table folder names table.projections (projections_are table))

@@ -21,13 +21,13 @@ use Rattle.mt_files.specs.OwnNames.{own_names, skip_names_in}
 use Rattle.mt_files.specs.NamedFiles.{part_folder}
 use Rattle.mt_files.proofs.ListingLemmas.{listed_there}
 use Rattle.mt_files.proofs.PlaceLemmas.{listed_profile}
-use Rattle.mt_files.proofs.TableLemmas.{base_checked}
+use Rattle.mt_meta.proofs.DefinitionLemmas.{base_is}
 
 -- the columns at some places of a table are of the profile
 pub places_profile : (table : Table) (columns : List Column) (order : List ℕ) → list_all (is_place table.columns) order ≡ true → columns ≡ map (column_at table.columns) order → All (λ column. IsTrue (is_profile column.ty)) columns
 places_profile table columns order there are =
     subst (All (λ (column : Column). IsTrue (is_profile column.ty))) (sym are)
-    (listed_profile table.columns order (λ i d inside. place_within table.columns order i d there inside) (base_checked table).profile)
+    (listed_profile table.columns order (λ i d inside. place_within table.columns order i d there inside) (base_is table).columns.profile)
 
 abbrev names_by : List ℕ → List Column → Bool → List (List ℕ)
 names_by prefix columns compact = map (λ name. prefix ++ name) (own_names columns compact ++ side_names)
@@ -44,10 +44,10 @@ names_below table folder projection prefix definition columns compact own prefix
 -- all of them, as they are put together
 pub all_known : (table : Table) (order : List ℕ) (folder : Folder) (compact : Bool) (all skips partition base : List (List ℕ)) → compact ≡ is_compact folder → base ≡ own_names (map (column_at table.columns) order) compact ++ side_names
     → partition ≡ base ++ partition_names table → skips ≡ partition ++ flat_map (skip_names_in compact) table.skips → all ≡ skips ++ flat_map (projection_names table folder) table.projections → all ≡ known_names table order folder
-all_known table order folder compact all skips partition base kind base_is partition_is skips_are all_are =
+all_known table order folder compact all skips partition base kind own_is partition_is skips_are all_are =
     let indexes = flat_map (skip_names_in compact) table.skips in
     let inner = flat_map (projection_names table folder) table.projections in
-    all_are ∙ ap (λ (names : List (List ℕ)). names ++ inner) (skips_are ∙ ap (λ (names : List (List ℕ)). names ++ indexes) (partition_is ∙ ap (λ (names : List (List ℕ)). names ++ partition_names table) base_is))
+    all_are ∙ ap (λ (names : List (List ℕ)). names ++ inner) (skips_are ∙ ap (λ (names : List (List ℕ)). names ++ indexes) (partition_is ∙ ap (λ (names : List (List ℕ)). names ++ partition_names table) own_is))
     ∙ ap (λ b. (own_names (map (column_at table.columns) order) b ++ side_names) ++ partition_names table ++ flat_map (skip_names_in b) table.skips ++ inner) kind
 
 -- ---- what a listing tells of them

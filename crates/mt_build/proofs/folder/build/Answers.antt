@@ -3,8 +3,8 @@ use Rattle.std.specs.Prelude.{IfOk}
 use Rattle.mt_fault.specs.declared.file.FileBytes.{FileBytes}
 use Rattle.mt_defs.specs.Granules.{AreGranules}
 use Rattle.mt_defs.specs.WrittenGranules.{is_small, written_granules}
-use Rattle.mt_build.specs.Definitions.{IsDefinition}
-use Rattle.mt_build.proofs.DefinitionLemmas.{base_is}
+use Rattle.mt_meta.specs.Definitions.{IsDefinition}
+use Rattle.mt_meta.proofs.DefinitionLemmas.{base_is}
 use Rattle.mt_layout.proofs.HoldLemmas.{granules_hold}
 use Rattle.mt_build.proofs.AppendLemmas.{folder_is}
 use Rattle.mt_build.proofs.folder.build.Goals as goal

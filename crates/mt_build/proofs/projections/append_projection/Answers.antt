@@ -5,9 +5,9 @@ use Rattle.mt_table.specs.Stored.{no_projection, projection_at}
 use Rattle.mt_defs.specs.Projections.{inner_of}
 use Rattle.mt_defs.specs.Rows.{RowFits}
 use Rattle.mt_defs.specs.Writer.{file_below, projection_rows}
-use Rattle.mt_build.specs.Definitions.{IsDefinition}
+use Rattle.mt_meta.specs.Definitions.{IsDefinition}
 use Rattle.mt_build.proofs.AppendLemmas.{projection_appended}
-use Rattle.mt_build.proofs.InnerLemmas.{inner_is, projections_kept}
+use Rattle.mt_meta.proofs.InnerLemmas.{inner_is, projections_kept}
 use Rattle.mt_build.proofs.ProjectionRowLemmas.{projection_fits}
 use Rattle.mt_build.proofs.projections.append_projection.Goals as goal
 

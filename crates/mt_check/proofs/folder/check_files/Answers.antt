@@ -11,7 +11,8 @@ use Rattle.mt_check.specs.PartitionReading.{partition_reading}
 use Rattle.mt_fault.specs.Results.{FailsAs}
 use Rattle.mt_check.proofs.FolderLemmas.{as_folders, skips_fail, projections_fail, files_accepted}
 use Rattle.mt_check.proofs.PartitionLaw.{partition_holds}
-use Rattle.mt_files.proofs.TableLemmas.{partition_checked, projections_checked, skips_checked}
+use Rattle.mt_meta.proofs.InnerLemmas.{projections_are}
+use Rattle.mt_files.proofs.TableLemmas.{partition_checked, skips_checked}
 use Rattle.mt_check.proofs.folder.check_files.Goals as goal
 
 pub check_partition-requires-clause-key : goal.check_partition-requires-clause-key
@@ -32,7 +33,7 @@ returns-in_err-check_skips-clause-gives c =
     (subst (λ (fs : List FileBytes). FailsAs c.in_err-check_skips.field-0.0 (each (skip_checks table (folder_of fs) accepted) table.skips)) c.as_slice-3.ensures c.in_err-check_skips.ensures))
 
 pub check_projections-requires-clause-table : goal.check_projections-requires-clause-table
-check_projections-requires-clause-table c = projections_checked c.args.table.now
+check_projections-requires-clause-table c = projections_are c.args.table.now
 
 pub returns-in_err-check_projections-clause-gives : goal.returns-in_err-check_projections-clause-gives
 returns-in_err-check_projections-clause-gives c =

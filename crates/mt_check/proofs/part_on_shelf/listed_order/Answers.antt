@@ -1,8 +1,8 @@
 use Rattle.std.proofs.Common.{◌≤◌, length, subst, sym}
 use Rattle.mt_table.specs.declared.definition.PartDef.{PartDef}
 use Rattle.mt_table.specs.declared.limits.TheConstants.{MAX_COLUMNS}
-use Rattle.mt_files.proofs.TableLemmas.{base_checked}
+use Rattle.mt_meta.proofs.DefinitionLemmas.{base_is}
 use Rattle.mt_check.proofs.part_on_shelf.listed_order.Goals as goal
 
 pub read_order-requires : goal.read_order-requires
-read_order-requires c = subst (λ (definition : PartDef). length definition.columns ≤ MAX_COLUMNS) (sym c.in-Ok.ensures) (base_checked c.args.table.now).few
+read_order-requires c = subst (λ (definition : PartDef). length definition.columns ≤ MAX_COLUMNS) (sym c.in-Ok.ensures) (base_is c.args.table.now).columns.few

@@ -46,7 +46,7 @@ read_data-requires-clause-few c =
     let size : length c.as_slice-3.result.now ≡ length order =
     ap length (c.as_slice-3.ensures ∙ c.in-Ok.ensures) ∙ length-map c.as_slice-2.result.now (column_at c.as_slice.result.now) ∙ ap length c.as_slice-2.ensures in
     let fewer = listed_few c.args.definition.now.columns c.args.definition.now.must order c.in_ok-order.ensures.listed in
-    let few = c.requires.few in
+    let few = c.requires.columns.few in
     omega (arith, size, fewer, few)
 
 pub read_data-requires-clause-cells : goal.read_data-requires-clause-cells
@@ -61,7 +61,7 @@ pub read_data-requires-clause-profile : goal.read_data-requires-clause-profile
 read_data-requires-clause-profile c =
     let columns = c.args.definition.now.columns in
     let ordered = c.as_slice-3.ensures ∙ c.in-Ok.ensures ∙ ap (λ (cs : List Column). map (column_at cs) c.as_slice-2.result.now) c.as_slice.ensures ∙ ap (map (column_at columns)) c.as_slice-2.ensures in
-    subst (All (λ column. IsTrue (is_profile column.ty))) (sym ordered) (listed_profile columns c.in_ok-order.order (listed columns c.args.definition.now.must c.in_ok-order.order c.in_ok-order.ensures.listed).known c.requires.profile)
+    subst (All (λ column. IsTrue (is_profile column.ty))) (sym ordered) (listed_profile columns c.in_ok-order.order (listed columns c.args.definition.now.must c.in_ok-order.order c.in_ok-order.ensures.listed).known c.requires.columns.profile)
 
 pub returns-in_err-rows-clause-gives : goal.returns-in_err-rows-clause-gives
 returns-in_err-rows-clause-gives c =

@@ -2,11 +2,12 @@ use Rattle.std.proofs.Common.{List, sym, subst}
 use Rattle.std.specs.Prelude.{All, IsTrue}
 use Rattle.mt_types.specs.Profile.{is_profile}
 use Rattle.mt_table.specs.declared.column.Column.{Column}
-use Rattle.mt_files.proofs.TableLemmas.{base_checked, partition_checked}
+use Rattle.mt_meta.proofs.DefinitionLemmas.{base_is}
+use Rattle.mt_files.proofs.TableLemmas.{partition_checked}
 use Rattle.mt_files.proofs.part_names.base_names.Goals as goal
 
 pub own_names-requires : goal.own_names-requires
-own_names-requires c = subst (All (λ (column : Column). IsTrue (is_profile column.ty))) (sym c.as_slice.ensures) (base_checked c.args.table.now).profile
+own_names-requires c = subst (All (λ (column : Column). IsTrue (is_profile column.ty))) (sym c.as_slice.ensures) (base_is c.args.table.now).columns.profile
 
 pub push_partition-requires : goal.push_partition-requires
 push_partition-requires c = partition_checked c.args.table.now

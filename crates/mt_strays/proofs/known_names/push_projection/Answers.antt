@@ -8,14 +8,14 @@ use Rattle.mt_table.specs.Stored.{no_projection, projection_at}
 use Rattle.mt_defs.specs.Folder.{folder_below}
 use Rattle.mt_defs.specs.Part.{is_compact}
 use Rattle.mt_files.specs.Listings.{listed_folder}
-use Rattle.mt_files.proofs.TableLemmas.{projections_checked}
+use Rattle.mt_meta.proofs.InnerLemmas.{projections_are}
 use Rattle.mt_strays.proofs.KnownLemmas.{names_below}
 use Rattle.mt_strays.proofs.known_names.push_projection.Goals as goal
 
 pub folder_names-requires : goal.folder_names-requires
 folder_names-requires c =
     subst (All (λ (column : Column). IsTrue (is_profile column.ty))) (sym (c.as_slice-2.ensures ∙ ap (λ (d : PartDef). d.columns) c.in_ok-definition.ensures))
-    (projections_checked c.args.table.now c.args.place no_projection c.requires.there).profile
+    (projections_are c.args.table.now c.args.place no_projection c.requires.there).columns.profile
 
 pub returns : goal.returns
 returns c =

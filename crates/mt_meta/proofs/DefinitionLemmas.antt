@@ -1,8 +1,9 @@
--- What the rules of a table give the writer: its base part and its projections are definitions.
-use Rattle.std.proofs.Common.{◌≡◌, ℕ, zero, suc, ◌<◌, Bool, true, List, [], ◌∷◌, length, refl, arith}
+-- What the rules of a table say of its columns and keys: what its base part stores is a definition.
+use Rattle.std.proofs.Common.{◌≡◌, ℕ, zero, suc, ◌<◌, Bool, true, List, [], ◌∷◌, length, map, refl, arith}
 use Rattle.std.specs.Prelude.{All, IsTrue, nat_le, ◌&&◌}
 use Rattle.std.specs.List.{list_all}
 use Rattle.std.proofs.lemmas.Bool.{leb-true}
+use Rattle.std.proofs.lemmas.List.{length-append}
 use Rattle.std.proofs.lemmas.List.Elements.{All-nil, All-cons, All-weaker}
 use Rattle.mt_types.specs.declared.ty.Ty.{Ty, out-Ty}
 use Rattle.mt_types.specs.declared.ty.Ty.TheOpen.{Ty-F}
@@ -14,12 +15,13 @@ use Rattle.mt_table.specs.declared.definition.Table.{Table}
 use Rattle.mt_table.specs.declared.limits.TheConstants.{MAX_COLUMNS, MAX_KEY}
 use Rattle.mt_table.specs.ColumnTypes.{is_column_type, is_key_type, is_key_at, place_has}
 use Rattle.mt_table.specs.Kept.{is_column, keeps_columns, keeps_key}
+use Rattle.mt_table.specs.Stored.{expression_column}
 use Rattle.mt_table.specs.Tables.{fields_of_table}
-use Rattle.mt_table.proofs.KeptLemmas.{each_of, primary_within}
+use Rattle.mt_table.proofs.KeptLemmas.{each_of, key_length, primary_within}
 use Rattle.mt_defs.specs.Metadata.{column_at}
 use Rattle.mt_defs.specs.Projections.{base_of}
+use Rattle.mt_meta.specs.Definitions.{AreColumns, IsDefinition}
 use Rattle.mt_meta.specs.Keys.{AreKeys}
-use Rattle.mt_files.proofs.PartDefs.{AreColumns, IsPartDef}
 
 -- ---- columns
 
@@ -88,11 +90,15 @@ keys_are columns places keeps =
 
 -- ---- the base part
 
-pub base_is : (table : Table) → IsPartDef (base_of table)
+pub base_is : (table : Table) → IsDefinition (base_of table)
 base_is table =
     let each = each_of (fields_of_table table) table.rules in
+    let some = (key_length table.columns table.sort each.sort).0 in
+    let long = length-append table.sort (map expression_column table.partition) in
     record {
       columns = columns_are table.columns each.columns;
+      listed = omega (arith, some, long);
       keys = keys_are table.columns table.sort each.sort;
+      sorted = some;
       primary = (primary_within table.sort table.primary each.primary).1;
     }

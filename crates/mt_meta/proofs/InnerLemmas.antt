@@ -30,8 +30,8 @@ use Rattle.mt_table.specs.Tables.{fields_of_table}
 use Rattle.mt_table.proofs.KeptLemmas.{each_of, key_length}
 use Rattle.mt_defs.specs.Metadata.{column_at, no_column}
 use Rattle.mt_defs.specs.Projections.{inner_of, index_in, state_column, stored_columns}
-use Rattle.mt_build.specs.Definitions.{AreColumns, IsDefinition}
-use Rattle.mt_build.proofs.DefinitionLemmas.{HasColumn, all_pass, columns_are, has_column, key_columns, key_scalar}
+use Rattle.mt_meta.specs.Definitions.{AreColumns, HasProjections, IsDefinition}
+use Rattle.mt_meta.proofs.DefinitionLemmas.{HasColumn, all_pass, columns_are, has_column, key_columns, key_scalar}
 
 -- ---- places among others
 
@@ -185,10 +185,12 @@ normal_is table name columns sort are keeps =
         few = omega (arith, size, kept, most, all, few);
         profile = places_profile table.columns stored are (stored_known table columns);
       };
+      listed = let listed = length-range_with_len 0 (length (map (column_at table.columns) stored)) in omega (arith, first, listed);
       keys = record {
         known = All-map (λ i. i < length (map (column_at table.columns) stored)) (index_in stored) sort (λ k d h. (each k d h).within);
         scalar = All-map (λ i. is_scalar (column_at (map (column_at table.columns) stored) i).ty ≡ true) (index_in stored) sort (λ k d h. (each k d h).scalar);
       };
+      sorted = let same = length-map sort (index_in stored) in omega (arith, same, some);
       primary = let same = length-map sort (index_in stored) in omega (arith, same);
     }
 
@@ -254,6 +256,7 @@ grouped_is table name keys aggs are keeps =
         few = omega (arith, size, size_firsts, size_lasts, many, few, twice);
         profile = All-append P firsts lasts (places_profile table.columns keys are known) (All-map P (state_column table) aggs (All-weaker (λ aggregate. keeps_aggregate table.columns aggregate ≡ true) (λ aggregate. P (state_column table aggregate)) (aggregate_profile table) aggs kept.kept));
       };
+      listed = let listed = length-range_with_len 0 (length (firsts ++ lasts)) in omega (arith, listed, size, size_firsts, some);
       keys = record {
         known = λ k d h. let value = get_or-range_with_len 0 n k d (omega (arith, count, h)) in omega (arith, value, count, h, size, size_firsts);
         scalar = λ k d h.
@@ -262,6 +265,7 @@ grouped_is table name keys aggs are keeps =
             let here : column_at (firsts ++ lasts) k ≡ column_at table.columns (get_or keys k 0) = get_or_append_left firsts lasts no_column k (omega (arith, size_firsts, inside)) ∙ get_or-map (column_at table.columns) keys k 0 no_column inside in
             ap (λ i. is_scalar (column_at (firsts ++ lasts) i).ty) value ∙ ap (λ (c : Column). is_scalar c.ty) here ∙ key_scalar (column_at table.columns (get_or keys k 0)).ty (has k 0 inside).passes;
       };
+      sorted = omega (arith, count, some);
       primary = omega (arith, count);
     }
 
@@ -284,3 +288,8 @@ projections_kept table =
 
 pub inner_is : (table : Table) (projection : Projection) → keeps_projection table.columns projection ≡ true → IsDefinition (inner_of table projection)
 inner_is table projection keeps = kept_is table projection (table_columns table) keeps
+
+-- what each projection of a table stores is a definition
+pub projections_are : (table : Table) → HasProjections table
+projections_are table =
+    All-weaker (λ projection. keeps_projection table.columns projection ≡ true) (λ projection. IsDefinition (inner_of table projection)) (inner_is table) table.projections (projections_kept table)
