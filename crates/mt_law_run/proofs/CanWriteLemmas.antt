@@ -17,8 +17,8 @@ use Rattle.mt_command.specs.Tables.{table_in}
 use Rattle.mt_command.specs.Targets.{few_cells, folder_bytes, within_limit}
 use Rattle.mt_command.specs.declared.limits.TheConstants.{MAX_FOLDER, MAX_INPUT}
 use Rattle.mt_command.specs.declared.status.Status.{Status}
-use Rattle.mt_run.specs.Partitions.{are_together, no_other, one_partition, other_line}
-use Rattle.mt_run.specs.Write.{folder_for, folder_in, folder_of, input_text, rows_of, some_input, table_for}
+use Rattle.mt_writing.specs.Partitions.{are_together, no_other, one_partition, other_line}
+use Rattle.mt_writing.specs.Write.{folder_for, folder_in, folder_of, input_text, rows_of, some_input, table_for}
 use Rattle.mt_law_run.specs.Published.{CanWrite}
 
 -- no line is of another partition

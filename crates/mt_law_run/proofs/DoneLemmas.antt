@@ -18,7 +18,7 @@ use Rattle.mt_command.specs.declared.status.Status.TheVariants.{Done}
 use Rattle.mt_merging.specs.Inputs.{are_ready, folder_of, with_input}
 use Rattle.mt_merging.specs.Merge.{input_steps, inputs_steps, merge_steps, merge_table_steps}
 use Rattle.mt_trial.specs.Trial.{PrintsTrial, trial_text}
-use Rattle.mt_run.specs.Write.{folder_for, folder_in, table_for, write_plan}
+use Rattle.mt_writing.specs.Write.{folder_for, folder_in, table_for, write_plan}
 use Rattle.mt_law_run.specs.Endings.{FellShort}
 use Rattle.mt_law_run.proofs.KnownLemmas.{at_some, outside_fell, plan_comes}
 use Rattle.mt_law_run.proofs.OnlyLemmas.{no_value, same_value}

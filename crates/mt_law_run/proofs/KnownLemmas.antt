@@ -11,7 +11,7 @@ use Rattle.mt_command.specs.Status.{is_outside}
 use Rattle.mt_command.specs.declared.status.Status.{Status}
 use Rattle.mt_command.specs.declared.status.Status.TheVariants.{Done, SourceFault, ShelfFault, SinkFault, NoMemory}
 use Rattle.mt_run.specs.Commands.{Command, Runs, Write, Check, Rows, Show, Select, Merge, Trial}
-use Rattle.mt_run.specs.Write.{write_plan}
+use Rattle.mt_writing.specs.Write.{write_plan}
 use Rattle.mt_law_run.specs.Endings.{FellShort, NoneFailed, Printed, PrintsText, ReadsInput, UsesShelf}
 use Rattle.mt_law_run.proofs.NeverLemmas.{NeverEnds}
 

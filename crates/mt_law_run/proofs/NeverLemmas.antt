@@ -31,9 +31,9 @@ use Rattle.mt_command.specs.declared.status.What.TheVariants as what
 use Rattle.mt_merging.specs.Inputs as merging
 use Rattle.mt_merging.specs.Merge.{input_steps, inputs_steps, merge_steps, merge_table_steps}
 use Rattle.mt_merging.specs.Rooms.{within_limits}
-use Rattle.mt_run.specs.Partitions.{no_other, one_partition, other_partition}
-use Rattle.mt_run.specs.Write.{folder_for, folder_in, folder_of, input_text, rows_of, some_input, table_for}
-use Rattle.mt_run.specs.Reading.{check_steps, rows_steps}
+use Rattle.mt_writing.specs.Partitions.{no_other, one_partition, other_partition}
+use Rattle.mt_writing.specs.Write.{folder_for, folder_in, folder_of, input_text, rows_of, some_input, table_for}
+use Rattle.mt_reading.specs.Reading.{check_steps, rows_steps}
 use Rattle.mt_select.specs.Select.{answer_steps, query_of, select_steps}
 use Rattle.mt_show.specs.Show.{part_text, show_steps}
 

@@ -22,7 +22,7 @@ use Rattle.mt_command.specs.declared.status.Status.{Status}
 use Rattle.mt_command.specs.declared.status.Status.TheVariants.{AtFault}
 use Rattle.mt_select.specs.Select.{query_of, select_steps}
 use Rattle.mt_show.specs.Show.{show_steps}
-use Rattle.mt_run.specs.Reading.{accepted_line, check_steps, rows_steps}
+use Rattle.mt_reading.specs.Reading.{accepted_line, check_steps, rows_steps}
 use Rattle.mt_law_run.specs.Endings.{FellShort, Printed}
 use Rattle.mt_law_run.specs.Parts.{HasPart, shown_text}
 use Rattle.mt_law_run.proofs.KnownLemmas.{CameTo, came_to}

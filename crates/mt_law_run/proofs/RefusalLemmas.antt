@@ -28,7 +28,7 @@ use Rattle.mt_command.specs.declared.status.Status.TheVariants.{AtFault, BadQuer
 use Rattle.mt_command.specs.declared.status.What.TheVariants as what
 use Rattle.mt_select.specs.Select.{answer_steps, query_of, select_steps}
 use Rattle.mt_show.specs.Show.{listed_text, part_text, show_steps}
-use Rattle.mt_run.specs.Reading.{accepted_line, check_steps, rows_steps}
+use Rattle.mt_reading.specs.Reading.{accepted_line, check_steps, rows_steps}
 use Rattle.mt_law_run.specs.Endings.{FellShort, Printed}
 use Rattle.mt_law_run.specs.Parts.{FirstFault, HasFiles, HasPart, IsAtFault, Read, StandsForNone, shown_text}
 use Rattle.mt_law_run.proofs.KnownLemmas.{CameTo, came_to}

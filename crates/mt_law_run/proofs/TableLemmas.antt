@@ -28,8 +28,8 @@ use Rattle.mt_merging.specs.Merge.{merge_steps, merge_table_steps}
 use Rattle.mt_select.specs.Select.{select_steps}
 use Rattle.mt_show.specs.Show.{show_steps}
 use Rattle.mt_run.specs.Commands.{Command, Runs, Write, Check, Rows, Show, Select, Merge, Trial}
-use Rattle.mt_run.specs.Reading.{accepted_line, check_steps, rows_steps}
-use Rattle.mt_run.specs.Write.{write_plan}
+use Rattle.mt_reading.specs.Reading.{accepted_line, check_steps, rows_steps}
+use Rattle.mt_writing.specs.Write.{write_plan}
 use Rattle.mt_law_run.specs.Endings.{FellShort, ReadsInput}
 use Rattle.mt_law_run.specs.Tables.{FileDefines, ReadsTable}
 use Rattle.mt_law_run.proofs.KnownLemmas.{CameTo, at_some, came_to, fell_or, outside_fell, plan_comes}

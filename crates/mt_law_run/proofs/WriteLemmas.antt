@@ -22,9 +22,9 @@ use Rattle.mt_command.specs.declared.limits.TheConstants.{MAX_INPUT}
 use Rattle.mt_command.specs.declared.status.Status.{Status}
 use Rattle.mt_command.specs.declared.status.Status.TheVariants.{Done, TooMuch}
 use Rattle.mt_command.specs.declared.status.What.TheVariants as what
-use Rattle.mt_run.specs.Partitions.{one_partition}
-use Rattle.mt_run.specs.Write.{folder_for, folder_in, folder_of, input_text, rows_of, some_input, table_for, write_plan}
-use Rattle.mt_run.proofs.PartitionLemmas.{have_one}
+use Rattle.mt_writing.specs.Partitions.{one_partition}
+use Rattle.mt_writing.specs.Write.{folder_for, folder_in, folder_of, input_text, rows_of, some_input, table_for, write_plan}
+use Rattle.mt_writing.proofs.PartitionLemmas.{have_one}
 use Rattle.mt_law_run.specs.Published.{Wrote}
 use Rattle.mt_law_run.proofs.GainedLemmas.{WriterLaws, gained}
 use Rattle.mt_law_run.proofs.KnownLemmas.{both}

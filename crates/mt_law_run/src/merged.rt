@@ -11,7 +11,7 @@ ghost use Rattle.mt_command.specs.Plans.{World};
 ghost use Rattle.mt_command.specs.declared.status.Status.{Status};
 ghost use Rattle.mt_command.specs.declared.status.Status.TheVariants.{Done};
 ghost use Rattle.mt_run.specs.Commands.{Runs, Check, Merge, Rows, Select, Show};
-ghost use Rattle.mt_run.specs.Reading.{accepted_line};
+ghost use Rattle.mt_reading.specs.Reading.{accepted_line};
 ghost use Rattle.mt_run.specs.Words.{are_inputs};
 ghost use Rattle.mt_law_run.specs.Endings.{FellShort, Printed};
 ghost use Rattle.mt_law_run.specs.Parts.{shown_text};

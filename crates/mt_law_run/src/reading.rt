@@ -13,7 +13,7 @@ ghost use Rattle.mt_command.specs.Plans.{World};
 ghost use Rattle.mt_command.specs.declared.status.Status.{Status};
 ghost use Rattle.mt_command.specs.declared.status.Status.TheVariants.{AtFault, Done};
 ghost use Rattle.mt_run.specs.Commands.{Runs, Check, Rows, Select, Show};
-ghost use Rattle.mt_run.specs.Reading.{accepted_line};
+ghost use Rattle.mt_reading.specs.Reading.{accepted_line};
 ghost use Rattle.mt_law_run.specs.Endings.{FellShort, Printed};
 ghost use Rattle.mt_law_run.specs.Parts.{FirstFault, HasFiles, HasPart, IsAtFault, Read, StandsForNone, shown_text};
 

@@ -1,8 +1,3 @@
-pub mod Completeness
-pub mod InputLemmas
-pub mod PartitionLemmas
-pub mod ReadingLemmas
-pub mod Reported
-pub mod WordLemmas
-pub mod WriteLemmas
-pub mod WrittenParts
+mod InputLemmas
+mod Reported
+mod WordLemmas

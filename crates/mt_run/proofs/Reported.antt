@@ -1,12 +1,8 @@
 -- What stays true as the status of a command is reported.
-use Rattle.std.proofs.Common.{◌≡◌, ◌⊎◌, inl, inr, ℕ, true, List, length, Option, Some, None, Ok, refl, ap, sym, ◌∙◌, subst}
-use Rattle.std.proofs.Math.Seq.{take-length}
-use Rattle.std.specs.Io.KnownBytes.{append_known}
-use Rattle.mt_shelf.specs.Streams.{GrowsByPrefix}
-use Rattle.mt_shelf.specs.Causes.{Rose}
+use Rattle.std.proofs.Common.{◌≡◌, ◌⊎◌, inl, inr, ℕ, true, Option, Some, None, Ok, ap, sym, ◌∙◌, subst}
 use Rattle.mt_command.specs.Plans.{World}
 use Rattle.mt_command.specs.declared.status.Status.{Status}
-use Rattle.mt_command.specs.declared.status.Status.TheVariants.{Done, AtFault, BadWords, NoTable, NoPart, BadTable, BadQuery, Exists, NoRows, BadRows, ManyPartitions, MixedPartitions, TooMuch, SourceFault, ShelfFault, SinkFault, NoMemory}
+use Rattle.mt_command.specs.declared.status.Status.TheVariants.{Done, ShelfFault, NoMemory}
 use Rattle.mt_command.specs.Outcomes.{gives}
 use Rattle.mt_command.proofs.ReportedLemmas.{performs_reported, prints_reported, publishes_reported}
 use Rattle.mt_merging.specs.Merge.{merge_steps}
@@ -15,9 +11,9 @@ use Rattle.mt_show.specs.Show.{show_steps}
 use Rattle.mt_command.specs.Status.{is_outside}
 use Rattle.mt_trial.specs.Trial.{PrintsTrial, trial_text}
 use Rattle.mt_run.specs.Commands.{Command, Write, Check, Rows, Show, Select, Merge, Trial, Runs}
-use Rattle.mt_run.specs.Notes.{Noted, IsReported, line_of}
-use Rattle.mt_run.specs.Reading.{check_steps, rows_steps}
-use Rattle.mt_run.specs.Write.{write_plan}
+use Rattle.mt_note.specs.Notes.{IsReported}
+use Rattle.mt_reading.specs.Reading.{check_steps, rows_steps}
+use Rattle.mt_writing.specs.Write.{write_plan}
 
 -- ---- a trial
 
@@ -53,48 +49,3 @@ runs_reported (Some (Show table part)) old new status reported is runs = prints_
 runs_reported (Some (Select table part query)) old new status reported is runs = prints_reported (select_steps table part query) old new status reported is runs
 runs_reported (Some (Merge table target inputs)) old new status reported is runs = publishes_reported target (merge_steps table target inputs) old new status reported is runs
 runs_reported (Some (Trial number rows)) old new status reported is runs = trial_reported number rows old new status reported is runs
-
--- ---- the notes
-
-pub whole_prefix : (line : List ℕ) (old new : Option (List ℕ)) → new ≡ append_known old line → GrowsByPrefix line old new
-whole_prefix line old new is = (length line, is ∙ ap (append_known old) (sym (take-length line)))
-
--- the whole line was written
-pub noted_whole : (status : Status) (old new : Option (List ℕ)) (before now : ℕ) → ¬ (status ≡ Done) → new ≡ append_known old (line_of status) → Noted status old new before now
-noted_whole Done old new before now refused is = absurd (refused refl)
-noted_whole NoMemory old new before now refused is = (NoMemory, whole_prefix _ old new is)
-noted_whole BadWords old new before now refused is = (whole_prefix _ old new is, inr is)
-noted_whole (AtFault part fault) old new before now refused is = (whole_prefix _ old new is, inr is)
-noted_whole NoTable old new before now refused is = (whole_prefix _ old new is, inr is)
-noted_whole (NoPart part) old new before now refused is = (whole_prefix _ old new is, inr is)
-noted_whole (BadTable why) old new before now refused is = (whole_prefix _ old new is, inr is)
-noted_whole (BadQuery why) old new before now refused is = (whole_prefix _ old new is, inr is)
-noted_whole Exists old new before now refused is = (whole_prefix _ old new is, inr is)
-noted_whole NoRows old new before now refused is = (whole_prefix _ old new is, inr is)
-noted_whole (BadRows line why) old new before now refused is = (whole_prefix _ old new is, inr is)
-noted_whole (ManyPartitions line) old new before now refused is = (whole_prefix _ old new is, inr is)
-noted_whole (MixedPartitions input) old new before now refused is = (whole_prefix _ old new is, inr is)
-noted_whole (TooMuch what limit) old new before now refused is = (whole_prefix _ old new is, inr is)
-noted_whole SourceFault old new before now refused is = (whole_prefix _ old new is, inr is)
-noted_whole ShelfFault old new before now refused is = (whole_prefix _ old new is, inr is)
-noted_whole SinkFault old new before now refused is = (whole_prefix _ old new is, inr is)
-
--- a prefix of it was written, where the notes failed
-pub noted_prefix : (status : Status) (old new : Option (List ℕ)) (before now : ℕ) → ¬ (status ≡ Done) → Rose before now → GrowsByPrefix (line_of status) old new → Noted status old new before now
-noted_prefix Done old new before now refused rose prefix = absurd (refused refl)
-noted_prefix NoMemory old new before now refused rose prefix = (NoMemory, prefix)
-noted_prefix BadWords old new before now refused rose prefix = (prefix, inl rose)
-noted_prefix (AtFault part fault) old new before now refused rose prefix = (prefix, inl rose)
-noted_prefix NoTable old new before now refused rose prefix = (prefix, inl rose)
-noted_prefix (NoPart part) old new before now refused rose prefix = (prefix, inl rose)
-noted_prefix (BadTable why) old new before now refused rose prefix = (prefix, inl rose)
-noted_prefix (BadQuery why) old new before now refused rose prefix = (prefix, inl rose)
-noted_prefix Exists old new before now refused rose prefix = (prefix, inl rose)
-noted_prefix NoRows old new before now refused rose prefix = (prefix, inl rose)
-noted_prefix (BadRows line why) old new before now refused rose prefix = (prefix, inl rose)
-noted_prefix (ManyPartitions line) old new before now refused rose prefix = (prefix, inl rose)
-noted_prefix (MixedPartitions input) old new before now refused rose prefix = (prefix, inl rose)
-noted_prefix (TooMuch what limit) old new before now refused rose prefix = (prefix, inl rose)
-noted_prefix SourceFault old new before now refused rose prefix = (prefix, inl rose)
-noted_prefix ShelfFault old new before now refused rose prefix = (prefix, inl rose)
-noted_prefix SinkFault old new before now refused rose prefix = (prefix, inl rose)

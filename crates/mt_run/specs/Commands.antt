@@ -7,8 +7,8 @@ use Rattle.mt_merging.specs.Merge.{merge_steps}
 use Rattle.mt_select.specs.Select.{select_steps}
 use Rattle.mt_show.specs.Show.{show_steps}
 use Rattle.mt_trial.specs.Trial.{PrintsTrial}
-use Rattle.mt_run.specs.Reading.{check_steps, rows_steps}
-use Rattle.mt_run.specs.Write.{write_plan}
+use Rattle.mt_reading.specs.Reading.{check_steps, rows_steps}
+use Rattle.mt_writing.specs.Write.{write_plan}
 
 -- a command, by the words that change what it does
 pub data Command : Type 0 where

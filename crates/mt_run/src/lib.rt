@@ -3,17 +3,10 @@
 //! Its contract has each refusal in order, the effect, when faults come and what stands afterwards.
 #![tactic(auto)]
 
-mod folder;
-mod input;
-mod law;
-mod note;
-mod partition;
 mod perform;
-mod reading;
 mod top;
 mod words;
-mod write;
 
-pub use law::published_folders_stand;
 pub use mt_command::{MAX_FOLDER, MAX_INPUT, MAX_TABLE_TEXT, MAX_WORKERS, Status, What};
+pub use mt_writing::published_folders_stand;
 pub use top::run;

@@ -7,15 +7,15 @@ ghost use Rattle.mt_run.specs.Commands.{Runs};
 ghost use Rattle.mt_run.specs.Words.{check_command, command_named, command_of, merge_command, rows_command};
 ghost use Rattle.mt_run.specs.Words.{select_command, show_command, trial_command, write_command};
 
-use crate::reading::{check, rows};
 use crate::words::{are_inputs, are_paths, workers_in};
-use crate::write::write;
 use mt_command::Status;
 use mt_merging::merge;
+use mt_reading::{check, rows};
 use mt_select::select;
 use mt_shelf::{Gate, Shelf, Sink, Source};
 use mt_show::show;
 use mt_trial::{number_in, rows_in, trial};
+use mt_writing::write;
 use std::alloc::Global;
 use std::thread::Threads;
 

@@ -1,49 +1,18 @@
 //! The top call: the words' command, and then the notes.
-ghost use Rattle.std.specs.Prelude.{◌≡◌, map};
+ghost use Rattle.std.specs.Prelude.{map};
 ghost use Rattle.std.specs.String.{string_bytes};
 ghost use Rattle.mt_shelf.specs.State.{files_of};
 ghost use Rattle.mt_command.specs.Plans.{world};
 ghost use Rattle.mt_run.specs.Commands.{Runs};
-ghost use Rattle.mt_run.specs.Notes.{Noted, IsReported};
+ghost use Rattle.mt_note.specs.Notes.{Noted};
 ghost use Rattle.mt_run.specs.Words.{command_of};
 
-use crate::note::line_of;
 use crate::perform::perform;
 use mt_command::Status;
-use mt_shelf::{CallError, Gate, Shelf, Sink, Source, write_all};
+use mt_note::report;
+use mt_shelf::{Gate, Shelf, Sink, Source};
 use std::alloc::Global;
 use std::thread::Threads;
-
-/// Writes the line of a status, and gives the status of the run.
-fn report<N: Sink>(alloc: Global, notes: &mut N, status: Status) -> Status
-    ensures noted { Noted result (N.written notes.old) (N.written notes.new)
-        (N.faults notes.old) (N.faults notes.new) }
-    ensures same { IsReported status result }
-{
-    if let Status::Done = status {
-        return Status::Done;
-    }
-    let Ok(line) = line_of(alloc, &status) else {
-        return report_no_memory(notes);
-    };
-    match write_all(notes, line.as_slice()) {
-        Ok(()) => status,
-        Err(CallError::Failed) => status,
-        Err(CallError::NoMemory) => Status::NoMemory,
-    }
-}
-
-/// Writes the one line that needs no memory to be made.
-fn report_no_memory<N: Sink>(notes: &mut N) -> Status
-    ensures noted { Noted result (N.written notes.old) (N.written notes.new)
-        (N.faults notes.old) (N.faults notes.new) }
-    ensures same { result ≡ Status.NoMemory }
-{
-    match write_all(notes, b"mtpart: no memory\n") {
-        Ok(()) => Status::NoMemory,
-        Err(_) => Status::NoMemory,
-    }
-}
 
 /// Does all that the program does: the words' command, and then the note of a status that isn't `Done`.
 ///

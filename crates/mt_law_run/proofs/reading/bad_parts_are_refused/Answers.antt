@@ -1,4 +1,4 @@
-use Rattle.mt_run.specs.Reading.{check_steps, rows_steps}
+use Rattle.mt_reading.specs.Reading.{check_steps, rows_steps}
 use Rattle.mt_select.specs.Select.{select_steps}
 use Rattle.mt_show.specs.Show.{show_steps}
 use Rattle.mt_law_run.proofs.RefusalLemmas.{check_gave, check_refused, none_refused, rows_gave, rows_refused, select_gave, select_plain, show_gave, show_refused, was_accepted}

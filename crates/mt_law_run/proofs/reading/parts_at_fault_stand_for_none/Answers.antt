@@ -1,4 +1,4 @@
-use Rattle.mt_run.specs.Reading.{check_steps, rows_steps}
+use Rattle.mt_reading.specs.Reading.{check_steps, rows_steps}
 use Rattle.mt_select.specs.Select.{select_steps}
 use Rattle.mt_show.specs.Show.{show_steps}
 use Rattle.mt_command.specs.declared.status.Status.TheVariants.{AtFault}

@@ -1,4 +1,4 @@
-use Rattle.mt_run.specs.Reading.{check_steps, rows_steps}
+use Rattle.mt_reading.specs.Reading.{check_steps, rows_steps}
 use Rattle.mt_select.specs.Select.{select_steps}
 use Rattle.mt_show.specs.Show.{show_steps}
 use Rattle.mt_law_run.proofs.NeverLemmas.{check_ends, rows_end, select_ends, show_ends}

@@ -1,6 +1,6 @@
 use Rattle.std.proofs.Common.{[], refl}
 use Rattle.mt_command.specs.Commands.{printing_plan, publishing_plan}
-use Rattle.mt_run.specs.Write.{folder_in, write_plan}
+use Rattle.mt_writing.specs.Write.{folder_in, write_plan}
 use Rattle.mt_law_run.proofs.KeptLemmas.{files_stay, keeps}
 use Rattle.mt_law_run.proofs.staying.other_parts_stay_as_they_were.Goals as goal
 

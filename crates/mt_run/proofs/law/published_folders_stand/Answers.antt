@@ -1,5 +1,0 @@
-use Rattle.mt_run.proofs.WrittenParts.{parts_stand}
-use Rattle.mt_run.proofs.law.published_folders_stand.Goals as goal
-
-pub returns : goal.returns
-returns c = parts_stand

@@ -1,9 +1,0 @@
-use Rattle.mt_run.proofs.Reported.{whole_prefix}
-use Rattle.mt_command.specs.declared.status.Status.TheVariants.{NoMemory}
-use Rattle.mt_run.proofs.top.report_no_memory.Goals as goal
-
-pub returns-in-Ok-clause-noted : goal.returns-in-Ok-clause-noted
-returns-in-Ok-clause-noted g c = (NoMemory, whole_prefix _ _ _ c.in-Ok.ensures.ok)
-
-pub returns-in-Err-clause-noted : goal.returns-in-Err-clause-noted
-returns-in-Err-clause-noted g c = (NoMemory, c.in-Err.ensures.err)

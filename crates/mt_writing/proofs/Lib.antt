@@ -1,0 +1,3 @@
+pub mod PartitionLemmas
+mod WriteLemmas
+mod WrittenParts
