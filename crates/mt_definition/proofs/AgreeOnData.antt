@@ -107,7 +107,7 @@ data_by_same : (f g : Folder) (definition : PartDef) (order : List ℕ) (count :
     → data_by compact f count (map (column_at definition.columns) order) ≡ data_by compact g count (map (column_at definition.columns) order)
 data_by_same f g definition order count true is all = compact_same f g count (map (column_at definition.columns) order) all.0 all.1.0
 data_by_same f g definition order count false is all =
-    let some = is.columns.some in
+    let some = is.some in
     let same = placed_length definition.columns order in
     wide_same f g count (map (column_at definition.columns) order) (omega (arith, same, some)) (each_column f g definition.columns order all is.below)
 
