@@ -183,8 +183,8 @@ fn is_lost(cond: &Cond, rows: &[Row], lo: usize, hi: usize) -> bool {
     if may_hold(cond, &key_columns(), &key(lo), &key(hi)) {
         return false;
     }
-    for row in lo..rows.len().min(hi + 1) {
-        if truth_on(cond, rows, row) == Some(true) {
+    for row in lo..rows.len() {
+        if row <= hi && truth_on(cond, rows, row) == Some(true) {
             return true;
         }
     }
