@@ -25,7 +25,8 @@ use std::cmp::Ordering;
 fn may_be(cond: &Cond, walk: Walk<'_>) -> bool
     ensures { result ≡ box_may cond.now walk.entry.key.now (walk_spans walk.entry) }
 {
-    mask_by(cond, Sides::Covering(walk)).may_true
+    let sides = Sides::Covering(walk);
+    mask_by(cond, &sides).may_true
 }
 
 /// Whether the box of some fixed values and an interval isn't empty and may be true.

@@ -7,13 +7,13 @@ ghost use Rattle.mt_defs.specs.Rows.{Row, RowFits};
 ghost use Rattle.mt_query.specs.Truth.{truth_of};
 ghost use Rattle.mt_query.specs.Suits.{cond_suits};
 ghost use Rattle.mt_cond.specs.Intervals.{between_sides, interval_at, lies_in};
-ghost use Rattle.mt_cond.specs.Masks.{allows, any_pair, mask_by, mask_of};
+ghost use Rattle.mt_cond.specs.Masks.{allows, any_pair, cmp_mask, in_mask, mask_by, mask_of, sided, starts_mask};
 ghost use Rattle.mt_cond.specs.Views.{box_of, interval_of};
 
 use crate::bounds::{Bounds, between};
 use crate::types::{MaskPair, Side};
 use crate::walk::Walk;
-use mt_query::Cond;
+use mt_query::{Cond, Op};
 use mt_types::Value;
 
 /// A box, wherever its values stand.
@@ -50,6 +50,39 @@ impl<'a> Sides<'a> {
             Sides::Covering(walk) => walk.side(column),
         }
     }
+
+    /// The mask of a comparison with a column.
+    #[inline(never)]
+    fn cmp_mask(&self, column: u32, op: Op, literal: &Value) -> MaskPair
+        ensures { result ≡ sided (λ i. cmp_mask op i literal.now) (box_of self.now column) }
+    {
+        match self.at(column) {
+            Some(bounds) => bounds.cmp_mask(op, literal),
+            None => any_pair(),
+        }
+    }
+
+    /// The mask of IN of a column.
+    #[inline(never)]
+    fn in_mask(&self, column: u32, literals: &[Value]) -> MaskPair
+        ensures { result ≡ sided (λ i. in_mask i literals.now) (box_of self.now column) }
+    {
+        match self.at(column) {
+            Some(bounds) => bounds.in_mask(literals),
+            None => any_pair(),
+        }
+    }
+
+    /// The mask of startsWith of a column.
+    #[inline(never)]
+    fn starts_mask(&self, column: u32, prefix: &[u8]) -> MaskPair
+        ensures { result ≡ sided (starts_mask prefix.now) (box_of self.now column) }
+    {
+        match self.at(column) {
+            Some(bounds) => bounds.starts_mask(prefix),
+            None => any_pair(),
+        }
+    }
 }
 
 fn any_pair() -> MaskPair
@@ -61,27 +94,19 @@ fn any_pair() -> MaskPair
     }
 }
 
-/// What a condition can be on the rows of a box.
-pub fn mask_by(cond: &Cond, sides: Sides<'_>) -> MaskPair
-    ensures { result ≡ mask_by cond.now (box_of sides.entry) }
+/// What a condition can be on the rows of a box. A condition may be joined of some 9,000, so a call takes
+/// little of the stack: the box is lent, and the masks of single conditions aren't inlined.
+pub fn mask_by(cond: &Cond, sides: &Sides<'_>) -> MaskPair
+    ensures { result ≡ mask_by cond.now (box_of sides.now) }
 {
     match cond {
         Cond::Cmp {
             column,
             op,
             literal,
-        } => match sides.at(*column) {
-            Some(bounds) => bounds.cmp_mask(*op, literal),
-            None => any_pair(),
-        },
-        Cond::OneOf { column, literals } => match sides.at(*column) {
-            Some(bounds) => bounds.in_mask(literals.as_slice()),
-            None => any_pair(),
-        },
-        Cond::Starts { column, prefix } => match sides.at(*column) {
-            Some(bounds) => bounds.starts_mask(prefix.as_slice()),
-            None => any_pair(),
-        },
+        } => sides.cmp_mask(*column, *op, literal),
+        Cond::OneOf { column, literals } => sides.in_mask(*column, literals.as_slice()),
+        Cond::Starts { column, prefix } => sides.starts_mask(*column, prefix.as_slice()),
         Cond::IsNull { .. } | Cond::Has { .. } => any_pair(),
         Cond::And(a, b) => {
             let a = mask_by(a.get(), sides);
@@ -119,7 +144,8 @@ pub fn mask(cond: &Cond, sides: &[Side]) -> MaskPair
         → IsTrue (cond_suits columns cond.now) → RowFits columns row
         → IsTrue (lies_in sides.now row) → IsTrue (allows result (truth_of cond.now row)) }
 {
-    mask_by(cond, Sides::Given(sides))
+    let sides = Sides::Given(sides);
+    mask_by(cond, &sides)
 }
 
 /// The same of the box of one column, whose values are between two, both inside. It takes no memory.
@@ -130,5 +156,6 @@ pub fn mask_between(cond: &Cond, column: u32, low: &Value, high: &Value) -> Mask
         → IsTrue (lies_in (between_sides column low.now high.now) row)
         → IsTrue (allows result (truth_of cond.now row)) }
 {
-    mask_by(cond, Sides::One(column, between(low, high)))
+    let sides = Sides::One(column, between(low, high));
+    mask_by(cond, &sides)
 }
