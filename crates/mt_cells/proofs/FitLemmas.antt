@@ -1,10 +1,10 @@
 -- Which values items stand for.
-use Rattle.std.proofs.Common.{◌≡◌, ℕ, ℤ, Bool, true, false, ◌<◌, List, [], length, get_or, map, refl, ap, sym, ◌∙◌, arith}
+use Rattle.std.proofs.Common.{◌≡◌, ℕ, ℤ, Bool, true, false, ◌<◌, List, [], ◌∷◌, length, get_or, map, refl, ap, sym, ◌∙◌, arith}
 use Rattle.std.proofs.lemmas.List.{get_or-map, length-map}
-use Rattle.std.specs.Prelude.{◌&&◌, ◌==◌, nat_le}
+use Rattle.std.specs.Prelude.{◌&&◌, ◌==◌, nat_le, not}
 use Rattle.std.specs.Borrow.{Bor}
 use Rattle.std.specs.List.{list_all}
-use Rattle.std.proofs.lemmas.Bool.{and_parts, eqb-true}
+use Rattle.std.proofs.lemmas.Bool.{and_from, and_parts, eqb-true}
 use Rattle.mt_types.specs.Bytes.{is_byte}
 use Rattle.mt_types.specs.declared.limits.TheConstants.{MAX_TEXT}
 use Rattle.mt_types.specs.declared.ty.Width.{Width}
@@ -15,7 +15,7 @@ use Rattle.mt_types.specs.declared.value.AggState.{AggState}
 use Rattle.mt_types.specs.declared.value.AggState.TheVariants.{Count}
 use Rattle.mt_types.specs.declared.value.Value.{Value, out-Value}
 use Rattle.mt_types.specs.declared.value.Value.TheOpen.{Value-F}
-use Rattle.mt_types.specs.declared.value.Value.TheVariants.{Null, Text, outs-State, outs-Text}
+use Rattle.mt_types.specs.declared.value.Value.TheVariants.{Null, State, Text, outs-State, outs-Text}
 use Rattle.mt_types.specs.Defaults.{default_of, default_at}
 use Rattle.mt_types.specs.Fits.{Level, bits, fits_of, is_signed, natural_at, num_at, state_at, text_at}
 use Rattle.mt_types.specs.Parts.{text_in}
@@ -26,14 +26,14 @@ use Rattle.mt_cells.specs.declared.kind.Kind.{Kind}
 use Rattle.mt_cells.specs.declared.kind.Kind.TheVariants as kind
 use Rattle.mt_cells.specs.declared.seen.Seen.{Seen}
 use Rattle.mt_cells.specs.declared.seen.Seen.TheVariants as seen
-use Rattle.mt_cells.specs.Items.{ItemKind, OfCells, OfStates, OfTexts, default_item, fits_items}
+use Rattle.mt_cells.specs.Items.{ItemKind, OfCells, OfStates, OfTexts, default_item, fits_items, huge_at, is_item, is_narrow_kind, is_no_huge}
 use Rattle.mt_cells.specs.Kinds.{type_of}
 use Rattle.mt_cells.specs.Seen.{value_seen}
 use Rattle.mt_cells.proofs.NumberLemmas.{IsItemOf}
 use Rattle.mt_cells.proofs.SeenLemmas.{level_seen, out_seen}
 
 -- whether one level of a value is of the kind
-abbrev level_fits : Kind → Level → Bool
+abbrev pub level_fits : Kind → Level → Bool
 level_fits (kind.Unsigned w) level = natural_at w level
 level_fits (kind.Signed w) level = num_at (is_signed (bits w)) level
 level_fits (kind.Text size) level = text_at (λ bytes. length bytes == size && list_all is_byte bytes) level
@@ -170,3 +170,44 @@ default_text_at texts i h =
       (λ e. at ∙ ap Text e ∙ sym default_text),
       (λ e. text_same (get_or texts i []) [] (sym at ∙ e ∙ default_text)),
     )
+
+-- ---- all items
+
+all_items : (k : ItemKind) (vs : List Value) → list_all (fits_items k) vs ≡ true → list_all is_item vs ≡ true
+all_items k [] fits = refl
+all_items k (v ∷ vs) fits =
+    let parts = and_parts (fits_items k v) (list_all (fits_items k) vs) fits in
+    and_from (is_item v) (list_all is_item vs) (ap not (not_null k v parts.0)) (all_items k vs parts.1)
+
+-- no item of a fixed width is NULL, and no text or state
+pub cells_are_items : (k : Kind) (vs : List Value) → list_all (fits_of (type_of k)) vs ≡ true → list_all is_item vs ≡ true
+cells_are_items k vs fits = all_items (OfCells k) vs fits
+
+pub texts_are_items : (texts : List (List ℕ)) → list_all is_item (map (λ (text : List ℕ). Text text) texts) ≡ true
+texts_are_items [] = refl
+texts_are_items (text ∷ texts) = and_from (is_item (Text text)) _ (ap (λ l. not (is_null_at l)) (outs-Text text)) (texts_are_items texts)
+
+pub states_are_items : (states : List AggState) → list_all is_item (map (λ (s : AggState). State s) states) ≡ true
+states_are_items [] = refl
+states_are_items (s ∷ states) = and_from (is_item (State s)) _ (ap (λ l. not (is_null_at l)) (outs-State s)) (states_are_items states)
+
+no_huge_at : (k : Kind) (l : Level) → is_narrow_kind (OfCells k) ≡ true → level_fits k l ≡ true → not (huge_at l) ≡ true
+no_huge_at (kind.Unsigned W8) (Value-F.Huge n) narrow e = cc
+no_huge_at (kind.Unsigned W16) (Value-F.Huge n) narrow e = cc
+no_huge_at (kind.Unsigned W32) (Value-F.Huge n) narrow e = cc
+no_huge_at (kind.Unsigned W64) (Value-F.Huge n) narrow e = cc
+no_huge_at (kind.Unsigned W128) (Value-F.Huge n) narrow e = cc
+no_huge_at (kind.Signed w) (Value-F.Huge n) narrow e = cc
+no_huge_at (kind.Text size) (Value-F.Huge n) narrow e = cc
+no_huge_at k (Value-F.Num n) narrow e = refl
+no_huge_at k (Value-F.Text bytes) narrow e = refl
+no_huge_at k Value-F.Null narrow e = refl
+no_huge_at k (Value-F.List items) narrow e = refl
+no_huge_at k (Value-F.State s) narrow e = refl
+
+-- numbers of at most 64 bits are no Huge
+pub cells_are_narrow : (k : Kind) (vs : List Value) → list_all (fits_of (type_of k)) vs ≡ true → is_narrow_kind (OfCells k) ≡ true → list_all is_no_huge vs ≡ true
+cells_are_narrow k [] fits narrow = refl
+cells_are_narrow k (v ∷ vs) fits narrow =
+    let parts = and_parts (fits_of (type_of k) v) (list_all (fits_of (type_of k)) vs) fits in
+    and_from (is_no_huge v) (list_all is_no_huge vs) (no_huge_at k (out-Value v) narrow (sym (fits_level k v) ∙ parts.0)) (cells_are_narrow k vs parts.1 narrow)

@@ -1,10 +1,12 @@
 //! The items of a substream: of a fixed width, texts, or states.
 
 ghost use Rattle.std.specs.Prelude.{◌≡◌, ◌++◌, ◌∷◌, [], ◌-◌, ◌<◌, ◌≤◌, ◌↔◌, length, take, drop, slice_index_or, map};
-ghost use Rattle.std.specs.Prelude.{All, IfOk, IsTrue, OnOk, OnErr};
+ghost use Rattle.std.specs.List.{list_all};
+ghost use Rattle.std.specs.Prelude.{true, All, IfOk, IsTrue, OnOk, OnErr};
 ghost use Rattle.mt_types.specs.Order.{value_cmp};
 ghost use Rattle.mt_types.specs.declared.value.Value.TheVariants.{Null, State, Text};
-ghost use Rattle.mt_cells.specs.Items.{OfCells, OfStates, OfTexts, default_item, fits_items, items_in, kind_in};
+ghost use Rattle.mt_cells.specs.Items.{OfCells, OfStates, OfTexts, default_item, fits_items, is_item, is_narrow_kind};
+ghost use Rattle.mt_cells.specs.Items.{is_no_huge, items_in, kind_in};
 ghost use Rattle.mt_cells.specs.Seen.{value_seen};
 
 use crate::cells::Cells;
@@ -46,6 +48,28 @@ impl Items {
             (Items::Texts(_), Items::Texts(_)) => true,
             (Items::States(_), Items::States(_)) => true,
             _ => false,
+        }
+    }
+
+    /// No item is NULL. (A law: it does nothing.)
+    pub fn are_not_null(&self)
+        ensures { IsTrue (list_all is_item (items_in self.now)) }
+    {
+        match self {
+            Items::Cells(cells) => cells.values_fit(),
+            Items::Texts(_) => {}
+            Items::States(_) => {}
+        }
+    }
+
+    /// No number of at most 64 bits is a Huge. (A law: it does nothing.)
+    pub fn are_narrow(&self)
+        ensures { is_narrow_kind (kind_in self.now) ≡ true → IsTrue (list_all is_no_huge (items_in self.now)) }
+    {
+        match self {
+            Items::Cells(cells) => cells.values_fit(),
+            Items::Texts(_) => {}
+            Items::States(_) => {}
         }
     }
 
