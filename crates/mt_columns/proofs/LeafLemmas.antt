@@ -3,8 +3,8 @@ use Rattle.std.proofs.Common.{◌≡◌, ℕ, zero, suc, ◌+◌, ◌-◌, ◌<�
 use Rattle.std.specs.Prelude.{Option, Some, None, Result, Ok, Err, IfSome, OnOk, OnErr, min, not, ◌==◌, ◌||◌, if◌then◌else◌}
 use Rattle.std.specs.Global.{Vec}
 use Rattle.std.specs.List.{All, list_all}
-use Rattle.std.proofs.lemmas.Bool.{and_parts}
-use Rattle.std.proofs.lemmas.List.{length-map}
+use Rattle.std.proofs.lemmas.Bool.{and_parts, cases_Bool, eqb-true}
+use Rattle.std.proofs.lemmas.List.{length-map, take_all, take_more}
 use Rattle.std.proofs.lemmas.List.Elements.{All-head, All-tail}
 use Rattle.mt_types.specs.declared.value.Value.{Value, out-Value, roll-Value}
 use Rattle.mt_types.specs.declared.value.Value.TheOpen.{Value-F}
@@ -17,11 +17,11 @@ use Rattle.mt_defs.specs.WrittenStreams.{or_default}
 use Rattle.mt_defs.specs.Lists.{Pointwise}
 use Rattle.mt_cells.specs.declared.seen.Seen.{Seen}
 use Rattle.mt_cells.specs.declared.seen.Seen.TheVariants as seen
-use Rattle.mt_cells.specs.Items.{ItemKind, default_item, fits_items, is_item}
+use Rattle.mt_cells.specs.Items.{ItemKind, default_item, fits_items, is_item, huge_at, is_no_huge}
 use Rattle.mt_cells.specs.Seen.{value_seen}
 use Rattle.mt_cells.proofs.SeenLemmas.{level_seen, out_seen}
 use Rattle.mt_cells.proofs.FitLemmas.{default_is_item, not_null}
-use Rattle.mt_columns.specs.Leaves.{AreGathered, AreMore, HasNulls, IsBeside, is_nullable, leaf_fits, leaf_values, null_in, null_if, nulled}
+use Rattle.mt_columns.specs.Leaves.{AreGathered, AreMore, HasNulls, IsBeside, is_nullable, leaf_fits, leaf_values, null_in, null_if, nulled, AreNotHuge, under_nulls}
 
 -- a null map has a byte for each item
 abbrev pub AreAsMany : Option (Vec ℕ) → List Value → Type 0
@@ -373,3 +373,86 @@ null_has_byte = ap (λ (l : Value-F Value). if is_null_at l then 1 else 0) outs-
 
 pub null_has_item : (d : Value) → or_default d Null ≡ d
 null_has_item d = ap (λ (l : Value-F Value). if is_null_at l then d else Null) outs-Null
+
+-- ---- the default brought under NULL
+
+under-nothing : (d : Value) → under_nulls d [] [] ≡ []
+unfolding under_nulls
+under-nothing d = refl
+
+under-more : (d : Value) (bytes : List ℕ) (items : List Value) (byte : ℕ) (item : Value) → length bytes ≡ length items → under_nulls d (bytes ++ byte ∷ []) (items ++ item ∷ []) ≡ under_nulls d bytes items ++ (if byte == 1 then d else item) ∷ []
+unfolding under_nulls
+under-more d [] [] byte item e = refl
+under-more d [] (w ∷ items) byte item e = cc
+under-more d (b ∷ bytes) [] byte item e = cc
+under-more d (b ∷ bytes) (w ∷ items) byte item e = ap (λ (vs : List Value). (if b == 1 then d else w) ∷ vs) (under-more d bytes items byte item (omega (arith, e)))
+
+-- one index more
+pub under_step : (d : Value) (bytes : List ℕ) (items : List Value) (i : ℕ) → length bytes ≡ length items → i < length bytes
+    → under_nulls d (take (i + 1) bytes) (take (i + 1) items) ≡ under_nulls d (take i bytes) (take i items) ++ (if get_or bytes i 0 == 1 then d else get_or items i Null) ∷ []
+under_step d bytes items i e h =
+    let there : i < length items = omega (arith, e, h) in
+    let long : length (take i bytes) ≡ length (take i items) = length-take i bytes ∙ ap (min i) e ∙ sym (length-take i items) in
+    ap₂ (under_nulls d) (take_more bytes i 0 h) (take_more items i Null there) ∙ under-more d (take i bytes) (take i items) (get_or bytes i 0) (get_or items i Null) long
+
+pub under_none : (d : Value) (bytes : List ℕ) (items : List Value) → under_nulls d (take 0 bytes) (take 0 items) ≡ []
+under_none d bytes items = under-nothing d
+
+pub under_all : (d : Value) (bytes : List ℕ) (items : List Value) (i : ℕ) → length bytes ≡ length items → length bytes ≤ i → under_nulls d (take i bytes) (take i items) ≡ under_nulls d bytes items
+under_all d bytes items i e h = ap₂ (under_nulls d) (take_all i bytes h) (take_all i items (omega (arith, e, h)))
+
+-- an item that may stand there
+pub kept_item : (d : Value) (byte : ℕ) (item : Value) → (byte ≡ 1 → item ≡ d) → (if byte == 1 then d else item) ≡ item
+kept_item d byte item stands = elim (cases_Bool (byte == 1)) [
+  | inl one ↦ ap (λ (b : Bool). if b then d else item) one ∙ sym (stands (eqb-true byte 1 one))
+  | inr other ↦ ap (λ (b : Bool). if b then d else item) other
+]
+
+nulled_one_under : (d : Value) (byte : ℕ) (item : Value) → null_if (byte == 1) (if byte == 1 then d else item) ≡ null_if (byte == 1) item
+nulled_one_under d byte item = by_test (byte == 1)
+  where
+    by_test : (b : Bool) → null_if b (if b then d else item) ≡ null_if b item
+    by_test true = refl
+    by_test false = refl
+
+-- no value changes
+pub nulled_under : (d : Value) (bytes : List ℕ) (items : List Value) → length bytes ≡ length items → nulled bytes (under_nulls d bytes items) ≡ nulled bytes items
+unfolding nulled under_nulls
+nulled_under d [] [] e = refl
+nulled_under d [] (item ∷ items) e = cc
+nulled_under d (byte ∷ bytes) [] e = cc
+nulled_under d (byte ∷ bytes) (item ∷ items) e = ap₂ ◌∷◌ (nulled_one_under d byte item) (nulled_under d bytes items (omega (arith, e)))
+
+beside_under : (d : Value) (byte : ℕ) (item : Value) → byte ≤ 1 → is_item item ≡ true → IsBeside d byte (if byte == 1 then d else item)
+beside_under d zero item bit real = inl (refl, real_item (is_null item) real)
+  where
+    real_item : (b : Bool) → not b ≡ true → b ≡ false
+    real_item false e = refl
+    real_item true e = cc
+beside_under d (suc zero) item bit real = inr (refl, refl)
+beside_under d (suc (suc n)) item bit real = absurd (omega (arith, bit))
+
+-- so the invariant holds
+pub has_under : (d : Value) (bytes : List ℕ) (items : List Value) → length bytes ≡ length items → All (λ b. b ≤ 1) bytes → list_all is_item items ≡ true → Pointwise (IsBeside d) bytes (under_nulls d bytes items)
+unfolding under_nulls
+has_under d [] [] e bits real = tt
+has_under d [] (item ∷ items) e bits real = cc
+has_under d (byte ∷ bytes) [] e bits real = cc
+has_under d (byte ∷ bytes) (item ∷ items) e bits real =
+    let parts = and_parts (is_item item) (list_all is_item items) real in
+    (beside_under d byte item (All-head (λ b. b ≤ 1) byte bytes bits) parts.0, has_under d bytes items (omega (arith, e)) (All-tail (λ b. b ≤ 1) byte bytes bits) parts.1)
+
+-- ---- no Huge
+
+not_huge_at : (vs : List Value) (i : ℕ) → list_all is_no_huge vs ≡ true → is_no_huge (get_or vs i Null) ≡ true
+not_huge_at [] i all = ap (λ (l : Value-F Value). not (huge_at l)) outs-Null
+not_huge_at (v ∷ vs) zero all = (and_parts (is_no_huge v) (list_all is_no_huge vs) all).0
+not_huge_at (v ∷ vs) (suc i) all = not_huge_at vs i (and_parts (is_no_huge v) (list_all is_no_huge vs) all).1
+
+null_or_not_huge : (b : Bool) (v : Value) → is_no_huge v ≡ true → is_no_huge (null_if b v) ≡ true
+null_or_not_huge true v h = ap (λ (l : Value-F Value). not (huge_at l)) outs-Null
+null_or_not_huge false v h = h
+
+pub leaf_not_huge : (nulls : Option (Vec ℕ)) (items seen : List Value) → AreAsMany nulls items → leaf_values nulls items ≡ seen → list_all is_no_huge items ≡ true → AreNotHuge seen
+leaf_not_huge nulls items seen whole view all i =
+    ap (λ (vs : List Value). is_no_huge (get_or vs i Null)) (sym view) ∙ ap is_no_huge (leaf_at nulls items i whole) ∙ null_or_not_huge (null_in nulls i) (get_or items i Null) (not_huge_at items i all)

@@ -6,7 +6,7 @@ use Rattle.mt_types.specs.declared.value.Value.TheVariants.{Null}
 use Rattle.mt_types.specs.Fits.{null_at}
 use Rattle.mt_defs.specs.Encoding.{is_null}
 use Rattle.mt_defs.specs.Lists.{Pointwise}
-use Rattle.mt_cells.specs.Items.{ItemKind, fits_items}
+use Rattle.mt_cells.specs.Items.{ItemKind, fits_items, is_no_huge}
 
 -- NULL where it is so, else the value
 abbrev pub null_if : Bool → Value → Value
@@ -62,3 +62,12 @@ pub record Leaved : Type 0 where
   pub nullable : Bool
   pub kind : ItemKind
   pub values : List Value
+
+-- the value at each index is not a Huge
+abbrev pub AreNotHuge : List Value → Type 0
+AreNotHuge values = (index : ℕ) → is_no_huge (slice_index_or values index Null) ≡ true
+
+-- the items with the default where the null map has a 1
+unfoldable pub under_nulls : (default : Value) → List ℕ → List Value → List Value
+under_nulls default (byte ∷ bytes) (item ∷ items) = (if byte == 1 then default else item) ∷ under_nulls default bytes items
+under_nulls default _ _ = []

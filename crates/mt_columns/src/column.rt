@@ -3,6 +3,8 @@
 ghost use Rattle.std.specs.Prelude.{All, map, true, ◌+◌, ◌≡◌, ◌++◌, ◌∷◌, [], ◌-◌, ◌<◌, ◌≤◌, length, take, drop, IfOk, IsTrue, OnOk, OnErr, ◌↔◌, slice_index_or, replicate};
 ghost use Rattle.mt_types.specs.declared.value.Value.TheVariants.{Null};
 ghost use Rattle.mt_types.specs.Order.{value_cmp};
+ghost use Rattle.mt_cells.specs.Items.{is_narrow_kind};
+ghost use Rattle.mt_columns.specs.Leaves.{AreNotHuge};
 ghost use Rattle.mt_columns.specs.Nesting.{AreAlike, AreNested, fits_column, nested_values};
 ghost use Rattle.mt_columns.specs.Shapes.{IsOfType};
 ghost use Rattle.mt_cells.specs.Seen.{value_seen};
@@ -115,6 +117,13 @@ impl Column {
         ensures { value_seen result ≡ slice_index_or self.now.values index Null }
     {
         self.leaf.seen(index)
+    }
+
+    /// No number of at most 64 bits that is in no array is a Huge. (A law: it does nothing.)
+    pub fn are_narrow(&self)
+        ensures { self.now.depth ≡ 0 → is_narrow_kind self.now.kind ≡ true → AreNotHuge self.now.values }
+    {
+        self.leaf.are_narrow();
     }
 
     /// How many values there are.

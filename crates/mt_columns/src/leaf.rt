@@ -6,11 +6,13 @@ ghost use Rattle.mt_types.specs.declared.value.Value.TheVariants.{Null};
 ghost use Rattle.mt_types.specs.Order.{value_cmp};
 ghost use Rattle.mt_defs.specs.Encoding.{null_byte};
 ghost use Rattle.mt_defs.specs.WrittenStreams.{or_default};
-ghost use Rattle.mt_cells.specs.Items.{default_item, items_in, kind_in};
+ghost use Rattle.mt_cells.specs.Items.{default_item, is_narrow_kind, items_in, kind_in};
 ghost use Rattle.mt_cells.specs.Seen.{value_seen};
-ghost use Rattle.mt_columns.specs.Leaves.{leaf_fits};
+ghost use Rattle.mt_columns.specs.Leaves.{AreNotHuge, leaf_fits, nulled};
 
-use crate::nulls::{gather_nulls, has_nulls, is_null_in, more_nulls, push_item, push_null};
+use crate::nulls::{
+    default_under, gather_nulls, has_nulls, is_null_in, more_nulls, push_item, push_null,
+};
 use mt_cells::{Items, Seen, compare_seen};
 use mt_types::NoMemory;
 use std::alloc::Global;
@@ -64,6 +66,23 @@ impl Leaf {
             nulls: Some(Vec::new(alloc)),
             items,
         }
+    }
+
+    /// Items under a null map, of which each is NULL where the map has a 1. The default is brought under
+    /// NULL, which is no work where it stands there.
+    pub fn with_nulls(alloc: Global, nulls: Vec<u8>, items: Items) -> Result<Leaf, NoMemory>
+        requires many { length nulls.items ≡ length (items_in items) }
+        requires bytes { All (λ byte. byte ≤ 1) nulls.items }
+        ensures nullable { IfOk result (λ leaf. leaf.nullable ≡ true) }
+        ensures kind { IfOk result (λ leaf. leaf.kind ≡ kind_in items) }
+        ensures values { IfOk result (λ leaf. leaf.values ≡ nulled nulls.items (items_in items)) }
+    {
+        items.are_not_null();
+        let items = default_under(alloc, nulls.as_slice(), items)?;
+        Ok(Leaf {
+            nulls: Some(nulls),
+            items,
+        })
     }
 
     /// The leaf without values, of items that may be NULL. It takes no memory.
@@ -129,6 +148,13 @@ impl Leaf {
         ensures { IsTrue result ↔ ((self.now.nullable ≡ other.now.nullable) × (self.now.kind ≡ other.now.kind)) }
     {
         has_nulls(&self.nulls) == has_nulls(&other.nulls) && self.items.is_like(&other.items)
+    }
+
+    /// No number of at most 64 bits is a Huge. (A law: it does nothing.)
+    pub fn are_narrow(&self)
+        ensures { is_narrow_kind self.now.kind ≡ true → AreNotHuge self.now.values }
+    {
+        self.items.are_narrow();
     }
 
     /// Appends a value.

@@ -1,10 +1,11 @@
 //! Null maps: a byte for each item, 1 beside NULL.
 
 ghost use Rattle.std.specs.Prelude.{◌≡◌, ◌++◌, ◌∷◌, [], ◌-◌, ◌≤◌, length, map, take, drop};
-ghost use Rattle.std.specs.Prelude.{slice_index_or, IfOk, IfSome, IsTrue, OnOk, OnErr};
+ghost use Rattle.std.specs.Prelude.{slice_index_or, ◌<◌, ◌==◌, if◌then◌else◌, IfOk, IfSome, IsTrue, OnOk, OnErr};
+ghost use Rattle.mt_types.specs.declared.value.Value.TheVariants.{Null};
 ghost use Rattle.mt_cells.specs.Items.{default_item, fits_items, items_in, kind_in};
 ghost use Rattle.mt_cells.specs.Seen.{value_seen};
-ghost use Rattle.mt_columns.specs.Leaves.{AreGathered, AreMore, is_nullable, null_in};
+ghost use Rattle.mt_columns.specs.Leaves.{AreGathered, AreMore, is_nullable, null_in, under_nulls};
 
 use mt_cells::{Items, Seen};
 use mt_types::NoMemory;
@@ -128,4 +129,77 @@ pub fn push_item(nulls: &mut Vec<u8>, items: &mut Items, value: Seen<'_>) -> Res
             Err(error)
         }
     }
+}
+
+/// The items with the default where the null map has a 1.
+pub fn default_under(alloc: Global, nulls: &[u8], items: Items) -> Result<Items, NoMemory>
+    requires { length nulls.now ≡ length (items_in items) }
+    ensures kind { IfOk result (λ made. kind_in made ≡ kind_in items) }
+    ensures values { IfOk result (λ made. items_in made
+        ≡ under_nulls (default_item (kind_in items)) nulls.now (items_in items)) }
+{
+    if has_default_under(nulls, &items) {
+        return Ok(items);
+    }
+    replace_under(alloc, nulls, &items)
+}
+
+/// Whether the default stands wherever the null map has a 1.
+fn has_default_under(nulls: &[u8], items: &Items) -> bool
+    requires { length nulls.now ≡ length (items_in items.now) }
+    ensures { IsTrue result → items_in items.now
+        ≡ under_nulls (default_item (kind_in items.now)) nulls.now (items_in items.now) }
+{
+    for (index, byte) in nulls.iter().enumerate() {
+        if !may_stand(*byte, items, index) {
+            return false;
+        }
+    }
+    true
+}
+
+/// Whether the item of an index may stand beside a byte of the null map.
+fn may_stand(byte: u8, items: &Items, index: usize) -> bool
+    requires { index < length (items_in items.now) }
+    ensures { IsTrue result → byte ≡ 1
+        → slice_index_or (items_in items.now) index Null ≡ default_item (kind_in items.now) }
+{
+    if byte == 1 {
+        items.is_default(index)
+    } else {
+        true
+    }
+}
+
+/// Other items, with the default where the null map has a 1.
+fn replace_under(alloc: Global, nulls: &[u8], items: &Items) -> Result<Items, NoMemory>
+    requires { length nulls.now ≡ length (items_in items.now) }
+    ensures kind { IfOk result (λ made. kind_in made ≡ kind_in items.now) }
+    ensures values { IfOk result (λ made. items_in made
+        ≡ under_nulls (default_item (kind_in items.now)) nulls.now (items_in items.now)) }
+{
+    let mut made = items.gather(alloc, &[])?;
+    for (index, byte) in nulls.iter().enumerate() {
+        made = with_item(made, *byte, items, index)?;
+    }
+    Ok(made)
+}
+
+/// With the item of an index behind, or the default where the byte is 1.
+fn with_item(made: Items, byte: u8, items: &Items, index: usize) -> Result<Items, NoMemory>
+    requires kind { kind_in items.now ≡ kind_in made }
+    requires there { index < length (items_in items.now) }
+    ensures kind { IfOk result (λ more. kind_in more ≡ kind_in made) }
+    ensures values { IfOk result (λ more. items_in more ≡ items_in made
+        ++ (if byte == 1 then default_item (kind_in made) else slice_index_or (items_in items.now) index Null) ∷ []) }
+{
+    let mut made = made;
+    if byte == 1 {
+        made.push_default()?;
+        return Ok(made);
+    }
+    let Some(end) = index.checked_add(1) else {
+        return Err(NoMemory);
+    };
+    made.append(items, index, end)
 }
