@@ -1,14 +1,20 @@
 -- How ranges of values compare.
 use Rattle.std.proofs.Common.{◌≡◌, ℕ, suc, ◌+◌, ◌-◌, ◌<◌, ◌≤◌, List, [], ◌∷◌, length, get_or, take, drop, refl, ap, ap₂, sym, ◌∙◌, arith, length-drop, length-take-le, ◌⊎◌, inl, inr}
 use Rattle.std.proofs.lemmas.List.{drop_more}
-use Rattle.std.specs.Ordering.{ordering_then, nat_cmp}
+use Rattle.std.specs.Ordering.{ordering_then, ordering_reverse, nat_cmp}
 use Rattle.std.specs.Cmp.{nat_cmp_is}
 use Rattle.std.specs.declared.cmp.Ordering.{Ordering}
 use Rattle.std.specs.declared.cmp.Ordering.TheVariants.{Less, Equal, Greater}
-use Rattle.mt_types.specs.Order.{value_cmp, values_cmp}
+use Rattle.mt_types.specs.Order.{value_cmp, values_cmp, cmp_step}
+use Rattle.mt_types.specs.Ordered.{value_total}
+use Rattle.mt_types.specs.declared.value.Value.TheFolds.{fold_out-Value}
+use Rattle.std.specs.Prelude.{sum}
+use Rattle.std.proofs.lemmas.List.{get_or_past}
+use Rattle.mt_columns.specs.Nesting.{AreNested, nested_values}
+use Rattle.mt_columns.proofs.NestLemmas.{array_value}
 use Rattle.mt_types.proofs.OrderLemmas.{lists_cmp}
 use Rattle.mt_types.specs.declared.value.Value.{Value}
-use Rattle.mt_types.specs.declared.value.Value.TheVariants.{Null, List as Items}
+use Rattle.mt_types.specs.declared.value.Value.TheVariants.{Null, List as Items, outs-Null, outs-List}
 
 -- two arrays
 pub arrays_cmp : (x y : Value) (a b : List Value) → x ≡ Items a → y ≡ Items b → values_cmp a b ≡ value_cmp x y
@@ -62,3 +68,25 @@ range_ended vs x end y end' within within' e =
       | inl z ↦ inl (long ∙ z)
       | inr z ↦ inr (long' ∙ z)
     ])
+
+-- ---- NULL
+
+-- an array is before NULL
+pub null_above : (xs : List Value) → value_cmp Null (Items xs) ≡ Greater
+null_above xs = ap (λ (f : Value → Ordering). f (Items xs)) (fold_out-Value (Value → Ordering) cmp_step Null) ∙ simp (outs-Null, outs-List xs) refl
+
+pub null_ties : value_cmp Null Null ≡ Equal
+null_ties = ap (λ (f : Value → Ordering). f Null) (fold_out-Value (Value → Ordering) cmp_step Null) ∙ simp outs-Null refl
+
+-- a value of a level that has arrays
+pub null_to_array : (all : List (List ℕ)) (sizes : List ℕ) (levels : List (List ℕ)) (values : List Value) → all ≡ sizes ∷ levels → AreNested all values → (i : ℕ) → i < length (nested_values all values) → value_cmp Null (get_or (nested_values all values) i Null) ≡ Greater
+null_to_array all sizes levels values is nested i h =
+    ap (value_cmp Null) (array_value all sizes levels values is i (sum (take i sizes)) (sum (take (i + 1) sizes)) nested h refl refl) ∙ null_above _
+
+-- where there is no value
+pub past_null : (values : List Value) (a b : ℕ) (r : Ordering) → length values ≤ a → r ≡ value_cmp Null (get_or values b Null) → r ≡ value_cmp (get_or values a Null) (get_or values b Null)
+past_null values a b r past is = is ∙ ap (λ (v : Value). value_cmp v (get_or values b Null)) (sym (get_or_past values a Null past))
+
+pub null_past : (values : List Value) (a b : ℕ) (r : Ordering) → length values ≤ b → r ≡ value_cmp Null (get_or values a Null) → ordering_reverse r ≡ value_cmp (get_or values a Null) (get_or values b Null)
+null_past values a b r past is =
+    ap ordering_reverse is ∙ sym (value_total.antisymm (get_or values a Null) Null) ∙ ap (value_cmp (get_or values a Null)) (sym (get_or_past values b Null past))

@@ -1,6 +1,6 @@
 //! The values of one column of any type.
 
-ghost use Rattle.std.specs.Prelude.{All, map, true, ◌+◌, ◌≡◌, ◌++◌, ◌∷◌, [], ◌-◌, ◌<◌, ◌≤◌, length, take, drop, IfOk, IsTrue, OnOk, OnErr, ◌↔◌, slice_index_or, replicate};
+ghost use Rattle.std.specs.Prelude.{All, map, true, ◌+◌, ◌≡◌, ◌++◌, ◌∷◌, [], ◌-◌, ◌<◌, ◌≤◌, length, take, drop, IfOk, IsTrue, OnOk, OnErr, ◌↔◌, ◌==◌, slice_index_or, replicate};
 ghost use Rattle.mt_types.specs.declared.value.Value.TheVariants.{Null};
 ghost use Rattle.mt_types.specs.Order.{value_cmp};
 ghost use Rattle.mt_cells.specs.Items.{is_narrow_kind};
@@ -10,7 +10,7 @@ ghost use Rattle.mt_columns.specs.Shapes.{IsOfType};
 ghost use Rattle.mt_cells.specs.Seen.{value_seen};
 
 use crate::append::append_range;
-use crate::compare::compare_nested;
+use crate::compare::{compare_nested, compare_null_nested};
 use crate::leaf::Leaf;
 use crate::nested::nested_len;
 use crate::push::push_value;
@@ -126,6 +126,25 @@ impl Column {
         self.leaf.are_narrow();
     }
 
+    /// Whether no value is inside an array.
+    pub fn is_flat(&self) -> bool
+        ensures { result ≡ (self.now.depth == 0) }
+    {
+        self.levels.is_empty()
+    }
+
+    /// A value inside no array, NULL where there is none. It takes no memory.
+    pub fn seen_or_null(&self, index: usize) -> Seen<'_>
+        requires { self.now.depth ≡ 0 }
+        ensures { value_seen result ≡ slice_index_or self.now.values index Null }
+    {
+        if index < self.len() {
+            self.seen(index)
+        } else {
+            Seen::Null
+        }
+    }
+
     /// How many values there are.
     pub fn len(&self) -> usize
         ensures { result ≡ length self.now.values }
@@ -182,6 +201,32 @@ impl Column {
             (slice_index_or self.now.values b Null) }
     {
         compare_nested(self.levels.as_slice(), &self.leaf, a, b)
+    }
+
+    /// How two values compare, NULL standing where there is none. It takes no memory.
+    pub fn compare_or_null(&self, a: usize, b: usize) -> Ordering
+        ensures { result ≡ value_cmp (slice_index_or self.now.values a Null)
+            (slice_index_or self.now.values b Null) }
+    {
+        let count = self.len();
+        if a >= count {
+            return self.compare_null_to(b);
+        }
+        if b >= count {
+            return self.compare_null_to(a).reverse();
+        }
+        self.compare(a, b)
+    }
+
+    /// How NULL compares to a value, or to NULL where there is none.
+    fn compare_null_to(&self, index: usize) -> Ordering
+        ensures { result ≡ value_cmp Null (slice_index_or self.now.values index Null) }
+    {
+        if index < self.len() {
+            compare_null_nested(self.levels.as_slice(), &self.leaf, index)
+        } else {
+            Ordering::Equal
+        }
     }
 
     /// Whether the two have one shape.

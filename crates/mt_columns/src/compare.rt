@@ -6,7 +6,7 @@ ghost use Rattle.mt_types.specs.declared.value.Value.TheVariants.{Null};
 ghost use Rattle.mt_columns.specs.Nesting.{AreNested, nested_values};
 
 use crate::leaf::Leaf;
-use mt_cells::Sizes;
+use mt_cells::{Seen, Sizes, compare_seen};
 use std::cmp::Ordering;
 
 /// How two values of a level compare: arrays element by element, a proper prefix first. It takes no memory.
@@ -34,5 +34,17 @@ pub fn compare_nested(levels: &[Sizes], leaf: &Leaf, a: usize, b: usize) -> Orde
             }
             (end - x).cmp(&(other_end - y))
         }
+    }
+}
+
+/// How NULL compares to a value of a level: an array is before it.
+pub fn compare_null_nested(levels: &[Sizes], leaf: &Leaf, index: usize) -> Ordering
+    requires nested { AreNested levels.now leaf.now.values }
+    requires there { index < length (nested_values levels.now leaf.now.values) }
+    ensures { result ≡ value_cmp Null (slice_index_or (nested_values levels.now leaf.now.values) index Null) }
+{
+    match levels.split_first() {
+        None => compare_seen(Seen::Null, leaf.seen(index)),
+        Some((_, _)) => Ordering::Greater,
     }
 }
