@@ -1,0 +1,3 @@
+pub mod Leaves
+pub mod Nesting
+pub mod Shapes
