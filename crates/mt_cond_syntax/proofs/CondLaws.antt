@@ -18,7 +18,8 @@ use Rattle.mt_cond_syntax.specs.declared.tree.CondText.{CondText}
 use Rattle.mt_cond_syntax.specs.declared.tree.CondText.TheVariants as tree
 use Rattle.mt_cond_syntax.specs.Grammar.{IsName, IsLiteral, IsComparison, IsOneOf, IsNullOrNot, IsNullTest, IsStarts, IsHas, IsAtom, IsDisjunction, IsUnit, IsCond}
 use Rattle.mt_cond_syntax.specs.Reading.{name_at, literal_at, comparison_at, one_of_at, null_at, null_test_at, starts_at, has_at, test_at, atom_at, disjunction_at, unit_at, cond_at}
-use Rattle.mt_cond_syntax.specs.Terminals.{name_in, literal_of, negative_in, op_of}
+use Rattle.mt_phrases.specs.NameRules.{name_in}
+use Rattle.mt_cond_syntax.specs.Terminals.{literal_of, negative_in, op_of}
 use Rattle.mt_cond_syntax.specs.Trees.{comparison_of, one_of_of, null_test_of, starts_of, has_of}
 use Rattle.mt_cond_syntax.proofs.JoinLaws.{joined_law}
 use Rattle.mt_cond_syntax.proofs.QueryTests.{query_name_no_sign, query_name_no_not, literal_no_sign, op_no_key, op_no_open}

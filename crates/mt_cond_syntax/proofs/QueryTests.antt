@@ -8,7 +8,8 @@ use Rattle.mt_tokens.specs.Tokens.{Tok, Word, Quoted, Text, Digits, OfSign}
 use Rattle.mt_tokens.specs.Words.{is_keyword, is_sign, name_of}
 use Rattle.mt_phrases.proofs.TokenTests.{Lacks, name_no_sign}
 use Rattle.mt_cond_syntax.specs.declared.op.Op.{Op}
-use Rattle.mt_cond_syntax.specs.Terminals.{is_clause_word, is_cond_word, name_in, literal_of, op_of}
+use Rattle.mt_phrases.specs.NameRules.{is_clause_word, is_cond_word, name_in}
+use Rattle.mt_cond_syntax.specs.Terminals.{literal_of, op_of}
 
 -- a name is no reserved word
 name_is : (token : Tok) (name : List ℕ) → name_in token ≡ Some name → (is_cond_word token ≡ false) × (name_of token ≡ Some name)

@@ -10,7 +10,8 @@ use Rattle.mt_cond_syntax.specs.declared.tree.Literal.{Literal}
 use Rattle.mt_cond_syntax.specs.declared.tree.CondText.{CondText}
 use Rattle.mt_cond_syntax.specs.declared.tree.CondText.TheVariants.{And, Or, Not}
 use Rattle.mt_cond_syntax.specs.Joins.{joined}
-use Rattle.mt_cond_syntax.specs.Terminals.{name_in, literal_of, negative_in, op_of}
+use Rattle.mt_phrases.specs.NameRules.{name_in}
+use Rattle.mt_cond_syntax.specs.Terminals.{literal_of, negative_in, op_of}
 use Rattle.mt_cond_syntax.specs.Trees.{comparison_of, one_of_of, null_test_of, starts_of, has_of}
 
 -- a name

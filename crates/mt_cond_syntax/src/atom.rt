@@ -7,10 +7,11 @@ ghost use Rattle.mt_cond_syntax.specs.Reading.{atom_at, comparison_at, has_at, n
 ghost use Rattle.mt_cond_syntax.specs.Terminals.{op_of};
 
 use crate::literal::{literal, literal_list};
-use crate::naming::name;
 use crate::op::Op;
 use crate::tree::CondText;
-use mt_phrases::{SyntaxError, keyword, second_is_keyword, second_is_sign, sign, text};
+use mt_phrases::{
+    NameRule, SyntaxError, keyword, name, second_is_keyword, second_is_sign, sign, text,
+};
 use mt_tokens::{Sign, Token, after_keyword, after_word, split_first};
 use std::alloc::Global;
 
@@ -36,7 +37,7 @@ fn comparison<'a, 't>(
 ) -> Result<(CondText, &'t [Token<'a>]), SyntaxError>
     ensures { Gives (λ x. (x.0, plains x.1.now)) result (comparison_at (plains tokens.now)) }
 {
-    let (name, rest) = name(alloc, tokens)?;
+    let (name, rest) = name(NameRule::Unreserved, alloc, tokens)?;
     let (op, rest) = op(rest)?;
     let (literal, rest) = literal(alloc, rest)?;
     Ok((CondText::Cmp { name, op, literal }, rest))
@@ -49,7 +50,7 @@ fn one_of<'a, 't>(
 ) -> Result<(CondText, &'t [Token<'a>]), SyntaxError>
     ensures { Gives (λ x. (x.0, plains x.1.now)) result (one_of_at (plains tokens.now)) }
 {
-    let (name, rest) = name(alloc, tokens)?;
+    let (name, rest) = name(NameRule::Unreserved, alloc, tokens)?;
     let rest = keyword(rest, b"IN")?;
     let (literals, rest) = literal_list(alloc, rest)?;
     Ok((CondText::OneOf { name, literals }, rest))
@@ -78,7 +79,7 @@ fn null_test<'a, 't>(
 ) -> Result<(CondText, &'t [Token<'a>]), SyntaxError>
     ensures { Gives (λ x. (x.0, plains x.1.now)) result (null_test_at (plains tokens.now)) }
 {
-    let (name, rest) = name(alloc, tokens)?;
+    let (name, rest) = name(NameRule::Unreserved, alloc, tokens)?;
     let rest = keyword(rest, b"IS")?;
     let (negated, rest) = null(rest)?;
     Ok((CondText::IsNull { name, negated }, rest))
@@ -92,7 +93,7 @@ fn starts<'a, 't>(
     ensures { Gives (λ x. (x.0, plains x.1.now)) result (starts_at (plains tokens.now)) }
 {
     let rest = sign(tokens, Sign::Open)?;
-    let (name, rest) = name(alloc, rest)?;
+    let (name, rest) = name(NameRule::Unreserved, alloc, rest)?;
     let rest = sign(rest, Sign::Comma)?;
     let (prefix, rest) = text(alloc, rest)?;
     let rest = sign(rest, Sign::Close)?;
@@ -107,7 +108,7 @@ fn has<'a, 't>(
     ensures { Gives (λ x. (x.0, plains x.1.now)) result (has_at (plains tokens.now)) }
 {
     let rest = sign(tokens, Sign::Open)?;
-    let (name, rest) = name(alloc, rest)?;
+    let (name, rest) = name(NameRule::Unreserved, alloc, rest)?;
     let rest = sign(rest, Sign::Comma)?;
     let (literal, rest) = literal(alloc, rest)?;
     let rest = sign(rest, Sign::Close)?;

@@ -7,13 +7,11 @@ mod atom;
 mod condition;
 mod limits;
 mod literal;
-mod naming;
 mod number;
 mod op;
 mod tree;
 
 pub use condition::cond;
 pub use limits::MAX_COND_DEPTH;
-pub use naming::{any_name, name, names};
 pub use op::Op;
 pub use tree::{CondText, Literal};

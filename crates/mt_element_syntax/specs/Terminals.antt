@@ -1,7 +1,8 @@
 -- The tokens of a table text's grammar: docs/LANGUAGE.md, "Table text".
-use Rattle.std.specs.Prelude.{ℕ, List, Option, Some, None, Bool, is_some}
+use Rattle.std.specs.Prelude.{ℕ, List, Option, Some, None, Bool}
 use Rattle.mt_tokens.specs.Tokens.{Tok, Word}
-use Rattle.mt_tokens.specs.Words.{name_of}
+use Rattle.mt_phrases.specs.NameRules.{is_name_by}
+use Rattle.mt_phrases.specs.declared.naming.NameRule.TheVariants.{Any}
 
 -- the bytes of a plain word of any length
 abbrev pub word_of : Tok → Option (List ℕ)
@@ -10,4 +11,4 @@ word_of _ = None
 
 -- a token is a name
 abbrev pub is_name : Tok → Bool
-is_name token = is_some (name_of token)
+is_name = is_name_by Any

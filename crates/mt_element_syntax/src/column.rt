@@ -9,10 +9,10 @@ ghost use Rattle.mt_phrases.specs.Answers.{Gives};
 ghost use Rattle.mt_element_syntax.specs.Reading.{codec_at, codecs_at, column_at};
 
 use crate::limits::MAX_TYPE_DEPTH;
-use crate::token::{any_text, name, word};
+use crate::token::{any_text, word};
 use crate::tree::{CodecText, Element};
 use crate::types::type_text;
-use mt_phrases::{SyntaxError, number, sign};
+use mt_phrases::{NameRule, SyntaxError, name, number, sign};
 use mt_tokens::{Sign, Token, after_keyword, after_sign};
 use mt_types::List;
 use std::alloc::Global;
@@ -25,7 +25,7 @@ pub(crate) fn column<'a, 't>(
 ) -> Result<(Element, &'t [Token<'a>]), SyntaxError>
     ensures { Gives (λ x. (x.0, plains x.1.now)) result (column_at (plains tokens.now)) }
 {
-    let (name, rest) = name(alloc, tokens)?;
+    let (name, rest) = name(NameRule::Any, alloc, tokens)?;
     let (ty, rest) = type_text(alloc, rest, MAX_TYPE_DEPTH)?;
     let rest = skip_comment(rest)?;
     let (codecs, rest) = codecs(alloc, rest)?;

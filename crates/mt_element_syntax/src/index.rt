@@ -4,9 +4,10 @@ ghost use Rattle.mt_tokens.specs.Tokens.{plains};
 ghost use Rattle.mt_phrases.specs.Answers.{Gives};
 ghost use Rattle.mt_element_syntax.specs.Reading.{granularity_at, index_at, kind_at};
 
-use crate::token::name;
 use crate::tree::{Element, IndexKind};
-use mt_phrases::{SyntaxError, begins_with_word, fixed_word, keyword, number, sign};
+use mt_phrases::{
+    NameRule, SyntaxError, begins_with_word, fixed_word, keyword, name, number, sign,
+};
 use mt_tokens::{Sign, Token, after_keyword};
 use std::alloc::Global;
 
@@ -18,8 +19,8 @@ pub(crate) fn index<'a, 't>(
 ) -> Result<(Element, &'t [Token<'a>]), SyntaxError>
     ensures { Gives (λ x. (x.0, plains x.1.now)) result (index_at (plains tokens.now)) }
 {
-    let (name_, rest) = name(alloc, tokens)?;
-    let (column, rest) = name(alloc, rest)?;
+    let (name_, rest) = name(NameRule::Any, alloc, tokens)?;
+    let (column, rest) = name(NameRule::Any, alloc, rest)?;
     let rest = keyword(rest, b"TYPE")?;
     let (kind, rest) = kind(rest)?;
     let (granularity, rest) = granularity(rest)?;

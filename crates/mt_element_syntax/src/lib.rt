@@ -7,7 +7,6 @@
 mod column;
 mod element;
 mod index;
-mod item;
 mod limits;
 mod names;
 mod projection;
@@ -19,5 +18,5 @@ pub use column::skip_comment;
 pub use element::elements;
 pub use limits::MAX_TYPE_DEPTH;
 pub use names::key;
-pub use token::{any_name, any_text, name, word};
+pub use token::{any_text, word};
 pub use tree::{CodecText, Element, IndexKind, TypeArg, TypeText};

@@ -5,32 +5,10 @@ ghost use Rattle.mt_phrases.specs.Readers.{to_close};
 ghost use Rattle.mt_phrases.specs.Answers.{Gives};
 ghost use Rattle.mt_element_syntax.specs.Reading.{names_at, list_at, key_at};
 
-use crate::token::name;
-use mt_phrases::{SyntaxError, sign, singleton};
+use mt_phrases::{NameRule, SyntaxError, name, names, sign, singleton};
 use mt_tokens::{Sign, Token, after_sign};
 use mt_types::List;
 use std::alloc::Global;
-
-/// Names with commas between them.
-pub(crate) fn names<'a, 't>(
-    alloc: Global,
-    tokens: &'t [Token<'a>],
-) -> Result<(List<List<u8>>, &'t [Token<'a>]), SyntaxError>
-    ensures { Gives (λ x. (x.0, plains x.1.now)) result (names_at (plains tokens.now)) }
-{
-    let (first, mut rest) = name(alloc, tokens)?;
-    let mut names = List::new(alloc);
-    names.push(first)?;
-    for _ in 0..rest.len() {
-        let Some(after) = after_sign(rest, Sign::Comma) else {
-            break;
-        };
-        let (next, after) = name(alloc, after)?;
-        names.push(next)?;
-        rest = after;
-    }
-    Ok((names, rest))
-}
 
 /// Names behind an opening parenthesis, up to the closing one.
 fn closed_names<'a, 't>(
@@ -39,7 +17,7 @@ fn closed_names<'a, 't>(
 ) -> Result<(List<List<u8>>, &'t [Token<'a>]), SyntaxError>
     ensures { Gives (λ x. (x.0, plains x.1.now)) result (to_close names_at (plains tokens.now)) }
 {
-    let (names, rest) = names(alloc, tokens)?;
+    let (names, rest) = names(NameRule::Any, alloc, tokens)?;
     let rest = sign(rest, Sign::Close)?;
     Ok((names, rest))
 }
@@ -53,7 +31,7 @@ pub(crate) fn list<'a, 't>(
 {
     match after_sign(tokens, Sign::Open) {
         Some(inner) => closed_names(alloc, inner),
-        None => names(alloc, tokens),
+        None => names(NameRule::Any, alloc, tokens),
     }
 }
 
@@ -67,7 +45,7 @@ pub fn key<'a, 't>(
     match after_sign(tokens, Sign::Open) {
         Some(inner) => closed_names(alloc, inner),
         None => {
-            let (only, rest) = name(alloc, tokens)?;
+            let (only, rest) = name(NameRule::Any, alloc, tokens)?;
             Ok((singleton(alloc, only)?, rest))
         }
     }

@@ -1,16 +1,12 @@
 //! Projections.
 
 ghost use Rattle.mt_tokens.specs.Tokens.{plains};
-ghost use Rattle.mt_tokens.specs.Words.{name_of};
-ghost use Rattle.mt_phrases.specs.Selections.{selects_at};
 ghost use Rattle.mt_phrases.specs.Answers.{Gives};
 ghost use Rattle.mt_element_syntax.specs.Reading.{group_at, order_at, projection_at, selection_at};
 
-use crate::item::items;
 use crate::names::list;
-use crate::token::name;
 use crate::tree::Element;
-use mt_phrases::{Selected, SyntaxError, begins_with_sign, keyword, sign};
+use mt_phrases::{NameRule, Selected, SyntaxError, keyword, name, selects, sign};
 use mt_tokens::{Sign, Token, after_keyword};
 use mt_types::List;
 use std::alloc::Global;
@@ -34,7 +30,7 @@ pub(crate) fn projection<'a, 't>(
 ) -> Result<(Element, &'t [Token<'a>]), SyntaxError>
     ensures { Gives (λ x. (x.0, plains x.1.now)) result (projection_at (plains tokens.now)) }
 {
-    let (name, rest) = name(alloc, tokens)?;
+    let (name, rest) = name(NameRule::Any, alloc, tokens)?;
     let rest = sign(rest, Sign::Open)?;
     let (selecting, rest) = selecting(alloc, rest)?;
     let rest = sign(rest, Sign::Close)?;
@@ -62,7 +58,7 @@ fn selecting<'a, 't>(
     ensures { Gives (λ x. ((x.0.items, (x.0.group, x.0.order)), plains x.1.now)) result (selection_at (plains tokens.now)) }
 {
     let rest = keyword(tokens, b"SELECT")?;
-    let (items, rest) = selected(alloc, rest)?;
+    let (items, rest) = selects(NameRule::Any, alloc, rest)?;
     let (group, rest) = group(alloc, rest)?;
     let (order, rest) = order(alloc, rest)?;
     Ok((
@@ -73,21 +69,6 @@ fn selecting<'a, 't>(
         },
         rest,
     ))
-}
-
-/// `*`, or items.
-fn selected<'a, 't>(
-    alloc: Global,
-    tokens: &'t [Token<'a>],
-) -> Result<(Selected, &'t [Token<'a>]), SyntaxError>
-    ensures { Gives (λ x. (x.0, plains x.1.now)) result (selects_at name_of (plains tokens.now)) }
-{
-    if begins_with_sign(tokens, Sign::Star) {
-        let rest = sign(tokens, Sign::Star)?;
-        return Ok((Selected::All, rest));
-    }
-    let (items, rest) = items(alloc, tokens)?;
-    Ok((Selected::Items(items), rest))
 }
 
 /// The names of GROUP BY, where it is given.

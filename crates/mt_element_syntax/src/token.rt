@@ -4,26 +4,12 @@ ghost use Rattle.mt_tokens.specs.Tokens.{plains};
 ghost use Rattle.mt_tokens.specs.Splits.{after_if};
 ghost use Rattle.mt_phrases.specs.Terminals.{is_text};
 ghost use Rattle.mt_phrases.specs.Answers.{Gives};
-ghost use Rattle.mt_element_syntax.specs.Terminals.{is_name};
-ghost use Rattle.mt_element_syntax.specs.Reading.{name_at, word_at};
+ghost use Rattle.mt_element_syntax.specs.Reading.{word_at};
 
 use mt_phrases::SyntaxError;
-use mt_tokens::{Token, name_of, split_first, split_name};
+use mt_tokens::{Token, split_first};
 use mt_types::List;
 use std::alloc::Global;
-
-/// The name at the front, and what follows it.
-pub fn name<'a, 't>(
-    alloc: Global,
-    tokens: &'t [Token<'a>],
-) -> Result<(List<u8>, &'t [Token<'a>]), SyntaxError>
-    ensures { Gives (λ x. (x.0, plains x.1.now)) result (name_at (plains tokens.now)) }
-{
-    match split_name(tokens) {
-        Some((name, rest)) => Ok((List::of_bytes(alloc, name)?, rest)),
-        None => Err(SyntaxError::Bad),
-    }
-}
 
 /// The plain word at the front, of any length, and what follows it.
 pub fn word<'a, 't>(
@@ -45,18 +31,5 @@ pub fn any_text<'a, 't>(tokens: &'t [Token<'a>]) -> Result<&'t [Token<'a>], Synt
     match split_first(tokens) {
         Some((Token::Text(_), rest)) => Ok(rest),
         _ => Err(SyntaxError::Bad),
-    }
-}
-
-/// What follows a name.
-pub fn any_name<'a, 't>(tokens: &'t [Token<'a>]) -> Result<&'t [Token<'a>], SyntaxError>
-    ensures { Gives (λ x. plains x.now) result (after_if is_name (plains tokens.now)) }
-{
-    let Some((first, rest)) = split_first(tokens) else {
-        return Err(SyntaxError::Bad);
-    };
-    match name_of(first) {
-        Some(_) => Ok(rest),
-        None => Err(SyntaxError::Bad),
     }
 }

@@ -1,4 +1,5 @@
 pub mod Terminals
+pub mod NameRules
 pub mod Phrases
 pub mod Readers
 pub mod Answers

@@ -6,6 +6,8 @@
 mod error;
 mod lists;
 mod lookahead;
+mod naming;
+mod selecting;
 mod selection;
 mod token;
 
@@ -15,5 +17,7 @@ pub use lookahead::{
     begins_with_digits, begins_with_keyword, begins_with_sign, begins_with_text, begins_with_word,
     second_is_keyword, second_is_sign,
 };
-pub use selection::{Selected, Selection, agg, count};
+pub use naming::{NameRule, any_name, name, names, skip_database};
+pub use selecting::selects;
+pub use selection::{Selected, Selection};
 pub use token::{fixed_word, keyword, number, sign, skip_semicolon, text};

@@ -23,7 +23,8 @@ use Rattle.mt_query_syntax.specs.declared.tree.QueryText.{QueryText}
 use Rattle.mt_cond_syntax.specs.Grammar.{IsName, IsCond}
 use Rattle.mt_query_syntax.specs.Grammar.{IsWhere, IsGroup, IsOrder, IsFrom, IsQuery, IsQueryText}
 use Rattle.mt_query_syntax.specs.Reading.{where_at, group_at, order_at, clauses_at, from_at, query_at, sentence_at}
-use Rattle.mt_cond_syntax.specs.Terminals.{is_name, name_in}
+use Rattle.mt_phrases.specs.NameRules.{name_in}
+use Rattle.mt_cond_syntax.specs.Terminals.{is_name}
 use Rattle.mt_query_syntax.specs.Trees.{query_of}
 use Rattle.mt_cond_syntax.proofs.CondLaws.{EndsCond, cond_law, name_law}
 use Rattle.mt_cond_syntax.proofs.QueryTests.{query_name_no_sign}

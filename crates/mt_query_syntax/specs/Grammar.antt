@@ -14,7 +14,8 @@ use Rattle.mt_phrases.specs.Terminals.{key}
 use Rattle.mt_cond_syntax.specs.Grammar.{IsName, IsCond}
 use Rattle.mt_cond_syntax.specs.declared.tree.CondText.{CondText}
 use Rattle.mt_query_syntax.specs.declared.tree.QueryText.{QueryText}
-use Rattle.mt_cond_syntax.specs.Terminals.{name_in, is_name}
+use Rattle.mt_phrases.specs.NameRules.{name_in}
+use Rattle.mt_cond_syntax.specs.Terminals.{is_name}
 use Rattle.mt_query_syntax.specs.Trees.{query_of}
 
 -- ---- clauses

@@ -4,8 +4,8 @@ ghost use Rattle.mt_tokens.specs.Tokens.{plains};
 ghost use Rattle.mt_phrases.specs.Answers.{Gives};
 ghost use Rattle.mt_query_syntax.specs.Reading.{clauses_at, group_at, limit_at, order_at, where_at};
 
-use mt_cond_syntax::{CondText, cond, names};
-use mt_phrases::{SyntaxError, keyword, number};
+use mt_cond_syntax::{CondText, cond};
+use mt_phrases::{NameRule, SyntaxError, keyword, names, number};
 use mt_tokens::{Token, after_keyword};
 use mt_types::List;
 use std::alloc::Global;
@@ -47,7 +47,7 @@ fn group<'a, 't>(
     match after_keyword(tokens, b"GROUP") {
         Some(after) => {
             let rest = keyword(after, b"BY")?;
-            let (names, rest) = names(alloc, rest)?;
+            let (names, rest) = names(NameRule::Unreserved, alloc, rest)?;
             Ok((Some(names), rest))
         }
         None => Ok((None, tokens)),

@@ -4,7 +4,6 @@
 #![tactic(auto)]
 
 mod clause;
-mod item;
 mod law;
 mod reading;
 mod sentence;

@@ -1,36 +1,19 @@
 //! The whole sentence.
 
-ghost use Rattle.std.specs.Prelude.{[], ◌∷◌, ◌≡◌};
-ghost use Rattle.mt_tokens.specs.declared.sign.Sign.TheVariants.{Dot};
+ghost use Rattle.std.specs.Prelude.{◌≡◌};
 ghost use Rattle.mt_tokens.specs.Tokens.{plains};
-ghost use Rattle.mt_tokens.specs.Words.{is_sign};
 ghost use Rattle.mt_phrases.specs.Answers.{Gives};
-ghost use Rattle.mt_phrases.specs.Phrases.{second_is};
-ghost use Rattle.mt_phrases.specs.Readers.{skip_if};
 ghost use Rattle.mt_query_syntax.specs.Reading.{from_at, query_at, sentence_at};
-ghost use Rattle.mt_cond_syntax.specs.Terminals.{is_name};
 ghost use Rattle.mt_query_syntax.specs.Trees.{query_of};
 
 use crate::clause::{Clauses, read_clauses};
-use crate::item::selected;
 use crate::tree::QueryText;
-use mt_cond_syntax::any_name;
-use mt_phrases::{Selected, SyntaxError, keyword, second_is_sign, sign, skip_semicolon};
-use mt_tokens::{Sign, Token, split_first};
+use mt_phrases::{
+    NameRule, Selected, SyntaxError, any_name, keyword, selects, skip_database, skip_semicolon,
+};
+use mt_tokens::{Token, split_first};
 use mt_types::List;
 use std::alloc::Global;
-
-/// What follows the name of a database and its point, where they are given.
-fn skip_database<'a, 't>(tokens: &'t [Token<'a>]) -> Result<&'t [Token<'a>], SyntaxError>
-    ensures { Gives (λ x. plains x.now) result
-        (skip_if (second_is (is_sign Dot)) (is_name ∷ is_sign Dot ∷ []) (plains tokens.now)) }
-{
-    if !second_is_sign(tokens, Sign::Dot) {
-        return Ok(tokens);
-    }
-    let rest = any_name(tokens)?;
-    sign(rest, Sign::Dot)
-}
 
 /// FROM, a table's name, which is passed over, and the clauses.
 fn from<'a, 't>(
@@ -40,8 +23,8 @@ fn from<'a, 't>(
     ensures { Gives (λ x. ((x.0.cond, (x.0.group, x.0.limit)), plains x.1.now)) result (from_at (plains tokens.now)) }
 {
     let rest = keyword(tokens, b"FROM")?;
-    let rest = skip_database(rest)?;
-    let rest = any_name(rest)?;
+    let rest = skip_database(NameRule::Unreserved, rest)?;
+    let rest = any_name(NameRule::Unreserved, rest)?;
     read_clauses(alloc, rest)
 }
 
@@ -70,7 +53,7 @@ fn query<'a, 't>(
     ensures { Gives (λ x. (x.0, plains x.1.now)) result (query_at (plains tokens.now)) }
 {
     let rest = keyword(tokens, b"SELECT")?;
-    let (items, rest) = selected(alloc, rest)?;
+    let (items, rest) = selects(NameRule::Unreserved, alloc, rest)?;
     let (clauses, rest) = from(alloc, rest)?;
     Ok((query_text(alloc, items, clauses), rest))
 }

@@ -2,14 +2,11 @@
 
 ghost use Rattle.std.specs.Prelude.{◌≡◌, [], ◌∷◌, codes};
 ghost use Rattle.std.specs.List.{list_any};
-ghost use Rattle.mt_tokens.specs.declared.sign.Sign.TheVariants.{Dot};
 ghost use Rattle.mt_tokens.specs.Tokens.{plains};
-ghost use Rattle.mt_tokens.specs.Words.{is_keyword, is_sign};
-ghost use Rattle.mt_phrases.specs.Phrases.{second_is};
+ghost use Rattle.mt_tokens.specs.Words.{is_keyword};
 ghost use Rattle.mt_phrases.specs.Terminals.{is_text};
-ghost use Rattle.mt_phrases.specs.Readers.{both, with_tree_if, skip, skip_if};
+ghost use Rattle.mt_phrases.specs.Readers.{both, with_tree_if, skip};
 ghost use Rattle.mt_phrases.specs.Answers.{Gives};
-ghost use Rattle.mt_element_syntax.specs.Terminals.{is_name};
 ghost use Rattle.mt_element_syntax.specs.Trees.{is_column};
 ghost use Rattle.mt_syntax.specs.Trees.{sentence_of};
 ghost use Rattle.mt_element_syntax.specs.Reading.{elements_at};
@@ -18,8 +15,8 @@ ghost use Rattle.mt_syntax.specs.Reading.{body_at, engine_at};
 use crate::clause::Clauses;
 use crate::clauses::read_clauses;
 use crate::tree::TableText;
-use mt_element_syntax::{Element, any_name, any_text, elements, name};
-use mt_phrases::{SyntaxError, fixed_word, keyword, or_empty, second_is_sign, sign};
+use mt_element_syntax::{Element, any_text, elements};
+use mt_phrases::{NameRule, SyntaxError, fixed_word, keyword, name, or_empty, sign, skip_database};
 use mt_tokens::{Sign, Token, after_keyword};
 use mt_types::List;
 use std::alloc::Global;
@@ -32,26 +29,14 @@ pub(crate) fn body<'a, 't>(
 ) -> Result<(TableText, &'t [Token<'a>]), SyntaxError>
     ensures { Gives (λ x. (x.0, plains x.1.now)) result (with_tree_if sentence_of body_at (plains tokens.now)) }
 {
-    let rest = skip_database(tokens)?;
-    let (name, rest) = name(alloc, rest)?;
+    let rest = skip_database(NameRule::Any, tokens)?;
+    let (name, rest) = name(NameRule::Any, alloc, rest)?;
     let rest = skip_uuid(rest)?;
     let (elements, clauses, rest) = definition(alloc, rest)?;
     match table_text(alloc, name, elements, clauses) {
         Some(table) => Ok((table, rest)),
         None => Err(SyntaxError::Bad),
     }
-}
-
-/// What follows the name of a database and its point, where they are given.
-fn skip_database<'a, 't>(tokens: &'t [Token<'a>]) -> Result<&'t [Token<'a>], SyntaxError>
-    ensures { Gives (λ x. plains x.now) result
-        (skip_if (second_is (is_sign Dot)) (is_name ∷ is_sign Dot ∷ []) (plains tokens.now)) }
-{
-    if !second_is_sign(tokens, Sign::Dot) {
-        return Ok(tokens);
-    }
-    let rest = any_name(tokens)?;
-    sign(rest, Sign::Dot)
 }
 
 /// What follows `UUID text`, where it is given.

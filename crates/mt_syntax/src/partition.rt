@@ -6,8 +6,7 @@ ghost use Rattle.mt_phrases.specs.Answers.{Gives};
 ghost use Rattle.mt_syntax.specs.Reading.{expression_at, expressions_at};
 
 use crate::tree::PartitionText;
-use mt_element_syntax::name;
-use mt_phrases::{SyntaxError, fixed_word, second_is_sign, sign, singleton};
+use mt_phrases::{NameRule, SyntaxError, fixed_word, name, second_is_sign, sign, singleton};
 use mt_tokens::{Sign, Token, after_sign};
 use mt_types::List;
 use std::alloc::Global;
@@ -64,10 +63,10 @@ fn expression<'a, 't>(
     if second_is_sign(tokens, Sign::Open) {
         let rest = fixed_word(tokens, b"toYYYYMM")?;
         let rest = sign(rest, Sign::Open)?;
-        let (name, rest) = name(alloc, rest)?;
+        let (name, rest) = name(NameRule::Any, alloc, rest)?;
         let rest = sign(rest, Sign::Close)?;
         return Ok((PartitionText::Month(name), rest));
     }
-    let (name, rest) = name(alloc, tokens)?;
+    let (name, rest) = name(NameRule::Any, alloc, tokens)?;
     Ok((PartitionText::Plain(name), rest))
 }
