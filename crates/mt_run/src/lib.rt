@@ -3,6 +3,7 @@
 //! Its contract has each refusal in order, the effect, when faults come and what stands afterwards.
 #![tactic(auto)]
 
+mod parsed;
 mod perform;
 mod top;
 mod words;
