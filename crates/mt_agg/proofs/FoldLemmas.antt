@@ -2,8 +2,8 @@
 use Rattle.std.proofs.Common.{◌≡◌, ℕ, ◌+◌, ◌%◌, ◌^◌, ℤ, List, [], ◌∷◌, ◌++◌, length, Some, None, Option, refl, ap, sym, ◌∙◌, arith, length-append}
 use Rattle.std.specs.List.{sum_by}
 use Rattle.std.proofs.lemmas.List.Sums.{sum_by-append}
-use Rattle.std.specs.Int.{w128, int_min, int_max, cast_unsigned}
-use Rattle.std.proofs.lemmas.Int.{ints, clamps}
+use Rattle.std.specs.Int.{w128, cast_unsigned}
+use Rattle.mt_facts.proofs.Numbers.{max_assoc, min_assoc}
 use Rattle.mt_types.specs.declared.ty.Agg.TheVariants.{Sum, Min, Max}
 use Rattle.mt_types.specs.declared.value.AggState.TheVariants as state
 use Rattle.mt_table.specs.declared.projection.Aggregate.{Aggregate}
@@ -11,19 +11,13 @@ use Rattle.mt_table.specs.declared.projection.Aggregate.TheVariants.{Count, Of}
 use Rattle.mt_defs.specs.Folds.{lesser, greater, least, greatest, state_of, states_join}
 use Rattle.mt_agg.specs.States.{state_with}
 
-min_assoc : (a b c : ℤ) → int_min (int_min a b) c ≡ int_min a (int_min b c)
-min_assoc a b c = omega (arith, ints, clamps)
-
-max_assoc : (a b c : ℤ) → int_max (int_max a b) c ≡ int_max a (int_max b c)
-max_assoc a b c = omega (arith, ints, clamps)
-
-lesser_assoc : (a b c : Option ℤ) → lesser (lesser a b) c ≡ lesser a (lesser b c)
+pub lesser_assoc : (a b c : Option ℤ) → lesser (lesser a b) c ≡ lesser a (lesser b c)
 lesser_assoc None b c = refl
 lesser_assoc (Some a) None c = refl
 lesser_assoc (Some a) (Some b) None = refl
 lesser_assoc (Some a) (Some b) (Some c) = ap (λ n. Some n) (min_assoc a b c)
 
-greater_assoc : (a b c : Option ℤ) → greater (greater a b) c ≡ greater a (greater b c)
+pub greater_assoc : (a b c : Option ℤ) → greater (greater a b) c ≡ greater a (greater b c)
 greater_assoc None b c = refl
 greater_assoc (Some a) None c = refl
 greater_assoc (Some a) (Some b) None = refl

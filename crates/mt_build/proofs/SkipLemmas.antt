@@ -5,6 +5,7 @@ use Rattle.std.specs.List.{list_all, filter_map, flat_map, concat}
 use Rattle.std.proofs.lemmas.Bool.{leb-true}
 use Rattle.std.proofs.lemmas.List.{append_assoc, get_or_default}
 use Rattle.std.proofs.lemmas.List.Elements.{All-weaker}
+use Rattle.mt_facts.proofs.Lists.{each_passes}
 use Rattle.mt_types.specs.declared.ty.Ty.{Ty, out-Ty}
 use Rattle.mt_types.specs.declared.ty.Ty.TheOpen.{Ty-F}
 use Rattle.mt_types.specs.declared.ty.Ty.TheVariants.{Date, outs-Date}
@@ -40,10 +41,10 @@ use Rattle.mt_defs.specs.Metadata.{column_at, no_column}
 use Rattle.mt_defs.specs.SkipIndexes.{skip_data_name, skip_mark_bytes, skip_marks_name}
 use Rattle.mt_defs.specs.WrittenFrames.{mark_at, written_frames}
 use Rattle.mt_defs.specs.WrittenSkips.{skip_files, written_entries, written_skip_mark}
-use Rattle.mt_meta.specs.PartitionKeys.{ArePartitionKeys, IsExpression}
+use Rattle.mt_meta.specs.PartitionKeys.{ArePartitionKeys, IsKeyExpression}
 use Rattle.mt_build.specs.Definitions.{IsLayout}
 use Rattle.mt_build.specs.SkipFiles.{IsSkip, passed_mark}
-use Rattle.mt_meta.proofs.DefinitionLemmas.{all_pass, has_column, key_scalar}
+use Rattle.mt_meta.proofs.DefinitionLemmas.{has_column, key_scalar}
 
 -- ---- skip indexes
 
@@ -60,7 +61,7 @@ skips_are table =
     let keeps = (each_of (fields_of_table table) table.rules).skips in
     let parts = both_true (nat_le (length table.skips) MAX_SKIPS) _ keeps in
     let each = both_true (list_all (keeps_skip table.columns) table.skips) _ parts.1 in
-    All-weaker (λ skip. keeps_skip table.columns skip ≡ true) (IsSkip table.columns) (skip_is table.columns) table.skips (all_pass (keeps_skip table.columns) table.skips each.0)
+    All-weaker (λ skip. keeps_skip table.columns skip ≡ true) (IsSkip table.columns) (skip_is table.columns) table.skips (each_passes (keeps_skip table.columns) table.skips each.0)
 
 -- so is each, where code reads it
 pub skip_at : (table : Table) (slice : List Skip) (i : ℕ) (skip : Skip) → slice ≡ table.skips → i < length slice → skip ≡ get_or slice i skip → IsSkip table.columns skip
@@ -93,7 +94,7 @@ pub values_fit : (columns slice : List Column) (skip : Skip) (rows : List Row) (
     → read ≡ values → values ≡ column_values skip.column rows → AllFit (get_or slice skip.column d).ty read
 values_fit columns slice skip rows d read values is fit same reads are =
     let ty = (column_at columns skip.column).ty in
-    let all : AllFit ty (column_values skip.column rows) = all_pass (fits_of ty) (column_values skip.column rows) (column_fit ty skip.column rows (has_values columns skip rows is fit)) in
+    let all : AllFit ty (column_values skip.column rows) = each_passes (fits_of ty) (column_values skip.column rows) (column_fit ty skip.column rows (has_values columns skip rows is fit)) in
     let at : AllFit ty read = subst (AllFit ty) (sym (reads ∙ are)) all in
     subst (λ (c : Column). AllFit c.ty read) (sym (column_read columns slice skip.column d same is.known)) at
 
@@ -120,7 +121,7 @@ date_at : (ty : Ty) (level : Ty-F Ty) → out-Ty ty ≡ level → is_date_at lev
 date_at ty Ty-F.Date is e = same_level ty Date (is ∙ sym outs-Date)
 date_at ty _ is e = cc
 
-expression_is : (columns : List Column) (expression : PartExpr) → keeps_expression columns expression ≡ true → IsExpression columns expression
+expression_is : (columns : List Column) (expression : PartExpr) → keeps_expression columns expression ≡ true → IsKeyExpression columns expression
 expression_is columns (Plain i) keeps =
     let has = has_column is_key_type columns i keeps in
     (has.known, key_scalar (column_at columns i).ty has.passes)
@@ -134,4 +135,4 @@ partition_keys table =
     let few = both_true (nat_le (length table.partition) MAX_PARTITION) _ keeps in
     let plain = both_true (places_differ (filter_map plain_place table.partition)) _ few.1 in
     let months = both_true (places_differ (filter_map month_place table.partition)) (list_all (keeps_expression table.columns) table.partition) plain.1 in
-    All-weaker (λ expression. keeps_expression table.columns expression ≡ true) (IsExpression table.columns) (expression_is table.columns) table.partition (all_pass (keeps_expression table.columns) table.partition months.1)
+    All-weaker (λ expression. keeps_expression table.columns expression ≡ true) (IsKeyExpression table.columns) (expression_is table.columns) table.partition (each_passes (keeps_expression table.columns) table.partition months.1)

@@ -8,11 +8,11 @@ use Rattle.std.specs.List.{All}
 use Rattle.std.proofs.lemmas.List.{map_push, get_or-map, length-map, map-append, take-map, drop-map}
 use Rattle.std.proofs.lemmas.List.Elements.{All-head, All-tail}
 use Rattle.std.proofs.Common.{map}
+use Rattle.mt_facts.proofs.Numbers.{sum_cons}
 use Rattle.mt_types.specs.declared.value.Value.{Value}
 use Rattle.mt_types.specs.declared.value.AggState.{AggState}
 use Rattle.mt_types.specs.declared.value.Value.TheVariants.{Text, State, Null}
 use Rattle.mt_cells.specs.Pieces.{cut}
-use Rattle.mt_cells.proofs.SizeLemmas.{sum-cons}
 
 pub length-cut : {X : Type 0} (sizes : List ℕ) (xs : List X) → length (cut sizes xs) ≡ length sizes
 unfolding cut
@@ -28,7 +28,7 @@ pub cut-append : {X : Type 0} (sizes more : List ℕ) (xs ys : List X) → lengt
 unfolding cut
 cut-append [] more xs ys h = ap (λ zs. cut more (zs ++ ys)) (nil_from_length xs h)
 cut-append (size ∷ sizes) more xs ys h =
-    let first = sum-cons size sizes in
+    let first = sum_cons size sizes in
     let long : size ≤ length xs = omega (arith, h, first) in
     let left : length (drop size xs) ≡ sum sizes = omega (arith, h, first, length-drop size xs) in
     ap₂ ◌∷◌ (take-append-le size xs ys long) (ap (cut (sizes ++ more)) (drop-append-le size xs ys long) ∙ cut-append sizes more (drop size xs) ys left)
@@ -39,7 +39,7 @@ unfolding cut
 cut_at [] xs i d h = absurd (omega arith)
 cut_at (size ∷ sizes) xs zero d h = refl
 cut_at (size ∷ sizes) xs (suc i) d h =
-    let first = sum-cons size (take i sizes) in
+    let first = sum_cons size (take i sizes) in
     cut_at sizes (drop size xs) i d (omega arith) ∙ ap (take (get_or sizes i 0)) (drop-drop (sum (take i sizes)) size xs ∙ ap (λ (n : ℕ). drop n xs) (sym first))
 
 -- one piece
@@ -55,14 +55,14 @@ unfolding cut
 cut-drop zero sizes xs = refl
 cut-drop (suc n) [] xs = refl
 cut-drop (suc n) (size ∷ sizes) xs =
-    cut-drop n sizes (drop size xs) ∙ ap (cut (drop n sizes)) (drop-drop (sum (take n sizes)) size xs ∙ ap (λ (k : ℕ). drop k xs) (sym (sum-cons size (take n sizes))))
+    cut-drop n sizes (drop size xs) ∙ ap (cut (drop n sizes)) (drop-drop (sum (take n sizes)) size xs ∙ ap (λ (k : ℕ). drop k xs) (sym (sum_cons size (take n sizes))))
 
 cut-take : {X : Type 0} (n k : ℕ) (sizes : List ℕ) (xs : List X) → k ≡ sum (take n sizes) → take n (cut sizes xs) ≡ cut (take n sizes) (take k xs)
 unfolding cut
 cut-take zero k sizes xs e = refl
 cut-take (suc n) k [] xs e = refl
 cut-take (suc n) k (size ∷ sizes) xs e =
-    let first = sum-cons size (take n sizes) in
+    let first = sum_cons size (take n sizes) in
     let left : k - size ≡ sum (take n sizes) = omega (arith, e, first) in
     let within : size ≤ k = omega (arith, e, first) in
     let back : size + (k - size) ≡ k = omega (arith, within) in

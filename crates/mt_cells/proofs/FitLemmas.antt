@@ -97,7 +97,7 @@ text_only W128 bytes = refl
 text_test : (k : Kind) (bytes : List ℕ) → fits_of (type_of k) (Text bytes) ≡ level_fits k (Value-F.Text bytes)
 text_test k bytes = fits_level k (Text bytes) ∙ ap (level_fits k) (outs-Text bytes)
 
-no_fit : {P : Type 0} (b : Bool) → b ≡ false → b ≡ true → P
+pub no_fit : {P : Type 0} (b : Bool) → b ≡ false → b ≡ true → P
 no_fit b p q = let bad : false ≡ true = sym p ∙ q in cc
 
 pub text_cell : (k : Kind) (bytes : List ℕ) → fits_of (type_of k) (Text bytes) ≡ true → IsItemOf k (Text bytes) bytes

@@ -4,7 +4,7 @@ use Rattle.std.specs.Prelude.{◌&&◌, ◌==◌}
 use Rattle.std.specs.Int.{w128, to_le_bytes, from_le_bytes, cast_signed}
 use Rattle.std.specs.List.{list_all}
 use Rattle.std.proofs.Common.{length-drop}
-use Rattle.std.proofs.lemmas.Bool.{and_from, lt-ltb, eq-eqb}
+use Rattle.std.proofs.lemmas.Bool.{and_from, eq-eqb}
 use Rattle.std.proofs.lemmas.List.{length-take-le, length-replicate}
 use Rattle.mt_types.specs.declared.ty.Width.{Width}
 use Rattle.mt_types.specs.declared.ty.Width.TheVariants.{W8, W16, W32, W64, W128}
@@ -20,9 +20,9 @@ use Rattle.mt_types.specs.Items.{item_bytes, fixed_at, width}
 use Rattle.mt_types.specs.Numbers.{bits_in, is_number_at, is_number_type, number_size, number_size_at, width_size}
 use Rattle.mt_types.proofs.NumberLemmas.{fits_at, item_at, number_item}
 use Rattle.mt_item.proofs.LengthLemmas.{Small}
-use Rattle.mt_item.proofs.ExactLemmas.{small_taken}
-use Rattle.mt_item.proofs.WholeLemmas.{read_back, sum_back}
-use Rattle.mt_item.proofs.NumberLemmas.{numbers_UInt, numbers_Int, signed_num}
+use Rattle.mt_item.proofs.ExactLemmas.{small_taken, small_test}
+use Rattle.mt_item.proofs.WholeLemmas.{read_back}
+use Rattle.mt_item.proofs.NumberLemmas.{numbers_UInt, numbers_Int, signed_num, number_back}
 use Rattle.mt_cells.specs.declared.kind.Kind.{Kind}
 use Rattle.mt_cells.specs.declared.kind.Kind.TheVariants as kind
 use Rattle.mt_cells.specs.Kinds.{chunks, size_of, type_of, value_of, values_of}
@@ -39,10 +39,6 @@ small_zeros zero i = lit< tt
 small_zeros (suc n) zero = lit< tt
 small_zeros (suc n) (suc i) = small_zeros n i
 
-small_bytes : (bytes : List ℕ) → Small bytes → list_all is_byte bytes ≡ true
-small_bytes [] small = refl
-small_bytes (b ∷ bytes) small = and_from (is_byte b) (list_all is_byte bytes) (lt-ltb b 256 (small 0)) (small_bytes bytes (λ i. small (suc i)))
-
 -- bytes that are a number are its encoding
 whole_back : (w : Width) (bytes : List ℕ) → length bytes ≡ width_size w → Small bytes
     → (from_le_bytes (width w) bytes < 2 ^ bits w) × (to_le_bytes (width w) (from_le_bytes (width w) bytes) ≡ bytes)
@@ -58,14 +54,6 @@ whole_size W16 n = refl
 whole_size W32 n = refl
 whole_size W64 n = refl
 whole_size W128 n = refl
-
--- a number is that of its encoding
-number_back : (w : Width) (n : ℕ) → n < 2 ^ bits w → from_le_bytes (width w) (to_le_bytes (width w) n) ≡ n
-number_back W8 n small = sum_back 0 n small
-number_back W16 n small = sum_back 1 n small
-number_back W32 n small = sum_back 3 n small
-number_back W64 n small = sum_back 7 n small
-number_back W128 n small = sum_back 15 n small
 
 -- ---- an item, and its value
 
@@ -101,7 +89,7 @@ value_fits (kind.Signed w) bytes long small =
     let fits = (whole_back w bytes long small).0 in
     ap (fits_of (Int w)) (sym (signed_num w m fits)) ∙ (numbers_Int w).fit m fits
 value_fits (kind.Text size) bytes long small =
-    fixed_fits size (Text bytes) ∙ ap (text_at (fixed_test size)) (outs-Text bytes) ∙ and_from (length bytes == size) (list_all is_byte bytes) (eq-eqb (length bytes) size long) (small_bytes bytes small)
+    fixed_fits size (Text bytes) ∙ ap (text_at (fixed_test size)) (outs-Text bytes) ∙ and_from (length bytes == size) (list_all is_byte bytes) (eq-eqb (length bytes) size long) (small_test bytes small)
 
 pub values_fit : (k : Kind) (n : ℕ) (bytes : List ℕ) → length bytes ≡ n * size_of k → Small bytes → list_all (fits_of (type_of k)) (values_of k n bytes) ≡ true
 unfolding chunks

@@ -73,7 +73,7 @@ seen_cmp a b =
     ∙ ap₂ levels_cmp (out_seen a) (out_seen b)
     ∙ ap₂ ordering_then (ap₂ nat_cmp (rank_seen a) (rank_level b)) (alike_seen a b)
 
-first_decides : (r rest : Ordering) → (r ≡ Equal → ⊥) → ordering_then r rest ≡ r
+pub first_decides : (r rest : Ordering) → (r ≡ Equal → ⊥) → ordering_then r rest ≡ r
 first_decides Less rest e = refl
 first_decides Equal rest e = absurd (e refl)
 first_decides Greater rest e = refl

@@ -1,7 +1,7 @@
 -- Sizes as the ends of their pieces.
 use Rattle.std.proofs.Common.{◌≡◌, ℕ, zero, suc, ◌+◌, ◌-◌, ◌<◌, ◌≤◌, List, [], ◌∷◌, ◌++◌, length, get_or, take, refl, ap, sym, ◌∙◌, arith}
 use Rattle.std.specs.Prelude.{sum}
-use Rattle.std.proofs.lemmas.List.Sums.{sum_by-cons}
+use Rattle.mt_facts.proofs.Numbers.{sum_cons}
 use Rattle.mt_cells.specs.Pieces.{Rises, steps}
 
 -- the last place, or the one where the first piece begins
@@ -14,9 +14,6 @@ unfolding steps
 length-steps from [] = refl
 length-steps from (end ∷ ends) = ap suc (length-steps end ends)
 
-pub sum-cons : (x : ℕ) (xs : List ℕ) → sum (x ∷ xs) ≡ x + sum xs
-sum-cons x xs = sum_by-cons (λ n. n) x xs
-
 -- a piece begins where the one before it ends
 pub starts : (from i : ℕ) (ends : List ℕ) → Rises from ends → i ≤ length ends → from + sum (take i (steps from ends)) ≡ get_or (from ∷ ends) i 0
 unfolding steps
@@ -24,7 +21,7 @@ starts from zero ends up h = omega arith
 starts from (suc i) [] up h = absurd (omega arith)
 starts from (suc i) (end ∷ ends) up h =
     let next = starts end i ends up.1 (omega arith) in
-    let first = sum-cons (end - from) (take i (steps end ends)) in
+    let first = sum_cons (end - from) (take i (steps end ends)) in
     omega (arith, next, first, up.0)
 
 -- one more end
@@ -42,7 +39,7 @@ unfolding steps
 ends_at from [] up = omega arith
 ends_at from (end ∷ ends) up =
     let next = ends_at end ends up.1 in
-    let first = sum-cons (end - from) (steps end ends) in
+    let first = sum_cons (end - from) (steps end ends) in
     omega (arith, next, first, up.0)
 
 pub steps_none : (from : ℕ) → steps from [] ≡ []

@@ -74,8 +74,8 @@ checks_by base partition skips projections =
 pub part_same : (f g : Folder) (table : Table) (fs gs : List (Option Folder)) → IsDefinition (base_of table) → is_compact f ≡ is_compact g → AgreeAt f g (base_names table (is_compact f))
     → ((accepted : Accepted) → projections_checks table accepted (zip table.projections fs) ≡ projections_checks table accepted (zip table.projections gs)) → files_checks table f fs ≡ files_checks table g gs
 part_same f g table fs gs is kind all projections =
-    let parts = agree_split f g (own_names table.columns (is_compact f)) (own.partition_files table ++ flat_map (skip_names_in (is_compact f)) table.skips) all in
-    let more = agree_split f g (own.partition_files table) (flat_map (skip_names_in (is_compact f)) table.skips) parts.1 in
+    let parts = agree_split f g (own_names table.columns (is_compact f)) (own.partition_file_names table ++ flat_map (skip_names_in (is_compact f)) table.skips) all in
+    let more = agree_split f g (own.partition_file_names table) (flat_map (skip_names_in (is_compact f)) table.skips) parts.1 in
     ap (λ base. checks_by base (partition_reading table f) (λ accepted. each (skip_checks table f accepted) table.skips) (λ accepted. projections_checks table accepted (zip table.projections fs))) (definition_same f g (base_of table) is kind parts.0)
     ∙ ap (λ partition. checks_by (definition_reading (base_of table) g) partition (λ accepted. each (skip_checks table f accepted) table.skips) (λ accepted. projections_checks table accepted (zip table.projections fs)))
     (fun_ext λ accepted. partition_same f g table accepted more.0)

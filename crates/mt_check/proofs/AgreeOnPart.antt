@@ -26,7 +26,7 @@ use Rattle.mt_files.specs.OwnNames as own
 use Rattle.mt_files.specs.OwnNames.{each_once, skip_names_in}
 use Rattle.mt_check.specs.PartitionReading.{files_reading, other_partition, partition_reading}
 use Rattle.mt_definition.specs.RowsReading.{granule_of}
-use Rattle.mt_files.specs.SkipMarks.{index_entries, marks_reading, pieces_at, positions_reading}
+use Rattle.mt_files.specs.SkipMarks.{index_entries, skip_marks_reading, pieces_at, positions_reading}
 use Rattle.mt_definition.proofs.AgreeLemmas.{AgreeAt, file_same}
 use Rattle.mt_frame.specs.FrameReading.{frames_reading, layout}
 use Rattle.mt_defs.specs.Frames.{file_of, payload_of}
@@ -80,7 +80,7 @@ once_agree f g name (i ∷ columns) all = by_test (list_any (λ j. j == i) colum
 abbrev value_file : Table → List Row → FileBytes
 value_file table rows = file partition_name (flat_map (partition_bytes table) (take 1 rows))
 
-written_agree : (f g : Folder) (table : Table) (rows : List Row) → AgreeAt f g (own.partition_files table) → AgreeAt f g (map (λ file. file.name) (partition_files table rows))
+written_agree : (f g : Folder) (table : Table) (rows : List Row) → AgreeAt f g (own.partition_file_names table) → AgreeAt f g (map (λ file. file.name) (partition_files table rows))
 written_agree f g table rows = by_test (length table.partition == 0)
   where
     by_test : (b : Bool) → AgreeAt f g (if b then [] else partition_name ∷ map (minmax_name table) (each_once (map expression_column table.partition)))
@@ -98,7 +98,7 @@ partition_is : (table : Table) (folder : Folder) (accepted : Accepted) → parti
 unfolding partition_reading
 partition_is table folder accepted = refl
 
-pub partition_same : (f g : Folder) (table : Table) (accepted : Accepted) → AgreeAt f g (own.partition_files table) → partition_reading table f accepted ≡ partition_reading table g accepted
+pub partition_same : (f g : Folder) (table : Table) (accepted : Accepted) → AgreeAt f g (own.partition_file_names table) → partition_reading table f accepted ≡ partition_reading table g accepted
 partition_same f g table accepted all =
     let files : files_reading f (partition_files table accepted.rows) ≡ files_reading g (partition_files table accepted.rows) = files_same f g (partition_files table accepted.rows) (written_agree f g table accepted.rows all) in
     partition_is table f accepted ∙ ap (partition_by (length table.partition == 0) table accepted (file_at f partition_name)) files
@@ -115,7 +115,7 @@ abbrev entries_by : List ℕ → Skip → ℕ → Option (List ℕ) → Option (
 entries_by ending skip count file marks =
     (ok_or (file_fault (skip_data_name skip) why.Missing) file >>= λ bytes. blame (frame_fault (skip_data_name skip)) (frames_reading bytes)) >>= λ blocks.
     ok_or (file_fault (skip_marks_name skip ending) why.Missing) marks >>= λ bytes.
-    marks_reading (skip_marks_name skip ending) count bytes >>= λ marks.
+    skip_marks_reading (skip_marks_name skip ending) count bytes >>= λ marks.
     positions_reading (skip_marks_name skip ending) skip.granularity (length (file_of blocks)) (layout blocks) 0 None marks >>= λ positions.
     Ok (pieces_at (payload_of blocks) positions)
 

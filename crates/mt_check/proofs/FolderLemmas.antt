@@ -2,6 +2,8 @@
 use Rattle.std.proofs.Common.{◌≡◌, ℕ, ◌+◌, ◌<◌, ◌≤◌, Bool, true, false, List, [], ◌∷◌, ◌++◌, length, map, drop, refl, ap, sym, subst, ◌∙◌, get_or, arith}
 use Rattle.std.specs.Prelude.{Option, option_map, Result, Ok, Err}
 use Rattle.std.specs.List.{zip}
+use Rattle.mt_facts.proofs.Lists.{drop_next}
+use Rattle.std.proofs.lemmas.List.{get_or_default}
 use Rattle.mt_types.specs.Steps.{◌>>=◌, require}
 use Rattle.mt_types.proofs.StepLemmas.{then_of, require_is}
 use Rattle.mt_fault.specs.declared.file.FileBytes.{FileBytes}
@@ -26,7 +28,7 @@ use Rattle.mt_check.specs.FolderChecks.{projection_checks, each, files_checks, s
 use Rattle.mt_check.specs.PartitionReading.{partition_reading}
 use Rattle.mt_check.specs.Results.{IsBelow}
 use Rattle.mt_fault.proofs.FaultLemmas.{fails_then, fault_gives, test_fails}
-use Rattle.mt_files.proofs.LoopLemmas.{at_index, at_end, same_default}
+use Rattle.mt_files.proofs.LoopLemmas.{at_end}
 
 -- ---- a projection
 
@@ -82,8 +84,8 @@ checks_next : (table : Table) (accepted : Accepted) (folders : List (Option (Lis
 checks_next table accepted folders i files long inside at =
     let there : i < length table.projections = omega (arith, inside, long) in
     let one = projection_at table i in
-    ap (λ (ps : List Projection). projections_checks table accepted (zip ps (as_folders (drop i folders)))) (at_index table.projections i one there (same_default table.projections i no_projection one there))
-    ∙ ap (λ (fs : List (Option (List FileBytes))). projections_checks table accepted (zip (one ∷ drop (i + 1) table.projections) (as_folders fs))) (at_index folders i files inside at)
+    ap (λ (ps : List Projection). projections_checks table accepted (zip ps (as_folders (drop i folders)))) (drop_next table.projections i one there (get_or_default table.projections i no_projection one there))
+    ∙ ap (λ (fs : List (Option (List FileBytes))). projections_checks table accepted (zip (one ∷ drop (i + 1) table.projections) (as_folders fs))) (drop_next folders i files inside at)
 
 pub projection_fails : (table : Table) (accepted : Accepted) (folders : List (Option (List FileBytes))) (i : ℕ) (files : Option (List FileBytes)) (whole : Result Unit Fault) (e : FileError) → checks_from table accepted folders i ≡ whole
     → length folders ≡ length table.projections → i < length folders → files ≡ get_or folders i files → FailsAs e (one_check table accepted i files) → FailsAs e whole

@@ -1,14 +1,12 @@
 -- Groups of granules, and the entries over them.
-use Rattle.std.proofs.Common.{◌≡◌, ℕ, zero, suc, ◌+◌, ◌*◌, ◌<◌, ◌≤◌, ◌^◌, Bool, true, false, List, [], ◌∷◌, ◌++◌, length, take, drop, refl, ap, sym, subst, ◌∙◌, arith, min, get_or, inl, inr}
+use Rattle.std.proofs.Common.{◌≡◌, ℕ, zero, suc, ◌+◌, ◌*◌, ◌<◌, ◌≤◌, ◌^◌, Bool, true, false, List, [], ◌∷◌, ◌++◌, length, take, drop, refl, ap, sym, subst, ◌∙◌, arith, min, get_or}
 use Rattle.std.specs.Prelude.{sum, All, Result, Ok, Err, ◌==◌}
-use Rattle.std.specs.List.{flat_map, zip}
+use Rattle.std.specs.List.{zip}
 use Rattle.std.proofs.Math.Nat.{mul-le-mul}
-use Rattle.std.proofs.Math.Seq.{drop-nil, take-add}
-use Rattle.std.proofs.lemmas.Bool.Decides.{leb_tells}
-use Rattle.std.proofs.lemmas.List.{append_assoc, length-drop, take_all, drop_all, take-map, drop-map}
-use Rattle.std.proofs.lemmas.List.Concat.{flat_map-cons}
-use Rattle.std.proofs.lemmas.List.Elements.{All-head, All-tail, All-take, All-drop, All-map, All-weaker}
+use Rattle.std.proofs.lemmas.List.{append_assoc, length-drop, take-map, drop-map}
+use Rattle.std.proofs.lemmas.List.Elements.{All-take, All-drop, All-map, All-weaker}
 use Rattle.std.proofs.lemmas.List.Sums.{sum_by-cons, sum_by-take-drop}
+use Rattle.mt_facts.proofs.Lists.{drop_next, cut_at, shorter_without, some_left}
 use Rattle.mt_types.specs.declared.ty.Ty.{Ty}
 use Rattle.mt_types.specs.Fits.{fits_of}
 use Rattle.mt_types.specs.Steps.{◌>>=◌, require}
@@ -28,13 +26,11 @@ use Rattle.mt_fault.specs.Results.{IsFault}
 use Rattle.mt_check.specs.RowGroups.{group_sizes}
 use Rattle.mt_files.specs.SkipMarks.{pieces_at}
 use Rattle.mt_fault.proofs.FaultLemmas.{fails_then, test_fails}
-use Rattle.mt_definition.proofs.KeyLemmas.{cell_fits}
-use Rattle.mt_files.proofs.LoopLemmas.{at_index, at_end}
+use Rattle.mt_defs.proofs.RowLemmas.{cell_fits}
+use Rattle.mt_skip.proofs.GroupLemmas.{rows_behind, rows_together}
+use Rattle.mt_files.proofs.LoopLemmas.{at_end}
 
 -- ---- sizes
-
-shorter : {X : Type 0} (n : ℕ) (x : X) (xs : List X) → 1 ≤ n → length (drop n (x ∷ xs)) ≤ length xs
-shorter n x xs some = omega (arith, some, length-drop n (x ∷ xs))
 
 -- a bound on the number of groups that is no less than that of the granules doesn't matter
 sizes_enough : (per m n : ℕ) (granules : List ℕ) → 1 ≤ per → length granules ≤ m → length granules ≤ n → group_sizes per m granules ≡ group_sizes per n granules
@@ -45,30 +41,13 @@ sizes_enough per (suc m) zero [] some low high = refl
 sizes_enough per (suc m) zero (count ∷ granules) some low high = absurd (omega (arith, high))
 sizes_enough per (suc m) (suc n) [] some low high = refl
 sizes_enough per (suc m) (suc n) (count ∷ granules) some low high =
-    let less = shorter per count granules some in
+    let less = shorter_without per count granules some in
     ap (λ sizes. sum (take per (count ∷ granules)) ∷ sizes) (sizes_enough per m n (drop per (count ∷ granules)) some (omega (arith, less, low)) (omega (arith, less, high)))
 
 sizes_step : (per : ℕ) (granules : List ℕ) → 1 ≤ per → 0 < length granules → group_sizes per (length granules) granules ≡ sum (take per granules) ∷ group_sizes per (length (drop per granules)) (drop per granules)
 sizes_step per [] some more = absurd (omega (arith, more))
 sizes_step per (count ∷ granules) some more =
-    ap (λ sizes. sum (take per (count ∷ granules)) ∷ sizes) (sizes_enough per (length granules) (length (drop per (count ∷ granules))) (drop per (count ∷ granules)) some (shorter per count granules some) (omega arith))
-
-cut_at : {X : Type 0} (per n : ℕ) (xs : List X) → n ≡ min (length xs) per → (take n xs ≡ take per xs) × (drop n xs ≡ drop per xs)
-cut_at per n xs is =
-    elim (leb_tells (length xs) per) [
-      | inl short ↦
-          let all : n ≡ length xs = omega (arith, is, short.1) in (
-            take_all n xs (omega (arith, all)) ∙ sym (take_all per xs short.1),
-            drop_all n xs (omega (arith, all)) ∙ sym (drop_all per xs short.1),
-          )
-      | inr long ↦
-          let some : n ≡ per = omega (arith, is, long.1) in
-          (ap (λ k. take k xs) some, ap (λ k. drop k xs) some)
-    ]
-
-some_counts : (counts : List ℕ) (b : Bool) → b ≡ (length counts == 0) → b ≡ false → 0 < length counts
-some_counts [] b is e = absurd (let e : true ≡ false = sym is ∙ e in cc)
-some_counts (k ∷ ks) b is e = omega arith
+    ap (λ sizes. sum (take per (count ∷ granules)) ∷ sizes) (sizes_enough per (length granules) (length (drop per (count ∷ granules))) (drop per (count ∷ granules)) some (shorter_without per count granules some) (omega arith))
 
 pub sizes_more : (per n size : ℕ) (rest group after sizes new whole : List ℕ) (empty : Bool) → 1 ≤ per → empty ≡ (length rest == 0) → empty ≡ false → n ≡ min (length rest) per → group ≡ take n rest → after ≡ drop n rest → size ≡ sum group
     → new ≡ sizes ++ size ∷ [] → sizes ++ group_sizes per (length rest) rest ≡ whole → new ++ group_sizes per (length after) after ≡ whole
@@ -78,7 +57,7 @@ sizes_more per n size rest group after sizes new whole empty some is more cut fr
     let first : size ≡ sum (take per rest) = total ∙ ap sum (front ∙ both.0) in
     ap (λ l. l ++ group_sizes per (length after) after) push ∙ append_assoc sizes (size ∷ []) (group_sizes per (length after) after)
     ∙ ap (λ (ks : List ℕ). sizes ++ size ∷ group_sizes per (length ks) ks) later ∙ ap (λ k. sizes ++ k ∷ group_sizes per (length (drop per rest)) (drop per rest)) first
-    ∙ ap (λ l. sizes ++ l) (sym (sizes_step per rest some (some_counts rest empty is more))) ∙ ahead
+    ∙ ap (λ l. sizes ++ l) (sym (sizes_step per rest some (some_left rest empty is more))) ∙ ahead
 
 pub rest_less : (n : ℕ) (rest after granules : List ℕ) → after ≡ drop n rest → sum rest ≤ sum granules → sum after ≤ sum granules
 rest_less n rest after granules back less = omega (arith, ap sum back, less, sum_by-take-drop (λ k. k) rest n)
@@ -99,47 +78,15 @@ sizes_sum per zero (count ∷ granules) some enough = absurd (omega (arith, enou
 sizes_sum per (suc n) [] some enough = refl
 sizes_sum per (suc n) (count ∷ granules) some enough =
     let all = count ∷ granules in
-    let later = sizes_sum per n (drop per all) some (let less = shorter per count granules some in omega (arith, less, enough)) in
+    let later = sizes_sum per n (drop per all) some (let less = shorter_without per count granules some in omega (arith, less, enough)) in
     let parts = sum_by-take-drop (λ k. k) all per in
     let whole = sum_by-cons (λ k. k) (sum (take per all)) (group_sizes per n (drop per all)) in
     omega (arith, later, parts, whole)
-
-pub granules_few : (granules : List ℕ) → All (λ count. 1 ≤ count) granules → length granules ≤ sum granules
-granules_few [] some = omega arith
-granules_few (count ∷ granules) some =
-    let whole = sum_by-cons (λ k. k) count granules in
-    let later = granules_few granules (All-tail (λ k. 1 ≤ k) count granules some) in
-    let first : 1 ≤ count = All-head (λ k. 1 ≤ k) count granules some in
-    omega (arith, whole, later, first)
 
 pub product_small : (count per : ℕ) → count ≤ 4194304 → per ≤ 1048576 → count * per < 2 ^ 64
 product_small count per few small = let product : count * per ≤ 4194304 * 1048576 = mul-le-mul few small in omega (arith, product)
 
 -- ---- the rows of each
-
-drop_sum : {X : Type 0} (m n : ℕ) (xs : List X) → drop (m + n) xs ≡ drop n (drop m xs)
-drop_sum zero n xs = let e : 0 + n ≡ n = omega arith in ap (λ k. drop k xs) e
-drop_sum (suc m) n [] = drop-nil (suc m + n) ∙ sym (drop-nil n)
-drop_sum (suc m) n (x ∷ xs) = let e : suc m + n ≡ suc (m + n) = omega arith in ap (λ k. drop k (x ∷ xs)) e ∙ drop_sum m n xs
-
-abbrev together : List (List Row) → List Row
-together granules = flat_map (λ rows. rows) granules
-
-rows_together : (per : ℕ) (granules : List ℕ) (rows : List Row) → together (take per (granule_rows granules rows)) ≡ take (sum (take per granules)) rows
-rows_together zero granules rows = refl
-rows_together (suc per) [] rows = refl
-rows_together (suc per) (count ∷ granules) rows =
-    let rest = granule_rows granules (drop count rows) in
-    let size : sum (count ∷ take per granules) ≡ count + sum (take per granules) = sum_by-cons (λ n. n) count (take per granules) in
-    flat_map-cons (λ (some : List Row). some) (take count rows) (take per rest) ∙ ap (λ some. take count rows ++ some) (rows_together per granules (drop count rows))
-    ∙ sym (take-add count (sum (take per granules)) rows) ∙ ap (λ n. take n rows) (sym size)
-
-rows_behind : (per : ℕ) (granules : List ℕ) (rows : List Row) → drop per (granule_rows granules rows) ≡ granule_rows (drop per granules) (drop (sum (take per granules)) rows)
-rows_behind zero granules rows = refl
-rows_behind (suc per) [] rows = refl
-rows_behind (suc per) (count ∷ granules) rows =
-    let size : sum (count ∷ take per granules) ≡ count + sum (take per granules) = sum_by-cons (λ n. n) count (take per granules) in
-    rows_behind per granules (drop count rows) ∙ ap (granule_rows (drop per granules)) (sym (drop_sum count (sum (take per granules)) rows) ∙ ap (λ n. drop n rows) (sym size))
 
 pub groups_are : (per n : ℕ) (granules : List ℕ) (rows : List Row) → entry_groups per n (granule_rows granules rows) ≡ granule_rows (group_sizes per n granules) rows
 groups_are per zero granules rows = refl
@@ -149,10 +96,6 @@ groups_are per (suc n) (count ∷ granules) rows =
     let size = sum (take per all) in
     ap (λ (first : List Row). first ∷ entry_groups per n (drop per (granule_rows all rows))) (rows_together per all rows)
     ∙ ap (λ (groups : List (List Row)). take size rows ∷ groups) (ap (entry_groups per n) (rows_behind per all rows) ∙ groups_are per n (drop per all) (drop size rows))
-
-pub length-granule_rows : (sizes : List ℕ) (rows : List Row) → length (granule_rows sizes rows) ≡ length sizes
-length-granule_rows [] rows = refl
-length-granule_rows (size ∷ sizes) rows = ap suc (length-granule_rows sizes (drop size rows))
 
 -- ---- values
 
@@ -211,7 +154,7 @@ next_is : (skip : Skip) (ty : Ty) (sizes payload : List ℕ) (i size : ℕ) (res
     → entries_from skip ty sizes payload i rest ahead ≡ (entry_check skip ty (i * skip.granularity) group entry >>= λ _. entries_from skip ty sizes payload (i + 1) after later)
 next_is skip ty sizes payload i size rest group after ahead later entry inside at front back first =
     let groups : granule_rows (drop i sizes) rest ≡ group ∷ granule_rows (drop (i + 1) sizes) after =
-    ap (λ (some : List ℕ). granule_rows some rest) (at_index sizes i size inside at) ∙ ap (λ (g : List Row). g ∷ granule_rows (drop (i + 1) sizes) (drop size rest)) (sym front) ∙ ap (λ (a : List Row). group ∷ granule_rows (drop (i + 1) sizes) a) (sym back) in
+    ap (λ (some : List ℕ). granule_rows some rest) (drop_next sizes i size inside at) ∙ ap (λ (g : List Row). g ∷ granule_rows (drop (i + 1) sizes) (drop size rest)) (sym front) ∙ ap (λ (a : List Row). group ∷ granule_rows (drop (i + 1) sizes) a) (sym back) in
     let pairs = zip (granule_rows (drop (i + 1) sizes) after) (pieces_at payload later) in
     let granule : i * skip.granularity + skip.granularity ≡ (i + 1) * skip.granularity = sym (ap (λ k. k * skip.granularity) (let e : i + 1 ≡ suc i = omega arith in e) ∙ omega arith) in
     ap (λ (some : List (List Row)). entries_checks skip ty (i * skip.granularity) (zip some (pieces_at payload ahead))) groups
@@ -236,18 +179,18 @@ entry_agrees skip ty sizes payload i size rest group after ahead later entry who
 
 pub cut_next : (sizes : List ℕ) (i size : ℕ) (rest after : List Row) → i < length sizes → size ≡ get_or sizes i size → after ≡ drop size rest → sum (drop i sizes) ≡ length rest → sum (drop (i + 1) sizes) ≡ length after
 cut_next sizes i size rest after inside at back cut =
-    let whole : sum (drop i sizes) ≡ size + sum (drop (i + 1) sizes) = ap sum (at_index sizes i size inside at) ∙ sum_by-cons (λ k. k) size (drop (i + 1) sizes) in
+    let whole : sum (drop i sizes) ≡ size + sum (drop (i + 1) sizes) = ap sum (drop_next sizes i size inside at) ∙ sum_by-cons (λ k. k) size (drop (i + 1) sizes) in
     omega (arith, whole, cut, ap length back, length-drop size rest)
 
 -- ---- indexes, one by one
 
 pub each_fails : {A : Type 0} (check : A → Result Unit Fault) (items : List A) (i : ℕ) (x : A) (whole : Result Unit Fault) (e : FileError) → each check (drop i items) ≡ whole → i < length items → x ≡ get_or items i x → FailsAs e (check x) → FailsAs e whole
 each_fails check items i x whole e left inside at fails =
-    subst (FailsAs e) (sym (ap (each check) (at_index items i x inside at)) ∙ left) (fails_then e (check x) (λ _. each check (drop (i + 1) items)) fails)
+    subst (FailsAs e) (sym (ap (each check) (drop_next items i x inside at)) ∙ left) (fails_then e (check x) (λ _. each check (drop (i + 1) items)) fails)
 
 pub each_holds : {A : Type 0} (check : A → Result Unit Fault) (items : List A) (i : ℕ) (x : A) (whole : Result Unit Fault) → each check (drop i items) ≡ whole → i < length items → x ≡ get_or items i x → check x ≡ Ok tt → each check (drop (i + 1) items) ≡ whole
 each_holds check items i x whole left inside at holds =
-    sym (then_of (check x) tt (λ _. each check (drop (i + 1) items)) holds) ∙ sym (ap (each check) (at_index items i x inside at)) ∙ left
+    sym (then_of (check x) tt (λ _. each check (drop (i + 1) items)) holds) ∙ sym (ap (each check) (drop_next items i x inside at)) ∙ left
 
 pub each_done : {A : Type 0} (check : A → Result Unit Fault) (items : List A) (i : ℕ) (whole : Result Unit Fault) → each check (drop i items) ≡ whole → length items ≤ i → whole ≡ Ok tt
 each_done check items i whole left over = sym left ∙ ap (each check) (at_end items i over)

@@ -1,5 +1,5 @@
 -- The files of a partition are bytes, where the rows fit.
-use Rattle.std.proofs.Common.{◌≡◌, ℕ, ◌<◌, Bool, true, false, List, [], ◌∷◌, ◌++◌, length, map, take, refl, get_or}
+use Rattle.std.proofs.Common.{◌≡◌, ℕ, ◌<◌, Bool, true, false, List, [], ◌∷◌, length, map, take, refl, get_or}
 use Rattle.std.specs.Prelude.{All, ◌==◌, not, if◌then◌else◌}
 use Rattle.std.specs.Int.{w32}
 use Rattle.std.specs.List.{flat_map}
@@ -21,30 +21,25 @@ use Rattle.mt_defs.specs.Partition.{expression_bytes, expression_column, month_a
 use Rattle.mt_defs.specs.Rows.{Row, RowFits, cell, column_values}
 use Rattle.mt_defs.specs.WrittenColumns.{file}
 use Rattle.mt_defs.specs.WrittenPartition.{best_of, better_of, minmax_bytes, minmax_file, partition_files}
-use Rattle.mt_meta.specs.PartitionKeys.{ArePartitionKeys, IsExpression}
-use Rattle.mt_item.proofs.ItemBytes.{item_is_bytes, number_bytes}
-use Rattle.mt_definition.proofs.KeyLemmas.{cell_fits}
+use Rattle.mt_defs.proofs.RowLemmas.{cell_fits}
+use Rattle.mt_defs.proofs.ListLemmas.{flat_bytes}
+use Rattle.mt_meta.specs.PartitionKeys.{ArePartitionKeys, IsKeyExpression}
+use Rattle.mt_item.proofs.ItemBytes.{item_is_bytes, number_bytes, IsByte}
+use Rattle.mt_meta.proofs.PartitionLemmas.{expression_known}
 
-abbrev IsByte : ℕ → Type 0
-IsByte byte = byte < 256
-
-abbrev HasBytes : FileBytes → Type 0
+abbrev pub HasBytes : FileBytes → Type 0
 HasBytes file = AreBytes file.bytes
-
-flat_bytes : {X : Type 0} (f : X → List ℕ) (xs : List X) → All (λ x. AreBytes (f x)) xs → AreBytes (flat_map f xs)
-flat_bytes f [] are = All-nil IsByte
-flat_bytes f (x ∷ xs) are = All-append IsByte (f x) (flat_map f xs) (All-head (λ x. AreBytes (f x)) x xs are) (flat_bytes f xs (All-tail (λ x. AreBytes (f x)) x xs are))
 
 -- ---- partition.dat
 
-expression_is_bytes : (columns : List Column) (row : Row) (expression : PartExpr) → RowFits columns row → IsExpression columns expression → AreBytes (expression_bytes columns row expression)
+expression_is_bytes : (columns : List Column) (row : Row) (expression : PartExpr) → RowFits columns row → IsKeyExpression columns expression → AreBytes (expression_bytes columns row expression)
 expression_is_bytes columns row (Plain i) fits is = item_is_bytes (column_at columns i).ty (cell row i) (cell_fits columns row i no_column fits is.0)
 expression_is_bytes columns row (Month i) fits is = number_bytes w32 (month_at (out-Value (cell row i)))
 
 values_are_bytes : (table : Table) (row : Row) → ArePartitionKeys table.columns table.partition → RowFits table.columns row → AreBytes (partition_bytes table row)
 values_are_bytes table row keys fits =
     flat_bytes (expression_bytes table.columns row) table.partition
-    (All-weaker (IsExpression table.columns) (λ e. AreBytes (expression_bytes table.columns row e)) (λ e is. expression_is_bytes table.columns row e fits is) table.partition keys)
+    (All-weaker (IsKeyExpression table.columns) (λ e. AreBytes (expression_bytes table.columns row e)) (λ e is. expression_is_bytes table.columns row e fits is) table.partition keys)
 
 -- ---- the minmax files
 
@@ -84,10 +79,6 @@ distinct_all P (x ∷ xs) all =
     let later : List ℕ = distinct_by (λ i j. i == j) xs in
     All-cons P x _ (All-head P x xs all) (All-filter (λ y. not (x == y)) P later (distinct_all P xs (All-tail P x xs all)))
 
-inside_key : (columns : List Column) (expression : PartExpr) → IsExpression columns expression → expression_column expression < length columns
-inside_key columns (Plain i) is = is.0
-inside_key columns (Month i) is = is.0
-
 pub partition_are_bytes : (table : Table) (rows : List Row) → ArePartitionKeys table.columns table.partition → All (RowFits table.columns) rows → All (λ file. AreBytes file.bytes) (partition_files table rows)
 partition_are_bytes table rows keys fit = by (length table.partition == 0)
   where
@@ -101,7 +92,7 @@ partition_are_bytes table rows keys fit = by (length table.partition == 0)
     inside =
         distinct_all (λ i. i < length table.columns) (map expression_column table.partition)
         (All-map (λ i. i < length table.columns) expression_column table.partition
-        (All-weaker (IsExpression table.columns) (λ e. expression_column e < length table.columns) (inside_key table.columns) table.partition keys))
+        (All-weaker (IsKeyExpression table.columns) (λ e. expression_column e < length table.columns) (expression_known table.columns) table.partition keys))
 
     by : (b : Bool) → All HasBytes (if b then [] else file partition_name (flat_map (partition_bytes table) first) ∷ map (minmax_file table rows) places)
     by true = All-nil HasBytes

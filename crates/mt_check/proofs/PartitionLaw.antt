@@ -1,12 +1,13 @@
 -- The partition's checks hold exactly where the rows are of one partition and the folder has its files.
-use Rattle.std.proofs.Common.{◌≡◌, ◌≢◌, ℕ, Bool, true, false, not, List, [], ◌∷◌, length, take, map, refl, sym, ap, ◌∙◌, subst, arith, get_or, inl, inr}
+use Rattle.std.proofs.Common.{◌≡◌, ◌≢◌, ℕ, Bool, false, not, List, [], ◌∷◌, length, take, map, refl, sym, ap, ◌∙◌, subst, arith, get_or, inl, inr}
 use Rattle.std.specs.Prelude.{All, ◌↔◌, Some, None, Option, Result, Ok, ◌==◌, if◌then◌else◌}
 use Rattle.std.specs.List.{flat_map}
 use Rattle.std.specs.Str.{bytes_eq}
-use Rattle.std.proofs.lemmas.Bool.{cases_Bool}
-use Rattle.std.proofs.lemmas.List.{append-nil}
+use Rattle.std.proofs.lemmas.Bool.{cases_Bool, not-false}
+use Rattle.std.proofs.lemmas.List.{append-nil, get_or_default}
 use Rattle.std.proofs.lemmas.List.Elements.{All-nil, All-cons, All-head, All-tail, All-weaker}
 use Rattle.std.proofs.lemmas.Slice.Eq.{bytes_eq-Decides}
+use Rattle.mt_facts.proofs.Lists.{nil_from_test}
 use Rattle.mt_fault.specs.declared.file.FileBytes.{FileBytes}
 use Rattle.mt_fault.specs.declared.fault.Fault.{Fault}
 use Rattle.mt_fault.specs.declared.fault.Why.TheVariants.{Partition, Value}
@@ -16,7 +17,7 @@ use Rattle.mt_table.specs.declared.definition.Table.{Table}
 use Rattle.mt_table.specs.declared.partition.PartExpr.{PartExpr}
 use Rattle.mt_defs.specs.Folder.{Folder}
 use Rattle.mt_defs.specs.Rows.{Row}
-use Rattle.mt_defs.specs.Lists.{AreBytes, distinct_by}
+use Rattle.mt_defs.specs.Lists.{distinct_by}
 use Rattle.mt_meta.specs.PartitionReading.{HasPartitionFiles}
 use Rattle.mt_defs.specs.Partition.{HasPartition, HaveOnePartition, partition_bytes, partition_name, expression_bytes, expression_column}
 use Rattle.mt_defs.specs.WrittenColumns.{file}
@@ -28,16 +29,14 @@ use Rattle.mt_files.specs.Faults.{none_found}
 use Rattle.mt_check.specs.PartitionReading.{files_reading, first_value, is_other, other_partition, partition_reading}
 use Rattle.mt_definition.specs.RowsReading.{granule_of}
 use Rattle.mt_granules.proofs.FileByteLemmas.{file_is_read, file_was_read}
-use Rattle.mt_files.proofs.LoopLemmas.{is_none, same_default}
 use Rattle.mt_definition.proofs.RowLemmas.{none_passes, none_found_of}
+use Rattle.mt_check.proofs.PartitionBytes.{HasBytes}
+use Rattle.mt_definition.proofs.DefinitionLaw.{none_is}
 
 -- ---- files
 
 abbrev HasFile : Folder → FileBytes → Type 0
 HasFile folder file = folder file.name ≡ Some file.bytes
-
-abbrev HasBytes : FileBytes → Type 0
-HasBytes file = AreBytes file.bytes
 
 pub files_there : (folder : Folder) (files : List FileBytes) → files_reading folder files ≡ Ok tt → All (HasFile folder) files
 unfolding files_reading
@@ -57,18 +56,10 @@ files_are_read folder (file ∷ files) all bytes =
 
 -- ---- one partition value
 
-none_is : {A : Type 0} (found : Option A) (fault : A → Fault) → none_found found fault ≡ Ok tt → found ≡ None
-none_is None fault e = refl
-none_is (Some x) fault e = cc
-
-not_false : (b : Bool) → not b ≡ false → b ≡ true
-not_false true e = refl
-not_false false e = cc
-
 all_first : (table : Table) (rows : List Row) → other_partition table rows ≡ None → All (λ row. partition_bytes table row ≡ first_value table rows) rows
 all_first table rows none =
     All-weaker (λ row. is_other table rows row ≡ false) (λ row. partition_bytes table row ≡ first_value table rows)
-    (λ row is. (bytes_eq-Decides (partition_bytes table row) (first_value table rows)).0 (not_false (bytes_eq (partition_bytes table row) (first_value table rows)) is)) rows (none_passes (is_other table rows) rows none)
+    (λ row is. (bytes_eq-Decides (partition_bytes table row) (first_value table rows)).0 (not-false (bytes_eq (partition_bytes table row) (first_value table rows)) is)) rows (none_passes (is_other table rows) rows none)
 
 pub one_partition : (table : Table) (rows : List Row) → other_partition table rows ≡ None → HaveOnePartition table rows
 one_partition table rows none a b (i, in_a, at_a) (j, in_b, at_b) =
@@ -80,7 +71,7 @@ no_other table row rows one =
     none_found_of (is_other table (row ∷ rows)) (row ∷ rows)
     (λ i d inside.
     let same : partition_bytes table (get_or (row ∷ rows) i d) ≡ first_value table (row ∷ rows) =
-    one (get_or (row ∷ rows) i d) row (i, inside, same_default (row ∷ rows) i (get_or (row ∷ rows) i d) d inside) (0, omega arith, refl) ∙ sym (append-nil (partition_bytes table row)) in
+    one (get_or (row ∷ rows) i d) row (i, inside, get_or_default (row ∷ rows) i (get_or (row ∷ rows) i d) d inside) (0, omega arith, refl) ∙ sym (append-nil (partition_bytes table row)) in
     ap not ((bytes_eq-Decides (partition_bytes table (get_or (row ∷ rows) i d)) (first_value table (row ∷ rows))).1 same))
 
 -- ---- the checks
@@ -119,7 +110,7 @@ pub partition_holds : (table : Table) (folder : Folder) (accepted : Accepted) �
 unfolding partition_reading
 partition_holds table folder accepted e =
     elim (cases_Bool (length table.partition == 0)) [
-      | inl empty ↦ no_key table folder accepted.rows (is_none table.partition empty)
+      | inl empty ↦ no_key table folder accepted.rows (nil_from_test table.partition empty)
       | inr some ↦ some_key table folder accepted (sym (ap (λ (b : Bool). if b then (let r : Result Unit Fault = Ok tt in r) else (file_reading folder partition_name >>= behind_file table folder accepted)) some) ∙ e)
     ]
 

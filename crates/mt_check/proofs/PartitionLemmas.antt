@@ -5,6 +5,7 @@ use Rattle.std.specs.Str.{bytes_eq}
 use Rattle.std.proofs.lemmas.List.{append-nil}
 use Rattle.std.proofs.lemmas.Bool.{cases_Bool}
 use Rattle.std.proofs.lemmas.Slice.Eq.{bytes_eq-Decides}
+use Rattle.mt_facts.proofs.Lists.{drop_next}
 use Rattle.mt_fault.specs.declared.file.FileBytes.{FileBytes}
 use Rattle.mt_fault.specs.declared.fault.Fault.{Fault}
 use Rattle.mt_fault.specs.declared.error.FileError.{FileError}
@@ -26,7 +27,7 @@ use Rattle.mt_fault.specs.Results.{Gives, FailsAs}
 use Rattle.mt_fault.specs.Results.{IsFault}
 use Rattle.mt_definition.specs.RowsReading.{first_index, granule_of}
 use Rattle.mt_fault.proofs.FaultLemmas.{fails_then, fault_gives}
-use Rattle.mt_files.proofs.LoopLemmas.{at_index, at_end, nonempty}
+use Rattle.mt_files.proofs.LoopLemmas.{at_end, nonempty}
 use Rattle.mt_definition.proofs.RowLemmas.{later_by, index_here, index_step}
 
 -- ---- the files
@@ -40,7 +41,7 @@ files_next folder file files = refl
 
 files_at : (folder : Folder) (written : List FileBytes) (i : ℕ) (file : FileBytes) (whole : Result Unit Fault) → files_reading folder (drop i written) ≡ whole → i < length written → file ≡ get_or written i file
     → (file_reading folder file.name >>= same_bytes folder file (drop (i + 1) written)) ≡ whole
-files_at folder written i file whole ahead inside at = sym (ap (files_reading folder) (at_index written i file inside at) ∙ files_next folder file (drop (i + 1) written)) ∙ ahead
+files_at folder written i file whole ahead inside at = sym (ap (files_reading folder) (drop_next written i file inside at) ∙ files_next folder file (drop (i + 1) written)) ∙ ahead
 
 pub files_fail : (folder : Folder) (written : List FileBytes) (i : ℕ) (file : FileBytes) (whole : Result Unit Fault) (name : List ℕ) (e : FileError) → files_reading folder (drop i written) ≡ whole → i < length written → file ≡ get_or written i file
     → name ≡ file.name → FailsAs e (file_reading folder name) → FailsAs e whole

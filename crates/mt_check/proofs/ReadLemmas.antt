@@ -4,73 +4,70 @@ use Rattle.std.specs.Prelude.{Option, Some, None, option_map, is_some, if◌then
 use Rattle.std.specs.List.{AllByRecursion, cons_option, flat_map, zip}
 use Rattle.std.proofs.lemmas.List.Elements.{All-head, All-tail, filter_map-append}
 use Rattle.std.proofs.lemmas.List.{map-append, take_more}
+use Rattle.std.proofs.lemmas.Bool.{or_right}
 use Rattle.mt_shelf.specs.Files.{Files, entries_below}
 use Rattle.mt_shelf.specs.declared.file.Entry.{Entry}
 use Rattle.mt_files.specs.Listings.{has_below, listed_folder}
 use Rattle.mt_files.specs.PartTexts.{order_reading}
 use Rattle.mt_files.proofs.ListingLemmas.{layout_listed}
-use Rattle.mt_strays.specs.Strays.{is_known}
+use Rattle.mt_strays.specs.Strays.{is_known_name}
 use Rattle.mt_fault.specs.declared.file.FileBytes.{FileBytes}
 use Rattle.mt_table.specs.declared.column.Column.{Column}
 use Rattle.mt_table.specs.declared.definition.Table.{Table}
 use Rattle.mt_table.specs.declared.projection.Projection.{Projection}
 use Rattle.mt_defs.specs.Compact.{compact_marks_name}
-use Rattle.mt_defs.specs.Folder.{Folder, folder_below, folder_of, is_name}
+use Rattle.mt_defs.specs.Folder.{Folder, folder_below, folder_of, names_agree}
 use Rattle.mt_defs.specs.Part.{is_compact}
 use Rattle.mt_defs.specs.Projections.{base_of, inner_of, projection_prefix}
 use Rattle.mt_definition.specs.declared.accepted.Accepted.{Accepted}
 use Rattle.mt_types.specs.Steps.{◌>>=◌}
 use Rattle.mt_fault.specs.declared.fault.Fault.{Fault}
+use Rattle.mt_defs.proofs.NameLemmas.{name_is, same_name}
 use Rattle.mt_meta.specs.Definitions.{IsDefinition}
 use Rattle.mt_check.specs.FolderChecks.{projection_checks, files_checks, stored_checks, projection_folder_in, projection_folders, projection_is_there, projections_checks}
 use Rattle.mt_files.specs.OwnNames as own
 use Rattle.mt_files.specs.OwnNames.{base_names, own_names, skip_names_in}
-use Rattle.mt_check.specs.PartFiles.{base_files, inner_files, part_files, projection_files}
+use Rattle.mt_check.specs.PartFiles.{base_files, inner_files, part_files, read_projection_files}
 use Rattle.mt_files.specs.NamedFiles.{file_names, files_named, part_folder}
 use Rattle.mt_definition.proofs.AgreeLemmas.{AgreeAt}
 use Rattle.mt_definition.proofs.AgreeOnData.{order_same}
 use Rattle.mt_check.proofs.AgreeOnChecks.{part_same, projection_same}
 use Rattle.mt_check.proofs.FolderLemmas.{as_folders}
-use Rattle.mt_files.proofs.FileLemmas.{name_is, same_name}
 use Rattle.mt_meta.proofs.DefinitionLemmas.{base_is}
 use Rattle.mt_meta.proofs.InnerLemmas.{projections_are}
 
 -- ---- the folder of the files of some names
 
 -- it has those names, and no others
-pub only_named : (folder : Folder) (names : List (List ℕ)) (name : List ℕ) → folder_of (files_named folder names) name ≡ (if is_known names name then folder name else None)
+pub only_named : (folder : Folder) (names : List (List ℕ)) (name : List ℕ) → folder_of (files_named folder names) name ≡ (if is_known_name names name then folder name else None)
 only_named folder [] name = refl
 only_named folder (x ∷ names) name = by_file (folder x) refl (only_named folder names name)
   where
-    by_name : (b : Bool) → is_name x name ≡ b → folder x ≡ None → folder_of (files_named folder names) name ≡ (if is_known names name then folder name else None)
-        → folder_of (files_named folder names) name ≡ (if b || is_known names name then folder name else None)
+    by_name : (b : Bool) → names_agree x name ≡ b → folder x ≡ None → folder_of (files_named folder names) name ≡ (if is_known_name names name then folder name else None)
+        → folder_of (files_named folder names) name ≡ (if b || is_known_name names name then folder name else None)
     by_name true same none later =
         let here : folder name ≡ None = ap folder (sym (name_is x name same)) ∙ none in
-        later ∙ ap (λ (o : Option (List ℕ)). if is_known names name then o else None) here ∙ either (is_known names name) ∙ sym here
+        later ∙ ap (λ (o : Option (List ℕ)). if is_known_name names name then o else None) here ∙ either (is_known_name names name) ∙ sym here
       where
         either : (k : Bool) → (if k then (let o : Option (List ℕ) = None in o) else None) ≡ None
         either true = refl
         either false = refl
     by_name false same none later = later
 
-    by_found : (b : Bool) (bytes : List ℕ) → is_name x name ≡ b → folder x ≡ Some bytes → folder_of (files_named folder names) name ≡ (if is_known names name then folder name else None)
-        → (if b then Some bytes else folder_of (files_named folder names) name) ≡ (if b || is_known names name then folder name else None)
+    by_found : (b : Bool) (bytes : List ℕ) → names_agree x name ≡ b → folder x ≡ Some bytes → folder_of (files_named folder names) name ≡ (if is_known_name names name then folder name else None)
+        → (if b then Some bytes else folder_of (files_named folder names) name) ≡ (if b || is_known_name names name then folder name else None)
     by_found true bytes same found later = sym found ∙ ap folder (name_is x name same)
     by_found false bytes same found later = later
 
-    by_file : (o : Option (List ℕ)) → folder x ≡ o → folder_of (files_named folder names) name ≡ (if is_known names name then folder name else None)
-        → folder_of (cons_option (option_map (λ bytes. let file : FileBytes = record { name = x; bytes = bytes } in file) o) (files_named folder names)) name ≡ (if is_name x name || is_known names name then folder name else None)
-    by_file None is later = by_name (is_name x name) refl is later
-    by_file (Some bytes) is later = by_found (is_name x name) bytes refl is later
-
-or_right : (a b : Bool) → b ≡ true → (a || b) ≡ true
-or_right true b e = refl
-or_right false b e = e
+    by_file : (o : Option (List ℕ)) → folder x ≡ o → folder_of (files_named folder names) name ≡ (if is_known_name names name then folder name else None)
+        → folder_of (cons_option (option_map (λ bytes. let file : FileBytes = record { name = x; bytes = bytes } in file) o) (files_named folder names)) name ≡ (if names_agree x name || is_known_name names name then folder name else None)
+    by_file None is later = by_name (names_agree x name) refl is later
+    by_file (Some bytes) is later = by_found (names_agree x name) bytes refl is later
 
 -- what holds at each known name holds at each name
-each_name : (P : List ℕ → Type 0) (names : List (List ℕ)) → ((name : List ℕ) → is_known names name ≡ true → P name) → AllByRecursion P names
+each_name : (P : List ℕ → Type 0) (names : List (List ℕ)) → ((name : List ℕ) → is_known_name names name ≡ true → P name) → AllByRecursion P names
 each_name P [] at = tt
-each_name P (x ∷ names) at = (at x (ap (λ b. b || is_known names x) (same_name x x refl)), each_name P names (λ name known. at name (or_right (is_name x name) (is_known names name) known)))
+each_name P (x ∷ names) at = (at x (ap (λ b. b || is_known_name names x) (same_name x x refl)), each_name P names (λ name known. at name (or_right (names_agree x name) (is_known_name names name) known)))
 
 pub agrees : (folder : Folder) (names : List (List ℕ)) → AgreeAt (folder_of (files_named folder names)) folder names
 agrees folder names = each_name (λ name. folder_of (files_named folder names) name ≡ folder name) names (λ name known. only_named folder names name ∙ ap (λ b. if b then folder name else None) known)
@@ -92,7 +89,7 @@ same_marks columns more folder = by_marks (folder compact_marks_name) refl
     nothing false o is = sym is
 
     by_marks : (o : Option (List ℕ)) → folder compact_marks_name ≡ o → folder_of (files_named folder names) compact_marks_name ≡ folder compact_marks_name
-    by_marks None is = only_named folder names compact_marks_name ∙ nothing (is_known names compact_marks_name) (folder compact_marks_name) is
+    by_marks None is = only_named folder names compact_marks_name ∙ nothing (is_known_name names compact_marks_name) (folder compact_marks_name) is
     by_marks (Some bytes) is = has_marks columns more (folder_of (files_named folder names)) folder (is_compact folder) (ap is_some is) (agrees folder names)
 
 same_layout : (columns : List Column) (more : List (List ℕ)) (folder : Folder) → is_compact (folder_of (files_named folder (own_names columns (is_compact folder) ++ more))) ≡ is_compact folder
@@ -118,7 +115,7 @@ inner_same table accepted projection folder is =
 
 -- one that is there is checked alike, and one that isn't not at all
 one_same : (table : Table) (folder : Folder) (names : List (List ℕ)) (accepted : Accepted) (projection : Projection) → IsDefinition (inner_of table projection)
-    → projection_checks table accepted projection (option_map folder_of (projection_files table folder names projection)) ≡ projection_checks table accepted projection (projection_folder_in folder names projection)
+    → projection_checks table accepted projection (option_map folder_of (read_projection_files table folder names projection)) ≡ projection_checks table accepted projection (projection_folder_in folder names projection)
 one_same table folder names accepted projection is = by_test (projection_is_there names projection)
   where
     below : Folder
@@ -129,10 +126,10 @@ one_same table folder names accepted projection is = by_test (projection_is_ther
     by_test false = refl
 
 projections_same : (table : Table) (folder : Folder) (names : List (List ℕ)) (accepted : Accepted) (projections : List Projection) → All (λ projection. IsDefinition (inner_of table projection)) projections
-    → projections_checks table accepted (zip projections (as_folders (map (projection_files table folder names) projections))) ≡ projections_checks table accepted (zip projections (map (projection_folder_in folder names) projections))
+    → projections_checks table accepted (zip projections (as_folders (map (read_projection_files table folder names) projections))) ≡ projections_checks table accepted (zip projections (map (projection_folder_in folder names) projections))
 projections_same table folder names accepted [] are = refl
 projections_same table folder names accepted (projection ∷ projections) are =
-    ap (λ (first : Result Unit Fault). first >>= λ _. projections_checks table accepted (zip projections (as_folders (map (projection_files table folder names) projections))))
+    ap (λ (first : Result Unit Fault). first >>= λ _. projections_checks table accepted (zip projections (as_folders (map (read_projection_files table folder names) projections))))
     (one_same table folder names accepted projection (All-head (λ projection. IsDefinition (inner_of table projection)) projection projections are))
     ∙ ap (λ (later : Result Unit Fault). projection_checks table accepted projection (projection_folder_in folder names projection) >>= λ _. later)
     (projections_same table folder names accepted projections (All-tail (λ projection. IsDefinition (inner_of table projection)) projection projections are))
@@ -140,7 +137,7 @@ projections_same table folder names accepted (projection ∷ projections) are =
 -- ---- the part
 
 pub base_layout : (table : Table) (folder : Folder) → is_compact (folder_of (base_files table folder)) ≡ is_compact folder
-base_layout table folder = same_layout table.columns (own.partition_files table ++ flat_map (skip_names_in (is_compact folder)) table.skips) folder
+base_layout table folder = same_layout table.columns (own.partition_file_names table ++ flat_map (skip_names_in (is_compact folder)) table.skips) folder
 
 -- the files that are read are checked like the part
 pub part_read : (table : Table) (folder : Folder) (names : List (List ℕ))
@@ -178,23 +175,23 @@ folder_names prefix target own listing compact names kind are same read named =
 -- ---- a projection
 
 pub projection_read : (table : Table) (names : List (List ℕ)) (projection : Projection) (prefix : List ℕ) (folder : Folder) (read : List FileBytes) → prefix ≡ projection_prefix projection → has_below names prefix ≡ true
-    → read ≡ inner_files table projection (folder_below folder prefix) → Some read ≡ projection_files table folder names projection
+    → read ≡ inner_files table projection (folder_below folder prefix) → Some read ≡ read_projection_files table folder names projection
 projection_read table names projection prefix folder read same there is =
     ap (λ (fs : List FileBytes). let o : Option (List FileBytes) = Some fs in o) (is ∙ ap (λ (p : List ℕ). inner_files table projection (folder_below folder p)) same)
     ∙ ap (λ b. if b then Some (inner_files table projection (folder_below folder (projection_prefix projection))) else None) (sym there ∙ ap (has_below names) same)
 
 pub projection_lacking : (table : Table) (names : List (List ℕ)) (projection : Projection) (prefix : List ℕ) (folder : Folder) → prefix ≡ projection_prefix projection → has_below names prefix ≡ false
-    → None ≡ projection_files table folder names projection
+    → None ≡ read_projection_files table folder names projection
 projection_lacking table names projection prefix folder same absent =
     ap (λ b. if b then Some (inner_files table projection (folder_below folder (projection_prefix projection))) else None) (sym absent ∙ ap (has_below names) same)
 
 pub lacking_known : (table : Table) (part : List ℕ) (names : List (List ℕ)) (projection : Projection) (prefix : List ℕ) (stored : Option Files) → prefix ≡ projection_prefix projection → has_below names prefix ≡ false
-    → IfSome stored (λ files. None ≡ projection_files table (part_folder part files) names projection)
+    → IfSome stored (λ files. None ≡ read_projection_files table (part_folder part files) names projection)
 lacking_known table part names projection prefix None same absent = tt
 lacking_known table part names projection prefix (Some files) same absent = projection_lacking table names projection prefix (part_folder part files) same absent
 
 pub read_known : (table : Table) (part : List ℕ) (names : List (List ℕ)) (projection : Projection) (prefix : List ℕ) (read : List FileBytes) (stored : Option Files) → prefix ≡ projection_prefix projection → has_below names prefix ≡ true
-    → IfSome stored (λ files. read ≡ inner_files table projection (folder_below (part_folder part files) prefix)) → IfSome stored (λ files. Some read ≡ projection_files table (part_folder part files) names projection)
+    → IfSome stored (λ files. read ≡ inner_files table projection (folder_below (part_folder part files) prefix)) → IfSome stored (λ files. Some read ≡ read_projection_files table (part_folder part files) names projection)
 read_known table part names projection prefix read None same there known = tt
 read_known table part names projection prefix read (Some files) same there known = projection_read table names projection prefix (part_folder part files) read same there known
 

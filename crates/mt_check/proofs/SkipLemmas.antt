@@ -2,6 +2,8 @@
 use Rattle.std.proofs.Common.{◌≡◌, ℕ, ◌*◌, ◌<◌, ◌≤◌, ◌^◌, Bool, true, false, List, length, ap, sym, subst, ◌∙◌, arith, get_or}
 use Rattle.std.specs.Prelude.{sum, if◌then◌else◌, Result, Ok}
 use Rattle.std.specs.List.{zip}
+use Rattle.mt_facts.proofs.Numbers.{length_within_sum}
+use Rattle.std.proofs.lemmas.List.{get_or_default}
 use Rattle.mt_types.specs.declared.ty.Ty.{Ty}
 use Rattle.mt_fault.specs.declared.fault.Fault.{Fault}
 use Rattle.mt_fault.specs.declared.error.FileError.{FileError}
@@ -20,8 +22,8 @@ use Rattle.mt_fault.specs.Results.{FailsAs, Gives}
 use Rattle.mt_check.specs.RowGroups.{group_sizes}
 use Rattle.mt_files.specs.SkipMarks.{has_files, index_entries}
 use Rattle.mt_fault.proofs.FaultLemmas.{fails_then, gives_then}
-use Rattle.mt_files.proofs.LoopLemmas.{same_default}
-use Rattle.mt_check.proofs.GroupLemmas.{sizes_few, sizes_sum, granules_few, product_small, groups_are, length-granule_rows}
+use Rattle.mt_defs.proofs.GranuleLemmas.{length-granule_rows}
+use Rattle.mt_check.proofs.GroupLemmas.{sizes_few, sizes_sum, product_small, groups_are}
 
 sizes_are : (skip : Skip) (granules slice sizes : List ℕ) → slice ≡ granules → sizes ≡ group_sizes skip.granularity (length slice) slice → sizes ≡ group_sizes skip.granularity (length granules) granules
 sizes_are skip granules slice sizes same are = are ∙ ap (λ (gs : List ℕ). group_sizes skip.granularity (length gs) gs) same
@@ -30,7 +32,7 @@ pub few_entries : (skip : Skip) (rows : List Row) (granules slice sizes : List �
     → skip.granularity ≤ 1048576 → count * skip.granularity < 2 ^ 64
 few_entries skip rows granules slice sizes count same are counted cut few small =
     let fewer = sizes_few skip.granularity (length granules) granules in
-    let many = granules_few granules cut.not_empty in
+    let many = length_within_sum granules cut.not_empty in
     let size = ap length (sizes_are skip granules slice sizes same are) in
     let all = cut.all in
     product_small count skip.granularity (omega (arith, fewer, many, size, counted, all, few)) small
@@ -72,7 +74,7 @@ entries_left table folder accepted skip slice sizes count compact entries ty row
 
 -- the type of the index's column, where code reads it
 pub type_at : (columns slice : List Column) (place : ℕ) (d : Column) → slice ≡ columns → place < length columns → (get_or slice place d).ty ≡ (column_at columns place).ty
-type_at columns slice place d same inside = ap (λ (cs : List Column). (get_or cs place d).ty) same ∙ ap (λ (c : Column). c.ty) (same_default columns place d no_column inside)
+type_at columns slice place d same inside = ap (λ (cs : List Column). (get_or cs place d).ty) same ∙ ap (λ (c : Column). c.ty) (get_or_default columns place d no_column inside)
 
 -- ---- whether it is there
 

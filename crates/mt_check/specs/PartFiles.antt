@@ -20,13 +20,13 @@ abbrev pub inner_files : Table → Projection → Folder → List FileBytes
 inner_files table projection folder = files_named folder (own_names (inner_of table projection).columns (is_compact folder))
 
 -- the files of a projection that are read, if it is there, in a part with these names
-abbrev pub projection_files : Table → Folder → List (List ℕ) → Projection → Option (List FileBytes)
-projection_files table folder names projection =
+abbrev pub read_projection_files : Table → Folder → List (List ℕ) → Projection → Option (List FileBytes)
+read_projection_files table folder names projection =
     if projection_is_there names projection then Some (inner_files table projection (folder_below folder (projection_prefix projection))) else None
 
 -- the files of a part with these names that are read
 abbrev pub part_files : Table → Folder → List (List ℕ) → PartFiles
-part_files table folder names = record { base = base_files table folder; projections = map (projection_files table folder names) table.projections }
+part_files table folder names = record { base = base_files table folder; projections = map (read_projection_files table folder names) table.projections }
 
 -- the same names, in the part and in each projection
 pub record HaveSameNames (files others : PartFiles) : Type 0 where

@@ -8,9 +8,9 @@ ghost use Rattle.mt_shelf.specs.Files.{IsListing, entries_below};
 ghost use Rattle.mt_shelf.specs.Paths.{is_path};
 ghost use Rattle.mt_shelf.specs.State.{files_of};
 ghost use Rattle.mt_table.specs.Stored.{projection_at};
-ghost use Rattle.mt_files.specs.Listings.{listed_folder, names_of};
+ghost use Rattle.mt_files.specs.Listings.{listed_folder, entry_names};
 ghost use Rattle.mt_files.specs.OwnNames as own;
-ghost use Rattle.mt_check.specs.PartFiles.{HaveSameNames, base_files, inner_files, part_files, projection_files};
+ghost use Rattle.mt_check.specs.PartFiles.{HaveSameNames, base_files, inner_files, part_files, read_projection_files};
 ghost use Rattle.mt_files.specs.NamedFiles.{file_names, part_folder};
 
 use crate::folder::PartFiles;
@@ -34,8 +34,8 @@ pub fn read_part<F: Shelf>(
     requires path { IsTrue (is_path part.now) }
     requires form { IsListing listing.now }
     requires known { IfSome (files_of (F.state shelf.old)) (λ files. listing.now ≡ entries_below part.now files) }
-    ensures known { IfOk result (λ read. IfSome (files_of (F.state shelf.old)) (λ files. read ≡ part_files table.now (part_folder part.now files) (names_of listing.now))) }
-    ensures names { IfOk result (λ read. HaveSameNames read (part_files table.now (listed_folder listing.now) (names_of listing.now))) }
+    ensures known { IfOk result (λ read. IfSome (files_of (F.state shelf.old)) (λ files. read ≡ part_files table.now (part_folder part.now files) (entry_names listing.now))) }
+    ensures names { IfOk result (λ read. HaveSameNames read (part_files table.now (listed_folder listing.now) (entry_names listing.now))) }
     ensures files { files_of (F.state shelf.new) ≡ files_of (F.state shelf.old) }
     ensures cause { HasCause (F.faults shelf.old) (F.faults shelf.new) result }
 {
@@ -77,9 +77,9 @@ fn read_projections<F: Shelf>(
     requires form { IsListing listing.now }
     requires known { IfSome (files_of (F.state shelf.old)) (λ files. listing.now ≡ entries_below part.now files) }
     ensures known { IfOk result (λ read. IfSome (files_of (F.state shelf.old)) (λ files.
-        read ≡ map (projection_files table.now (part_folder part.now files) (names_of listing.now)) table.now.projections)) }
+        read ≡ map (read_projection_files table.now (part_folder part.now files) (entry_names listing.now)) table.now.projections)) }
     ensures names { IfOk result (λ read. map (option_map file_names) read
-        ≡ map (option_map file_names) (map (projection_files table.now (listed_folder listing.now) (names_of listing.now)) table.now.projections)) }
+        ≡ map (option_map file_names) (map (read_projection_files table.now (listed_folder listing.now) (entry_names listing.now)) table.now.projections)) }
     ensures files { files_of (F.state shelf.new) ≡ files_of (F.state shelf.old) }
     ensures cause { HasCause (F.faults shelf.old) (F.faults shelf.new) result }
 {
@@ -105,9 +105,9 @@ fn read_projection<F: Shelf>(
     requires form { IsListing listing.now }
     requires known { IfSome (files_of (F.state shelf.old)) (λ files. listing.now ≡ entries_below part.now files) }
     ensures known { IfOk result (λ read. IfSome (files_of (F.state shelf.old)) (λ files.
-        read ≡ projection_files table.now (part_folder part.now files) (names_of listing.now) (projection_at table.now place))) }
+        read ≡ read_projection_files table.now (part_folder part.now files) (entry_names listing.now) (projection_at table.now place))) }
     ensures names { IfOk result (λ read. option_map file_names read
-        ≡ option_map file_names (projection_files table.now (listed_folder listing.now) (names_of listing.now) (projection_at table.now place))) }
+        ≡ option_map file_names (read_projection_files table.now (listed_folder listing.now) (entry_names listing.now) (projection_at table.now place))) }
     ensures files { files_of (F.state shelf.new) ≡ files_of (F.state shelf.old) }
     ensures cause { HasCause (F.faults shelf.old) (F.faults shelf.new) result }
 {

@@ -1,10 +1,6 @@
 -- Sizes and their sum.
 use Rattle.std.proofs.Common.{◌≡◌, ℕ, zero, suc, ◌+◌, ◌<◌, List, [], ◌∷◌, length, take, get_or, sum, ◌∙◌, arith, add-one}
-use Rattle.std.proofs.lemmas.List.Sums.{sum_by-cons}
-
--- `sum` adds from the left
-pub sum_cons : (n : ℕ) (ns : List ℕ) → sum (n ∷ ns) ≡ n + sum ns
-sum_cons n ns = sum_by-cons (λ x. x) n ns
+use Rattle.mt_facts.proofs.Numbers.{sum_cons}
 
 sum_suc : (ns : List ℕ) (i : ℕ) → i < length ns → sum (take (suc i) ns) ≡ sum (take i ns) + get_or ns i 0
 sum_suc [] i less = absurd (omega arith)

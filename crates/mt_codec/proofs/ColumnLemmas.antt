@@ -9,7 +9,7 @@ use Rattle.mt_types.specs.Steps.{◌>>=◌}
 use Rattle.mt_item.specs.ItemReading.{item_front}
 use Rattle.mt_codec.specs.declared.fault.CodecError.{CodecError}
 use Rattle.mt_codec.specs.declared.fault.CodecError.TheVariants.{At, NoMemory}
-use Rattle.mt_codec.specs.Results.{FailsAs}
+use Rattle.mt_codec.specs.Results.{CodecFailsAs}
 use Rattle.mt_codec.specs.ColumnReading.{Read, Reader, Column, reader_step, column_step, column_from, stream_from, nullable_from, array_from, null_front, size_front, nulled, arrays_from}
 use Rattle.mt_codec.proofs.WrittenLemmas.{IsSingleLevel}
 
@@ -72,7 +72,7 @@ pub nullable_next : (apart : Bool) (inner : Column) (stream count : ℕ) (stream
 unfolding nullable_from
 nullable_next apart inner stream count streams = refl
 
-pub nullable_wrong : (apart : Bool) (inner : Column) (stream count : ℕ) (streams : List (List ℕ)) (e : CodecError) → FailsAs e (stream_from apart null_front stream count streams) → FailsAs e (nullable_from apart inner stream count streams)
+pub nullable_wrong : (apart : Bool) (inner : Column) (stream count : ℕ) (streams : List (List ℕ)) (e : CodecError) → CodecFailsAs e (stream_from apart null_front stream count streams) → CodecFailsAs e (nullable_from apart inner stream count streams)
 nullable_wrong apart inner stream count streams (At s i why) fails =
     nullable_next apart inner stream count streams ∙ ap (λ (r : Read (List ℕ × List (List ℕ))). r >>= λ nulls. (inner (stream + 1) count nulls.1 >>= λ values. Ok (nulled nulls.0 values.0, values.1))) fails
 nullable_wrong apart inner stream count streams NoMemory fails = tt
@@ -84,7 +84,7 @@ nullable_rest apart inner stream count streams nulls left is =
     nullable_next apart inner stream count streams ∙ ap (λ (r : Read (List ℕ × List (List ℕ))). r >>= λ nulls. (inner (stream + 1) count nulls.1 >>= λ values. Ok (nulled nulls.0 values.0, values.1))) is
 
 pub nullable_inner_wrong : (apart : Bool) (inner : Column) (stream count : ℕ) (streams : List (List ℕ)) (nulls : List ℕ) (left : List (List ℕ)) (e : CodecError) → stream_from apart null_front stream count streams ≡ Ok (nulls, left)
-    → FailsAs e (inner (stream + 1) count left) → FailsAs e (nullable_from apart inner stream count streams)
+    → CodecFailsAs e (inner (stream + 1) count left) → CodecFailsAs e (nullable_from apart inner stream count streams)
 nullable_inner_wrong apart inner stream count streams nulls left (At s i why) is fails =
     nullable_rest apart inner stream count streams nulls left is ∙ ap (λ (r : Read (List Value × List (List ℕ))). r >>= λ values. Ok (nulled nulls values.0, values.1)) fails
 nullable_inner_wrong apart inner stream count streams nulls left NoMemory is fails = tt
@@ -101,7 +101,7 @@ pub array_next : (apart : Bool) (inner : Column) (stream count : ℕ) (streams :
 unfolding array_from
 array_next apart inner stream count streams = refl
 
-pub array_wrong : (apart : Bool) (inner : Column) (stream count : ℕ) (streams : List (List ℕ)) (e : CodecError) → FailsAs e (stream_from apart size_front stream count streams) → FailsAs e (array_from apart inner stream count streams)
+pub array_wrong : (apart : Bool) (inner : Column) (stream count : ℕ) (streams : List (List ℕ)) (e : CodecError) → CodecFailsAs e (stream_from apart size_front stream count streams) → CodecFailsAs e (array_from apart inner stream count streams)
 array_wrong apart inner stream count streams (At s i why) fails =
     array_next apart inner stream count streams ∙ ap (λ (r : Read (List ℕ × List (List ℕ))). r >>= λ sizes. (inner (stream + 1) (sum sizes.0) sizes.1 >>= λ elements. Ok (arrays_from sizes.0 elements.0, elements.1))) fails
 array_wrong apart inner stream count streams NoMemory fails = tt
@@ -113,7 +113,7 @@ array_rest apart inner stream count streams sizes left is =
     array_next apart inner stream count streams ∙ ap (λ (r : Read (List ℕ × List (List ℕ))). r >>= λ sizes. (inner (stream + 1) (sum sizes.0) sizes.1 >>= λ elements. Ok (arrays_from sizes.0 elements.0, elements.1))) is
 
 pub array_inner_wrong : (apart : Bool) (inner : Column) (stream count : ℕ) (streams : List (List ℕ)) (sizes : List ℕ) (left : List (List ℕ)) (e : CodecError) → stream_from apart size_front stream count streams ≡ Ok (sizes, left)
-    → FailsAs e (inner (stream + 1) (sum sizes) left) → FailsAs e (array_from apart inner stream count streams)
+    → CodecFailsAs e (inner (stream + 1) (sum sizes) left) → CodecFailsAs e (array_from apart inner stream count streams)
 array_inner_wrong apart inner stream count streams sizes left (At s i why) is fails =
     array_rest apart inner stream count streams sizes left is ∙ ap (λ (r : Read (List Value × List (List ℕ))). r >>= λ elements. Ok (arrays_from sizes elements.0, elements.1)) fails
 array_inner_wrong apart inner stream count streams sizes left NoMemory is fails = tt

@@ -18,13 +18,13 @@ use Rattle.mt_item.proofs.LengthLemmas.{Small}
 use Rattle.mt_codec.specs.declared.fault.CodecError.{CodecError}
 use Rattle.mt_codec.specs.declared.fault.CodecError.TheVariants.{At, NoMemory}
 use Rattle.mt_codec.specs.ColumnReading.{Read, front_reading}
-use Rattle.mt_codec.specs.Results.{FailsAs, bytes_of, Gives, GivesFront, AreFirstValues, Returns}
+use Rattle.mt_codec.specs.Results.{CodecFailsAs, bytes_of, GivesSubstreams, GivesFront, AreFirstValues, Returns}
 use Rattle.mt_item.specs.declared.fault.CodecWhy.TheVariants.{Over}
 use Rattle.mt_codec.proofs.NotOverLemmas.{front_not_over}
 use Rattle.mt_codec.proofs.TypeLemmas.{front_encodes, encoded_front}
 
 -- an error stays one
-pub fails_on : {A B : Type 0} (e : CodecError) (r : Read A) (f : A → Read B) → FailsAs e r → FailsAs e (r >>= f)
+pub fails_on : {A B : Type 0} (e : CodecError) (r : Read A) (f : A → Read B) → CodecFailsAs e r → CodecFailsAs e (r >>= f)
 fails_on {A} (At s i why) r f fails = ap (λ (q : Read A). q >>= f) fails
 fails_on NoMemory r f fails = tt
 
@@ -32,7 +32,7 @@ ok_not : {A Z : Type 0} (r : Read A) (x : A) (fault : _) → r ≡ Ok x → r �
 ok_not r x fault e f = cc
 
 -- what is read is what is returned
-pub returns_read : {A : Type 0} (reading : Read A) (found : A) (result : Result A CodecError) → Gives result reading → reading ≡ Ok found → Returns found result
+pub returns_read : {A : Type 0} (reading : Read A) (found : A) (result : Result A CodecError) → GivesSubstreams result reading → reading ≡ Ok found → Returns found result
 returns_read reading found (Ok x) gives is = ok_one found x (sym is ∙ gives)
 returns_read reading found (Err (At s i why)) gives is = ok_not reading found (s, (i, why)) is gives
 returns_read reading found (Err NoMemory) gives is = tt

@@ -7,6 +7,7 @@ use Rattle.std.proofs.lemmas.Bool.{leb-true, lt-ltb, and_parts, and_from, or_lef
 use Rattle.std.proofs.lemmas.List.{length-append, length-take, length-drop, length-map, take-append-drop}
 use Rattle.std.proofs.lemmas.List.Folds.{list_all-append}
 use Rattle.std.proofs.Math.Seq.{take-append_seam, drop-append_seam}
+use Rattle.mt_facts.proofs.Numbers.{sum_cons}
 use Rattle.mt_types.specs.declared.limits.TheConstants.{MAX_ELEMENTS}
 use Rattle.mt_types.specs.declared.ty.Width.TheVariants.{W64}
 use Rattle.mt_types.specs.declared.value.Value.{Value, out-Value, roll-Value}
@@ -21,17 +22,12 @@ use Rattle.mt_defs.specs.Encoding.{Encoding, EncodesItems, EncodesNullable, Enco
 use Rattle.mt_item.specs.declared.fault.CodecWhy.TheVariants.{NullByte, TooLong}
 use Rattle.mt_item.specs.ItemReading.{First, whole_front}
 use Rattle.mt_item.proofs.LengthLemmas.{Small}
-use Rattle.mt_item.proofs.ExactLemmas.{IsExact}
+use Rattle.mt_item.proofs.ExactLemmas.{IsExact, small_back}
 use Rattle.mt_item.proofs.NumberLemmas.{whole_exact}
 use Rattle.mt_codec.specs.ColumnReading.{Read, Column, items_from, after_items, stream_from, null_front, size_front, nullable_from, array_from, nulled, arrays_from}
 use Rattle.mt_codec.proofs.LoopLemmas.{items_none, items_next, ReadItems}
-use Rattle.mt_codec.proofs.StreamLemmas.{stream_none, stream_next, after_none, after_joined, null_read, size_read}
+use Rattle.mt_codec.proofs.StreamLemmas.{stream_none, stream_next, after_none, after_joined, null_read, size_read, size_next}
 use Rattle.mt_codec.proofs.ColumnLemmas.{nullable_next, array_next}
-use Rattle.mt_codec.proofs.ArrayLemmas.{sum_cons}
-
-pub small_back : (front rest : List ℕ) → Small (front ++ rest) → Small rest
-small_back [] rest small = small
-small_back (b ∷ front) rest small = small_back front rest (λ i. small (suc i))
 
 -- ---- items
 
@@ -304,10 +300,6 @@ nullable_exact apart inner fits encodes width exact no_null = record { sound = s
         ∙ ap (λ (xs : List Value). let r : Read (List Value × List (List ℕ)) = Ok (xs, more) in r) b.values
 
 -- ---- under sizes
-
-size_next : (bytes : List ℕ) → size_front bytes ≡ (whole_front w64 bytes >>= λ size. (require (nat_le size.0 MAX_ELEMENTS) TooLong >>= λ _. Ok size))
-unfolding size_front
-size_next bytes = refl
 
 pub size_exact : IsExact size_front (λ n. nat_le n MAX_ELEMENTS) (to_le_bytes w64)
 size_exact = record { sound = sound; complete = complete }

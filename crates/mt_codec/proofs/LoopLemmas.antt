@@ -10,7 +10,7 @@ use Rattle.mt_item.specs.declared.fault.ItemError.{ItemError}
 use Rattle.mt_item.specs.declared.fault.ItemError.TheVariants.{Bad, NoMemory}
 use Rattle.mt_codec.specs.declared.fault.CodecError.{CodecError}
 use Rattle.mt_codec.specs.Cursor.{item_error}
-use Rattle.mt_codec.specs.Results.{FailsAs}
+use Rattle.mt_codec.specs.Results.{CodecFailsAs}
 use Rattle.mt_codec.specs.ColumnReading.{Read, items_from}
 
 -- an item's error is what it is read as, out of memory aside
@@ -91,12 +91,12 @@ fails {A} front count bytes read rest why less is had =
 
 -- the same as an error
 pub item_fails : {A : Type 0} (front : List ℕ → First A) (stream count : ℕ) (bytes : List ℕ) (read : List A) (rest : List ℕ) (size : ℕ) (e : ItemError) (error : CodecError) → length read < count → ItemFails e (front rest)
-    → Comes front count bytes read rest → size ≡ length read → error ≡ item_error stream size e → FailsAs error (at stream (items_from front 0 count bytes))
+    → Comes front count bytes read rest → size ≡ length read → error ≡ item_error stream size e → CodecFailsAs error (at stream (items_from front 0 count bytes))
 item_fails {A} front stream count bytes read rest size (Bad why) error less wrong had same is =
-    subst (λ (x : CodecError). FailsAs x (at stream (items_from front 0 count bytes))) (sym is)
+    subst (λ (x : CodecError). CodecFailsAs x (at stream (items_from front 0 count bytes))) (sym is)
     (ap (λ (q : ReadItems A). at stream q) (fails front count bytes read rest why less wrong had) ∙ ap (λ (n : ℕ). let r : Read (List A × List ℕ) = Err (stream, (n, why)) in r) (sym same))
 item_fails {A} front stream count bytes read rest size NoMemory error less wrong had same is =
-    subst (λ (x : CodecError). FailsAs x (at stream (items_from front 0 count bytes))) (sym is) tt
+    subst (λ (x : CodecError). CodecFailsAs x (at stream (items_from front 0 count bytes))) (sym is) tt
 
 -- an item's error, as it is given
 pub item_wrong : {A : Type 0} (e : ItemError) (reading : First A) → GivesItem (Err e) reading → ItemFails e reading

@@ -10,7 +10,7 @@ use Rattle.mt_item.specs.declared.fault.CodecWhy.TheVariants.{Short, Over, NullB
 use Rattle.mt_item.specs.ItemReading.{First, whole_front}
 use Rattle.mt_codec.specs.declared.fault.CodecError.{CodecError}
 use Rattle.mt_codec.specs.declared.fault.CodecError.TheVariants.{At, NoMemory}
-use Rattle.mt_codec.specs.Results.{FailsAs}
+use Rattle.mt_codec.specs.Results.{CodecFailsAs}
 use Rattle.mt_codec.specs.ColumnReading.{Read, items_from, after_items, stream_from, null_front, size_front}
 
 -- ---- items that are not values
@@ -27,7 +27,7 @@ pub null_wrong : (byte : ℕ) (rest : List ℕ) → 1 < byte → null_front (byt
 unfolding null_front
 null_wrong byte rest more = ap (λ (b : Bool). require b NullByte >>= λ _. Ok (byte, rest)) (lt-leb byte 1 more)
 
-size_next : (bytes : List ℕ) → size_front bytes ≡ (whole_front w64 bytes >>= λ size. (require (nat_le size.0 MAX_ELEMENTS) TooLong >>= λ _. Ok size))
+pub size_next : (bytes : List ℕ) → size_front bytes ≡ (whole_front w64 bytes >>= λ size. (require (nat_le size.0 MAX_ELEMENTS) TooLong >>= λ _. Ok size))
 unfolding size_front
 size_next bytes = refl
 
@@ -100,12 +100,12 @@ stream_read {A} apart front stream count streams bytes others items rest left is
 -- ---- the same of an error
 
 pub items_fail : {A : Type 0} (apart : Bool) (front : List ℕ → First A) (stream count : ℕ) (streams : List (List ℕ)) (bytes : List ℕ) (others : List (List ℕ)) (e : CodecError)
-    → streams ≡ bytes ∷ others → FailsAs e (at stream (items_from front 0 count bytes)) → FailsAs e (stream_from apart front stream count streams)
+    → streams ≡ bytes ∷ others → CodecFailsAs e (at stream (items_from front 0 count bytes)) → CodecFailsAs e (stream_from apart front stream count streams)
 items_fail apart front stream count streams bytes others (At s i why) is fails = stream_wrong apart front stream count streams bytes others (s, (i, why)) is fails
 items_fail apart front stream count streams bytes others NoMemory is fails = tt
 
 pub after_fails : {A : Type 0} (apart : Bool) (front : List ℕ → First A) (stream count size : ℕ) (streams : List (List ℕ)) (bytes : List ℕ) (others : List (List ℕ)) (items : List A) (rest : List ℕ) (e : CodecError)
-    → streams ≡ bytes ∷ others → at stream (items_from front 0 count bytes) ≡ Ok (items, rest) → size ≡ count → FailsAs e (after_items apart stream size rest others) → FailsAs e (stream_from apart front stream count streams)
+    → streams ≡ bytes ∷ others → at stream (items_from front 0 count bytes) ≡ Ok (items, rest) → size ≡ count → CodecFailsAs e (after_items apart stream size rest others) → CodecFailsAs e (stream_from apart front stream count streams)
 after_fails apart front stream count size streams bytes others items rest (At s i why) is read same fails =
     stream_over apart front stream count streams bytes others items rest (s, (i, why)) is read (ap (λ (n : ℕ). after_items apart stream n rest others) (sym same) ∙ fails)
 after_fails apart front stream count size streams bytes others items rest NoMemory is read same fails = tt

@@ -14,19 +14,19 @@ abbrev pub bytes_of : List (Bor (List ℕ)) → List (List ℕ)
 bytes_of slices = map (λ slice. slice.now) slices
 
 -- an error is the reading's fault, out of memory aside
-abbrev pub FailsAs : {A : Type 0} → CodecError → Read A → Type 0
-FailsAs (At stream item why) reading = reading ≡ Err (stream, (item, why))
-FailsAs NoMemory reading = Unit {0}
+abbrev pub CodecFailsAs : {A : Type 0} → CodecError → Read A → Type 0
+CodecFailsAs (At stream item why) reading = reading ≡ Err (stream, (item, why))
+CodecFailsAs NoMemory reading = Unit {0}
 
 -- what is returned is what the substreams are read as
-abbrev pub Gives : {A : Type 0} → Result A CodecError → Read A → Type 0
-Gives (Ok found) reading = reading ≡ Ok found
-Gives (Err e) reading = FailsAs e reading
+abbrev pub GivesSubstreams : {A : Type 0} → Result A CodecError → Read A → Type 0
+GivesSubstreams (Ok found) reading = reading ≡ Ok found
+GivesSubstreams (Err e) reading = CodecFailsAs e reading
 
 -- the same of the values at the start of some bytes, and of how many bytes they take
 abbrev pub GivesFront : List ℕ → Result (List Value × ℕ) CodecError → Read (List Value × List ℕ) → Type 0
 GivesFront bytes (Ok (values, used)) reading = (used ≤ length bytes) × (reading ≡ Ok (values, drop used bytes))
-GivesFront bytes (Err e) reading = FailsAs e reading
+GivesFront bytes (Err e) reading = CodecFailsAs e reading
 
 -- ---- what it means
 

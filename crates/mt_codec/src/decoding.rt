@@ -12,7 +12,7 @@ ghost use Rattle.mt_item.specs.ItemTypes.{has_items};
 ghost use Rattle.mt_codec.specs.declared.fault.CodecError.TheVariants.{At};
 ghost use Rattle.mt_codec.specs.ColumnReading.{column_from, decode_reading, front_reading, nullable_from, stream_from};
 ghost use Rattle.mt_codec.specs.Cursor.{GivesColumn, is_apart, lists};
-ghost use Rattle.mt_codec.specs.Results.{AreFirstValues, AreValues, Gives, GivesFront, Returns, bytes_of};
+ghost use Rattle.mt_codec.specs.Results.{AreFirstValues, AreValues, GivesSubstreams, GivesFront, Returns, bytes_of};
 ghost use Rattle.mt_defs.specs.FileNames.{array_levels};
 ghost use Rattle.mt_codec.specs.StreamOrder as defined;
 
@@ -37,7 +37,7 @@ pub fn decode(
     requires profile { IsTrue (is_profile ty.now) }
     requires few { rows ≤ MAX_ROWS }
     requires each { length streams.now ≡ length (defined.streams_of ty.now) }
-    ensures reads { Gives result (decode_reading ty.now rows (bytes_of streams.now)) }
+    ensures reads { GivesSubstreams result (decode_reading ty.now rows (bytes_of streams.now)) }
     ensures found { IfOk result (λ values. AreValues ty.now rows (bytes_of streams.now) values) }
     ensures only { (values : Seq Entry) → AreValues ty.now rows (bytes_of streams.now) values
         → Returns values result }

@@ -4,7 +4,7 @@ ghost use Rattle.std.specs.Prelude.{◌≡◌, ◌<◌, IfOk, length, set};
 ghost use Rattle.mt_types.specs.declared.value.Value.TheVariants.{Null};
 ghost use Rattle.mt_types.specs.Steps.{at};
 ghost use Rattle.mt_codec.specs.ColumnReading.{items_from, null_front, nulled, stream_from};
-ghost use Rattle.mt_codec.specs.Cursor.{GivesBytes, GivesNulls, is_apart, lists};
+ghost use Rattle.mt_codec.specs.Cursor.{GivesItemBytes, GivesNulls, is_apart, lists};
 
 use crate::fault::CodecError;
 use crate::streams::Streams;
@@ -35,7 +35,7 @@ pub(crate) fn read_nulls(
 
 /// The bytes of a null map at the start of some bytes, and what follows them.
 fn nulls_in(stream: u64, count: u128, bytes: &[u8]) -> Result<(&[u8], &[u8]), CodecError>
-    ensures reads { GivesBytes result (at stream (items_from null_front 0 count bytes.now)) }
+    ensures reads { GivesItemBytes result (at stream (items_from null_front 0 count bytes.now)) }
     ensures many { IfOk result (λ read. length read.0.now ≡ count) }
 {
     let mut read = 0;

@@ -15,6 +15,7 @@ use Rattle.mt_columns.proofs.NestLemmas.{array_value}
 use Rattle.mt_types.proofs.OrderLemmas.{lists_cmp}
 use Rattle.mt_types.specs.declared.value.Value.{Value}
 use Rattle.mt_types.specs.declared.value.Value.TheVariants.{Null, List as Items, outs-Null, outs-List}
+use Rattle.mt_cells.proofs.SeenLemmas.{first_decides}
 
 -- two arrays
 pub arrays_cmp : (x y : Value) (a b : List Value) → x ≡ Items a → y ≡ Items b → values_cmp a b ≡ value_cmp x y
@@ -30,11 +31,6 @@ range_first vs x end h within =
 both_first : (vs : List Value) (x end y end' : ℕ) → x < end → end ≤ length vs → y < end' → end' ≤ length vs
     → values_cmp (take (end - x) (drop x vs)) (take (end' - y) (drop y vs)) ≡ ordering_then (value_cmp (get_or vs x Null) (get_or vs y Null)) (values_cmp (take (end - (x + 1)) (drop (x + 1) vs)) (take (end' - (y + 1)) (drop (y + 1) vs)))
 both_first vs x end y end' h within h' within' = ap₂ values_cmp (range_first vs x end h within) (range_first vs y end' h' within')
-
-first_decides : (r rest : Ordering) → (r ≡ Equal → ⊥) → ordering_then r rest ≡ r
-first_decides Less rest e = refl
-first_decides Equal rest e = absurd (e refl)
-first_decides Greater rest e = refl
 
 module _ (vs : List Value) (x end y end' : ℕ) (h : x < end) (within : end ≤ length vs) (h' : y < end') (within' : end' ≤ length vs) (r whole : Ordering) (is : r ≡ value_cmp (get_or vs x Null) (get_or vs y Null))
     (left : values_cmp (take (end - x) (drop x vs)) (take (end' - y) (drop y vs)) ≡ whole) where

@@ -12,6 +12,7 @@ use Rattle.mt_types.specs.declared.value.Value.TheViews.{roll-out-Value}
 use Rattle.mt_types.specs.declared.value.Value.TheVariants.{Null, outs-Null}
 use Rattle.mt_types.specs.Fits.{null_at}
 use Rattle.mt_types.specs.declared.memory.NoMemory.{NoMemory}
+use Rattle.mt_table.proofs.PointwiseLemmas.{Pointwise-length}
 use Rattle.mt_defs.specs.Encoding.{is_null, is_null_at, null_byte}
 use Rattle.mt_defs.specs.WrittenStreams.{or_default}
 use Rattle.mt_defs.specs.Lists.{Pointwise}
@@ -28,15 +29,9 @@ abbrev pub AreAsMany : Option (Vec ℕ) → List Value → Type 0
 AreAsMany None values = Unit {0}
 AreAsMany (Some nulls) values = length nulls.items ≡ length values
 
-pointwise_length : {A B : Type 0} (R : A → B → Type 0) (xs : List A) (ys : List B) → Pointwise R xs ys → length xs ≡ length ys
-pointwise_length R [] [] p = refl
-pointwise_length R [] (y ∷ ys) p = absurd p
-pointwise_length R (x ∷ xs) [] p = absurd p
-pointwise_length R (x ∷ xs) (y ∷ ys) p = ap suc (pointwise_length R xs ys p.1)
-
 pub as_many : (d : Value) (nulls : Option (Vec ℕ)) (items : List Value) → HasNulls d nulls items → AreAsMany nulls items
 as_many d None items has = tt
-as_many d (Some nulls) items has = pointwise_length (IsBeside d) nulls.items items has
+as_many d (Some nulls) items has = Pointwise-length (IsBeside d) nulls.items items has
 
 pub length-nulled : (bytes : List ℕ) (values : List Value) → length bytes ≡ length values → length (nulled bytes values) ≡ length values
 unfolding nulled
@@ -126,7 +121,7 @@ module _ (k : ItemKind) (nulls : Option (Vec ℕ)) (bytes bytes' : Vec ℕ) (ite
 
   pub pushed_values : (seen : List Value) → leaf_values nulls items ≡ seen → nulled bytes'.items items' ≡ seen ++ v ∷ []
   pushed_values seen view =
-      ap₂ nulled more.0 more.1 ∙ nulled_more bytes.items items (null_byte v) (or_default (default_item k) v) (pointwise_length (IsBeside (default_item k)) bytes.items items before)
+      ap₂ nulled more.0 more.1 ∙ nulled_more bytes.items items (null_byte v) (or_default (default_item k) v) (Pointwise-length (IsBeside (default_item k)) bytes.items items before)
       ∙ ap₂ (λ (vs : List Value) (w : Value). vs ++ w ∷ []) (sym (ap (λ (n : Option (Vec ℕ)). leaf_values n items) is) ∙ view) (nulled_one (default_item k) v)
 
 -- and where memory was refused they are as they were

@@ -20,12 +20,12 @@ use Rattle.mt_cells.specs.declared.kind.Kind.{Kind as CellKind}
 use Rattle.mt_cells.specs.declared.kind.Kind.TheVariants as kind
 use Rattle.mt_cells.specs.Items.{OfCells, fits_items}
 use Rattle.mt_columns.specs.Shapes.{plain_shape}
-use Rattle.mt_types.proofs.NumberLemmas.{fits_at}
-use Rattle.mt_cells.proofs.FitLemmas.{fits_level, level_fits, str_level}
+use Rattle.mt_cells.proofs.FitLemmas.{fits_level, level_fits, str_level, no_fit}
 use Rattle.mt_types.specs.Fits.{null_at, state_at}
 use Rattle.mt_types.specs.declared.value.Value.{Value, out-Value}
 use Rattle.mt_types.specs.declared.value.Value.TheOpen.{Value-F}
 use Rattle.mt_types.specs.Fits.{Level, fits_of, fits_step, list_at}
+use Rattle.mt_item.proofs.ItemLemmas.{test_at}
 use Rattle.mt_columns.specs.Leaves.{leaf_fits}
 use Rattle.mt_columns.specs.Nesting.{Columned, fits_column, fits_depth}
 use Rattle.mt_columns.specs.Shapes.{IsOfType, Shape, shape_of, shape_step}
@@ -111,9 +111,6 @@ pub record IsPlain (s : Shape) : Type 0 where
   pub flat : s.depth ≡ 0
   pub never : s.nullable ≡ false
 
-clash : {P : Type 0} (b : Bool) → b ≡ false → b ≡ true → P
-clash b p q = let bad : false ≡ true = sym p ∙ q in cc
-
 plain_at : (u : Ty) (level : Ty-F Ty) → out-Ty u ≡ level → is_simple (kind_of u) ≡ true → IsPlain (shape_of u)
 plain_at u (Ty-F.UInt w) is e = subst IsPlain (sym (shape_at u (Ty-F.UInt w) is)) (record { flat = refl; never = refl })
 plain_at u (Ty-F.Int w) is e = subst IsPlain (sym (shape_at u (Ty-F.Int w) is)) (record { flat = refl; never = refl })
@@ -121,10 +118,10 @@ plain_at u (Ty-F.FixedString n) is e = subst IsPlain (sym (shape_at u (Ty-F.Fixe
 plain_at u Ty-F.Str is e = subst IsPlain (sym (shape_at u Ty-F.Str is)) (record { flat = refl; never = refl })
 plain_at u Ty-F.Date is e = subst IsPlain (sym (shape_at u Ty-F.Date is)) (record { flat = refl; never = refl })
 plain_at u Ty-F.Moment is e = subst IsPlain (sym (shape_at u Ty-F.Moment is)) (record { flat = refl; never = refl })
-plain_at u (Ty-F.Nullable w) is e = clash (is_simple (kind_of u)) (ap is_simple (kind_at u (Ty-F.Nullable w) is) ∙ no_optional (kind_of w)) e
-plain_at u (Ty-F.Array w) is e = clash (is_simple (kind_of u)) (ap is_simple (kind_at u (Ty-F.Array w) is) ∙ no_array (kind_of w)) e
-plain_at u (Ty-F.State agg w) is e = clash (is_simple (kind_of u)) (ap is_simple (kind_at u (Ty-F.State agg w) is) ∙ no_state agg (kind_of w)) e
-plain_at u Ty-F.CountState is e = clash (is_simple (kind_of u)) (ap is_simple (kind_at u Ty-F.CountState is)) e
+plain_at u (Ty-F.Nullable w) is e = no_fit (is_simple (kind_of u)) (ap is_simple (kind_at u (Ty-F.Nullable w) is) ∙ no_optional (kind_of w)) e
+plain_at u (Ty-F.Array w) is e = no_fit (is_simple (kind_of u)) (ap is_simple (kind_at u (Ty-F.Array w) is) ∙ no_array (kind_of w)) e
+plain_at u (Ty-F.State agg w) is e = no_fit (is_simple (kind_of u)) (ap is_simple (kind_at u (Ty-F.State agg w) is) ∙ no_state agg (kind_of w)) e
+plain_at u Ty-F.CountState is e = no_fit (is_simple (kind_of u)) (ap is_simple (kind_at u Ty-F.CountState is)) e
 
 any_state : (p : AggState → Bool) (l : Level) → state_at p l ≡ true → state_at (λ s. true) l ≡ true
 any_state p (Value-F.State s) h = refl
@@ -150,9 +147,6 @@ null_fits_shape s v f plain h weaker =
 
 abbrev pub IsHeld : Ty → Type 0
 IsHeld t = is_profile t ≡ true → (v : Value) → fits_of t v ≡ true → fits_shape (shape_of t) v ≡ true
-
-test_at : (t : Ty) (level : Ty-F Ty) (v : Value) → out-Ty t ≡ level → fits_of t v ≡ fits_step (map-Ty Ty (Value → Bool) fits_of level) v
-test_at t level v is = ap (λ f. f v) (fits_at t level is)
 
 cells_held : (t : Ty) (level : Ty-F Ty) (k : CellKind) → out-Ty t ≡ level → shape_of t ≡ plain_shape (OfCells k) → ((v : Value) → fits_of t v ≡ level_fits k (out-Value v)) → IsHeld t
 cells_held t level k is shape test profile v h = ap (λ (s : Shape). fits_shape s v) shape ∙ fits_level k v ∙ sym (test v) ∙ h

@@ -38,11 +38,11 @@ use Rattle.mt_defs.specs.Rows.{Row, RowFits, cell, key_of}
 use Rattle.mt_defs.specs.Sorting.{sorted_rows}
 use Rattle.mt_defs.specs.Writer.{folded_row, projection_rows}
 use Rattle.mt_defs.proofs.Sorted.{All-sorted_rows, cell_count-sorted_rows, length-sorted_rows}
+use Rattle.mt_defs.proofs.ListLemmas.{All-distinct_by, length-distinct_by}
+use Rattle.mt_defs.proofs.RowLemmas.{cell_fits, row_length}
 use Rattle.mt_meta.proofs.DefinitionLemmas.{HasColumn, key_columns, key_scalar}
 use Rattle.mt_meta.proofs.InnerLemmas.{kept_grouped, projections_kept}
-use Rattle.mt_build.proofs.ProjectionRowLemmas.{All-distinct_by, cell_fits}
 use Rattle.mt_command.specs.Targets.{has_many_cells}
-use Rattle.mt_command.proofs.RowLemmas.{row_length}
 
 -- ---- projections of some columns
 
@@ -165,14 +165,6 @@ key_none table keys row has fits =
 
 states_none : (rows : List Row) (aggs : List Aggregate) → All HasNone (map (λ aggregate. State (fold_of rows aggregate)) aggs)
 states_none rows aggs = All-map HasNone (λ aggregate. State (fold_of rows aggregate)) aggs (λ k d h. no_elements (State (fold_of rows _)) (Value-F.State (fold_of rows _)) (outs-State (fold_of rows _)) refl)
-
-length-distinct_by : {X : Type 0} (same : X → X → Bool) (xs : List X) → length (distinct_by same xs) ≤ length xs
-length-distinct_by same [] = omega arith
-length-distinct_by same (x ∷ xs) =
-    let later = length-distinct_by same xs in
-    let kept = length-filter (λ y. not (same x y)) (distinct_by same xs) in
-    let most = count_by-le-length (λ y. not (same x y)) (distinct_by same xs) in
-    omega (arith, later, kept, most)
 
 -- rows without arrays
 no_arrays : (rows : List Row) → All (All HasNone) rows → sum_by (λ row. sum_by element_count row) rows ≡ 0

@@ -11,7 +11,7 @@ use Rattle.mt_shelf.specs.Streams.{GrowsByPrefix}
 use Rattle.mt_command.specs.Outcomes.{Outcomes}
 use Rattle.mt_command.specs.Commands.{PrintsTextOf, PublishesFolderOf, printing_plan, publishing_plan}
 use Rattle.mt_command.specs.Plans.{Answers, world, refusal_of, answer_of}
-use Rattle.mt_command.specs.Status.{is_outside}
+use Rattle.mt_command.specs.Status.{is_outside_fault}
 use Rattle.mt_command.specs.Steps.{Counts, StepCausedBy, Printed, Stored, of_shelf, of_output}
 use Rattle.mt_command.specs.declared.status.Status.{Status}
 use Rattle.mt_command.specs.declared.status.Status.TheVariants.{Done, AtFault, BadWords, NoTable, NoPart, BadTable, BadQuery, Exists, NoRows, BadRows, ManyPartitions, MixedPartitions, TooMuch, SourceFault, ShelfFault, SinkFault, NoMemory}
@@ -20,7 +20,7 @@ use Rattle.mt_command.proofs.RefusedLemmas.{for_all_known, for_all_files, printe
 never_early : {X : Type 0} → IsSome (let o : Option Status = None in o) → X
 never_early some = cc
 
-outside_answers : (refused : Option Status) (status : Status) → is_outside status ≡ true → Answers refused status
+outside_answers : (refused : Option Status) (status : Status) → is_outside_fault status ≡ true → Answers refused status
 outside_answers refused status is = λ inside. cc
 
 files_stay : (files mid : Option Files) (left : Option (List ℕ)) → mid ≡ files → IfSome files (λ f. IfSome left (λ input. mid ≡ Some f))

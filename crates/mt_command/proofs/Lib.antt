@@ -5,4 +5,3 @@ pub mod PartLemmas
 pub mod ProjectionParts
 pub mod RefusedLemmas
 pub mod ReportedLemmas
-pub mod RowLemmas

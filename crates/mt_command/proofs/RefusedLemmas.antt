@@ -6,10 +6,10 @@ use Rattle.mt_fault.specs.declared.file.FileBytes.{FileBytes}
 use Rattle.mt_shelf.specs.Causes.{Rose}
 use Rattle.mt_shelf.specs.Files.{Files}
 use Rattle.mt_shelf.specs.Streams.{GrowsByPrefix}
-use Rattle.mt_command.specs.Outcomes.{Outcomes, Returns}
+use Rattle.mt_command.specs.Outcomes.{Outcomes, ReturnsOutcome}
 use Rattle.mt_command.specs.Commands.{IsOutcome, PrintsTextOf, PublishesFolderOf, printing_plan, publishing_plan}
 use Rattle.mt_command.specs.Plans.{Plan, World, Leaves, CausedBy, PrintsPrefix, Answers, input_of, world, refusal_of}
-use Rattle.mt_command.specs.Status.{is_outside}
+use Rattle.mt_command.specs.Status.{is_outside_fault}
 use Rattle.mt_command.specs.Steps.{Counts, StepCausedBy, of_shelf}
 use Rattle.mt_command.specs.declared.status.Status.{Status}
 use Rattle.mt_command.specs.declared.status.Status.TheVariants.{Done, AtFault, BadWords, NoTable, NoPart, BadTable, BadQuery, Exists, NoRows, BadRows, ManyPartitions, MixedPartitions, TooMuch, SourceFault, ShelfFault, SinkFault, NoMemory}
@@ -37,7 +37,7 @@ for_all_files (Some f) P holds = holds f
 
 -- ---- causes
 
-never_rose : {A : Type 0} → Rose 0 0 → A
+pub never_rose : {A : Type 0} → Rose 0 0 → A
 never_rose rose = absurd (omega (arith, rose))
 
 -- a step that uses the shelf alone
@@ -86,10 +86,10 @@ unchanged_left A plan (TooMuch what limit) left left' written files mid a b c a'
 
 -- the steps refuse so, unless the status comes from outside
 abbrev pub Refuses : {A : Type 0} → (Files → Outcomes A) → Status → Option Files → Type 0
-Refuses {A} steps status files = IfSome files (λ f. Returns (let r : Result A Status = Err status in r) (steps f))
+Refuses {A} steps status files = IfSome files (λ f. ReturnsOutcome (let r : Result A Status = Err status in r) (steps f))
 
 -- the refusal is the outcome, or the run ended early
-pub refused_outcome : {A : Type 0} (steps : Files → Outcomes A) (status : Status) (b : Bool) (left written : Option (List ℕ)) (files mid : Option Files) (a b' c c' : ℕ) → is_outside status ≡ b → Refuses steps status files → mid ≡ files
+pub refused_outcome : {A : Type 0} (steps : Files → Outcomes A) (status : Status) (b : Bool) (left written : Option (List ℕ)) (files mid : Option Files) (a b' c c' : ℕ) → is_outside_fault status ≡ b → Refuses steps status files → mid ≡ files
     → IsOutcome steps (world left written files a b' c) (world left written mid a b' c') status (Err status)
 refused_outcome steps status true left written files mid a b' c c' outside refuses same = inr (outside, (same, refl))
 refused_outcome steps status false left written None mid a b' c c' outside refuses same = inl tt
@@ -106,7 +106,7 @@ printing_refused steps status left written files mid a b c c' refuses same cause
     let plan = printing_plan (Err status) in
     let stands = unchanged_left (List ℕ) plan status left left written files mid a b c a b c' (of_shelf c) (of_shelf c') same cause in (
       Err status,
-      refused_outcome steps status (is_outside status) left written files mid a b c c' refl refuses same,
+      refused_outcome steps status (is_outside_fault status) left written files mid a b c c' refl refuses same,
       (
         record {
           answer = for_all_known files (Some []) (λ f i. Answers (refusal_of plan f i) status) (λ f i. answers_itself status);
@@ -129,7 +129,7 @@ publishing_refused part steps status left written files mid a b c c' refuses sam
     let plan = publishing_plan part (Err status) in
     let stands = unchanged_left (List FileBytes) plan status left left written files mid a b c a b c' (of_shelf c) (of_shelf c') same cause in (
       Err status,
-      refused_outcome steps status (is_outside status) left written files mid a b c c' refl refuses same,
+      refused_outcome steps status (is_outside_fault status) left written files mid a b c c' refl refuses same,
       (
         record {
           answer = for_all_known files (Some []) (λ f i. Answers (refusal_of plan f i) status) (λ f i. answers_itself status);

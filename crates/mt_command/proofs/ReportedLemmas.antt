@@ -5,7 +5,7 @@ use Rattle.mt_shelf.specs.Files.{Files}
 use Rattle.mt_command.specs.Commands.{IsOutcome, PrintsTextOf, PublishesFolderOf, printing_plan, publishing_plan}
 use Rattle.mt_command.specs.Outcomes.{Outcomes}
 use Rattle.mt_command.specs.Plans.{Plan, World, Leaves, CausedBy, Performs, Answers, input_of, refusal_of}
-use Rattle.mt_command.specs.Status.{is_outside}
+use Rattle.mt_command.specs.Status.{is_outside_fault}
 use Rattle.mt_command.specs.declared.status.Status.{Status}
 use Rattle.mt_command.specs.declared.status.Status.TheVariants.{Done, AtFault, BadWords, NoTable, NoPart, BadTable, BadQuery, Exists, NoRows, BadRows, ManyPartitions, MixedPartitions, TooMuch, SourceFault, ShelfFault, SinkFault, NoMemory}
 use Rattle.mt_command.proofs.RefusedLemmas.{printed_nothing}
@@ -80,8 +80,8 @@ performs_reported plan old new status reported (inr memory) performs =
 outcome_reported : {A : Type 0} (steps : Files → Outcomes A) (old new : World) (status reported : Status) (outcome : Result A Status) → IsReportedAs status reported → IsOutcome steps old new status outcome
     → IsOutcome steps old new reported outcome
 outcome_reported steps old new status reported outcome is (inl known) = inl known
-outcome_reported steps old new status reported outcome (inl same) (inr (outside, unchanged)) = inr (ap is_outside same ∙ outside, unchanged)
-outcome_reported steps old new status reported outcome (inr memory) (inr (outside, unchanged)) = inr (ap is_outside memory.0, unchanged)
+outcome_reported steps old new status reported outcome (inl same) (inr (outside, unchanged)) = inr (ap is_outside_fault same ∙ outside, unchanged)
+outcome_reported steps old new status reported outcome (inr memory) (inr (outside, unchanged)) = inr (ap is_outside_fault memory.0, unchanged)
 
 pub prints_reported : (steps : Files → Outcomes (List ℕ)) (old new : World) (status reported : Status) → IsReportedAs status reported → PrintsTextOf steps old new status → PrintsTextOf steps old new reported
 prints_reported steps old new status reported is (outcome, known, performs) =

@@ -4,13 +4,13 @@ use Rattle.mt_fault.specs.declared.file.FileBytes.{FileBytes}
 use Rattle.mt_shelf.specs.Files.{Files}
 use Rattle.mt_command.specs.Outcomes.{Outcomes}
 use Rattle.mt_command.specs.Plans.{Plan, World, Unchanged, Performs}
-use Rattle.mt_command.specs.Status.{is_outside, refusal}
+use Rattle.mt_command.specs.Status.{is_outside_fault, refusal}
 use Rattle.mt_command.specs.Targets.{with_folder}
 use Rattle.mt_command.specs.declared.status.Status.{Status}
 
 -- the run ended from outside before it changed anything
 abbrev pub EndsEarly : World → World → Status → Type 0
-EndsEarly old new status = (is_outside status ≡ true) × Unchanged old new
+EndsEarly old new status = (is_outside_fault status ≡ true) × Unchanged old new
 
 -- steps over the files have this outcome, unless the run ended before they had one
 abbrev pub IsOutcome : {A : Type 0} → (Files → Outcomes A) → World → World → Status → Result A Status → Type 0

@@ -1,7 +1,7 @@
 -- Steps whose outcome a relation gives: a value, or the first refusal.
 use Rattle.std.specs.Prelude.{◌≡◌, ◌⊎◌, false, Result, Ok, Err}
 use Rattle.mt_fault.specs.declared.fault.Fault.{Fault}
-use Rattle.mt_command.specs.Status.{is_outside}
+use Rattle.mt_command.specs.Status.{is_outside_fault}
 use Rattle.mt_command.specs.declared.status.Status.{Status}
 
 -- which outcome some steps have
@@ -23,6 +23,6 @@ refused_by status_for checks (Ok x) = checks (Ok x)
 refused_by status_for checks (Err status) = (fault : Fault) × checks (Err fault) × (status ≡ status_for fault)
 
 -- a call returns an outcome of these steps, unless it ends from outside
-abbrev pub Returns : {A : Type 0} → Result A Status → Outcomes A → Type 0
-Returns (Ok x) steps = steps (Ok x)
-Returns (Err status) steps = is_outside status ≡ false → steps (Err status)
+abbrev pub ReturnsOutcome : {A : Type 0} → Result A Status → Outcomes A → Type 0
+ReturnsOutcome (Ok x) steps = steps (Ok x)
+ReturnsOutcome (Err status) steps = is_outside_fault status ≡ false → steps (Err status)

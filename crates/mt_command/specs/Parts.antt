@@ -36,13 +36,13 @@ abbrev pub few_bytes : List Entry → Result (List Entry) Status
 few_bytes listing = if nat_lt MAX_FOLDER (listed_bytes listing) then Err (TooMuch what.Part MAX_FOLDER) else Ok listing
 
 -- a listing of a part, where one is there
-abbrev pub part_files : List ℕ → Option (List Entry) → Result (List Entry) Status
-part_files part None = Err (NoPart part)
-part_files part (Some listing) = few_bytes listing
+abbrev pub listed_part : List ℕ → Option (List Entry) → Result (List Entry) Status
+listed_part part None = Err (NoPart part)
+listed_part part (Some listing) = few_bytes listing
 
 -- the files below a part, of which there is at least one, within the limit
 abbrev pub listing_in : List ℕ → Files → Result (List Entry) Status
-listing_in part files = part_files part (listing_of (entries_below part files))
+listing_in part files = listed_part part (listing_of (entries_below part files))
 
 -- ---- what it stands for
 

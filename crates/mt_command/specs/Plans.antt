@@ -4,7 +4,7 @@ use Rattle.std.specs.Io.KnownBytes.{append_known, IsAtEnd}
 use Rattle.mt_shelf.specs.Causes.{Rose}
 use Rattle.mt_shelf.specs.Files.{Files}
 use Rattle.mt_shelf.specs.Streams.{GrowsByPrefix}
-use Rattle.mt_command.specs.Status.{is_outside}
+use Rattle.mt_command.specs.Status.{is_outside_fault}
 use Rattle.mt_command.specs.declared.status.Status.{Status}
 use Rattle.mt_command.specs.declared.status.Status.TheVariants.{Done, BadWords, SourceFault, ShelfFault, SinkFault, NoMemory}
 
@@ -83,7 +83,7 @@ Leaves plan old new status = Unchanged old new
 
 -- a refusal, or Done where there is none, unless the command ends from outside
 abbrev pub Answers : Option Status → Status → Type 0
-Answers refusal status = is_outside status ≡ false → status ≡ status_of refusal
+Answers refusal status = is_outside_fault status ≡ false → status ≡ status_of refusal
 
 -- a command is done, refused or ended from outside, as its plan has it
 pub record Meets (plan : Plan) (old new : World) (status : Status) : Type 0 where

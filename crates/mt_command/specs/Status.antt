@@ -20,12 +20,12 @@ code_of NoMemory = 4
 code_of status = 2
 
 -- a fault of an object, or out of memory: no refusal of the words, the files or the input
-abbrev pub is_outside : Status → Bool
-is_outside SourceFault = true
-is_outside ShelfFault = true
-is_outside SinkFault = true
-is_outside NoMemory = true
-is_outside status = false
+abbrev pub is_outside_fault : Status → Bool
+is_outside_fault SourceFault = true
+is_outside_fault ShelfFault = true
+is_outside_fault SinkFault = true
+is_outside_fault NoMemory = true
+is_outside_fault status = false
 
 -- a value, or the first refusal; a step follows only where all before it have a value
 infixl 10 ◌>>=◌
@@ -39,9 +39,9 @@ refused_by status_for (Ok x) = Ok x
 refused_by status_for (Err error) = Err (status_for error)
 
 -- a call returns this value or this refusal, unless it ends from outside
-abbrev pub Gives : {A : Type 0} → Result A Status → Result A Status → Type 0
-Gives (Ok x) wanted = wanted ≡ Ok x
-Gives (Err status) wanted = is_outside status ≡ false → wanted ≡ Err status
+abbrev pub GivesOutcome : {A : Type 0} → Result A Status → Result A Status → Type 0
+GivesOutcome (Ok x) wanted = wanted ≡ Ok x
+GivesOutcome (Err status) wanted = is_outside_fault status ≡ false → wanted ≡ Err status
 
 -- the refusal of steps, if they refuse
 abbrev pub refusal : {A : Type 0} → Result A Status → Option Status

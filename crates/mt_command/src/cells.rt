@@ -4,7 +4,7 @@ ghost use Rattle.std.specs.Prelude.{◌≡◌, ◌<◌, ◌≤◌, ◌*◌, All,
 ghost use Rattle.mt_table.specs.declared.limits.TheConstants.{MAX_CELLS};
 ghost use Rattle.mt_table.specs.Stored.{projection_at};
 ghost use Rattle.mt_defs.specs.Rows.{RowFits, cell_count};
-ghost use Rattle.mt_command.specs.Status.{Gives};
+ghost use Rattle.mt_command.specs.Status.{GivesOutcome};
 ghost use Rattle.mt_command.specs.Steps.{StepCausedBy, of_nothing};
 ghost use Rattle.mt_command.specs.Targets.{few_cells, has_many_cells};
 
@@ -18,7 +18,7 @@ use std::alloc::Global;
 pub fn few_cells(alloc: Global, table: &Table, rows: &[Row]) -> Result<(), Status>
     requires fit { All (RowFits table.now.columns) rows.now }
     requires few { cell_count table.now.columns rows.now ≤ MAX_CELLS }
-    ensures gives { Gives result (few_cells table.now rows.now) }
+    ensures gives { GivesOutcome result (few_cells table.now rows.now) }
     ensures cause { StepCausedBy result of_nothing of_nothing }
 {
     for projection in 0..table.projections.len() {

@@ -5,7 +5,7 @@ ghost use Rattle.mt_shelf.specs.Held.{HasName};
 ghost use Rattle.mt_defs.specs.Partition.{HaveOnePartition};
 ghost use Rattle.mt_defs.specs.Rows.{RowFits, key_cmp};
 ghost use Rattle.mt_defs.specs.Writer.{written_folder};
-ghost use Rattle.mt_command.specs.Status.{Gives};
+ghost use Rattle.mt_command.specs.Status.{GivesOutcome};
 ghost use Rattle.mt_command.specs.Steps.{StepCausedBy, of_nothing};
 ghost use Rattle.mt_command.specs.Targets.{folder_bytes, within_limit};
 
@@ -45,7 +45,7 @@ pub fn sorted_folder<R: Threads + Sync, G: Gate + Sync>(
     requires one_partition { HaveOnePartition table.now rows.now }
     requires few { 0 < workers }
     requires many { workers ≤ 64 }
-    ensures gives { Gives result (within_limit (written_folder table.now rows.now)) }
+    ensures gives { GivesOutcome result (within_limit (written_folder table.now rows.now)) }
     ensures names { IfOk result (λ folder. All HasName folder) }
     ensures cause { StepCausedBy result of_nothing of_nothing }
 {

@@ -6,9 +6,9 @@ ghost use Rattle.mt_defs.specs.Rows.{ArePartRows};
 ghost use Rattle.mt_shelf.specs.Files.{IsListing, entries_below};
 ghost use Rattle.mt_shelf.specs.Paths.{is_path};
 ghost use Rattle.mt_shelf.specs.State.{files_of};
-ghost use Rattle.mt_command.specs.Outcomes.{Returns, refused_by};
+ghost use Rattle.mt_command.specs.Outcomes.{ReturnsOutcome, refused_by};
 ghost use Rattle.mt_command.specs.Parts.{listed_bytes, listing_in, part_checks, part_steps, table_part_steps};
-ghost use Rattle.mt_command.specs.Status.{Gives, IsNamed};
+ghost use Rattle.mt_command.specs.Status.{GivesOutcome, IsNamed};
 ghost use Rattle.mt_command.specs.declared.status.Status.TheVariants.{AtFault, NoPart};
 ghost use Rattle.mt_command.specs.Steps.{StepCausedBy, of_shelf};
 
@@ -57,7 +57,7 @@ pub fn at_fault(alloc: Global, part: &str, fault: Fault) -> Status
 /// Lists the files below a part: at least one, and together within the limit on a folder.
 pub fn list_part<F: Shelf>(alloc: Global, shelf: &mut F, part: &str) -> Result<List<Entry>, Status>
     requires { IsTrue (is_path part.now) }
-    ensures gives { IfSome (files_of (F.state shelf.old)) (λ files. Gives result (listing_in part.now files)) }
+    ensures gives { IfSome (files_of (F.state shelf.old)) (λ files. GivesOutcome result (listing_in part.now files)) }
     ensures known { IfSome (files_of (F.state shelf.old)) (λ files. IfOk result (λ listing. listing ≡ entries_below part.now files)) }
     ensures form { IfOk result IsListing }
     ensures few { IfOk result (λ listing. listed_bytes listing ≤ MAX_FOLDER) }
@@ -79,7 +79,7 @@ pub fn list_part<F: Shelf>(alloc: Global, shelf: &mut F, part: &str) -> Result<L
 }
 
 /// Checks the listed files of a part.
-#[tactic(auto, using(crate::proofs::PartLemmas::long_rows))]
+#[tactic(auto, using(mt_defs::proofs::RowLemmas::rows_length))]
 pub fn check_listed<F: Shelf>(
     alloc: Global,
     shelf: &mut F,
@@ -92,7 +92,7 @@ pub fn check_listed<F: Shelf>(
     requires few { listed_bytes listing.now ≤ MAX_FOLDER }
     requires known { IfSome (files_of (F.state shelf.old)) (λ files. listing.now ≡ entries_below part.now files) }
     ensures gives { IfSome (files_of (F.state shelf.old))
-        (λ files. Returns result (refused_by (AtFault part.now) (part_checks table.now part.now files))) }
+        (λ files. ReturnsOutcome result (refused_by (AtFault part.now) (part_checks table.now part.now files))) }
     ensures long { IfOk result (λ accepted. All (λ row. length row ≡ length table.now.columns) accepted.rows) }
     ensures rows { IfOk result (λ accepted. ArePartRows (base_of table.now) accepted.rows) }
     ensures one { IfOk result (λ accepted. HaveOnePartition table.now accepted.rows) }
@@ -116,7 +116,7 @@ pub fn accept_part<F: Shelf>(
 ) -> Result<Accepted, Status>
     requires { IsTrue (is_path part.now) }
     ensures gives { IfSome (files_of (F.state shelf.old))
-        (λ files. Returns result (part_steps table.now part.now files)) }
+        (λ files. ReturnsOutcome result (part_steps table.now part.now files)) }
     ensures long { IfOk result (λ accepted. All (λ row. length row ≡ length table.now.columns) accepted.rows) }
     ensures rows { IfOk result (λ accepted. ArePartRows (base_of table.now) accepted.rows) }
     ensures one { IfOk result (λ accepted. HaveOnePartition table.now accepted.rows) }
@@ -140,7 +140,7 @@ pub fn read_part<F: Shelf>(
     requires path { IsTrue (is_path path.now) }
     requires part { IsTrue (is_path part.now) }
     ensures gives { IfSome (files_of (F.state shelf.old))
-        (λ files. Returns result (table_part_steps path.now part.now files)) }
+        (λ files. ReturnsOutcome result (table_part_steps path.now part.now files)) }
     ensures long { IfOk result (λ read. All (λ row. length row ≡ length read.0.columns) read.1.rows) }
     ensures files { files_of (F.state shelf.new) ≡ files_of (F.state shelf.old) }
     ensures cause { StepCausedBy result (of_shelf (F.faults shelf.old)) (of_shelf (F.faults shelf.new)) }

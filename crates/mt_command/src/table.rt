@@ -3,7 +3,7 @@ ghost use Rattle.std.specs.Prelude.{◌≡◌, IfSome, IsTrue};
 ghost use Rattle.std.specs.FinMap.{get};
 ghost use Rattle.mt_shelf.specs.Paths.{is_path};
 ghost use Rattle.mt_shelf.specs.State.{files_of};
-ghost use Rattle.mt_command.specs.Status.{Gives};
+ghost use Rattle.mt_command.specs.Status.{GivesOutcome};
 ghost use Rattle.mt_command.specs.Steps.{StepCausedBy, of_nothing, of_shelf};
 ghost use Rattle.mt_command.specs.Tables.{table_in, table_of, table_text};
 
@@ -19,7 +19,7 @@ use std::alloc::Global;
 fn read_text<F: Shelf>(alloc: Global, shelf: &mut F, path: &str) -> Result<List<u8>, Status>
     requires { IsTrue (is_path path.now) }
     ensures gives { IfSome (files_of (F.state shelf.old))
-        (λ files. Gives result (table_text (get files path.now))) }
+        (λ files. GivesOutcome result (table_text (get files path.now))) }
     ensures files { files_of (F.state shelf.new) ≡ files_of (F.state shelf.old) }
     ensures cause { StepCausedBy result (of_shelf (F.faults shelf.old)) (of_shelf (F.faults shelf.new)) }
 {
@@ -43,7 +43,7 @@ fn read_text<F: Shelf>(alloc: Global, shelf: &mut F, path: &str) -> Result<List<
 /// The table of a text.
 #[tactic(auto, unfolding(crate::specs::Tables::table_of))]
 fn table_of(alloc: Global, text: &[u8]) -> Result<Table, Status>
-    ensures gives { Gives result (table_of text.now) }
+    ensures gives { GivesOutcome result (table_of text.now) }
     ensures cause { StepCausedBy result of_nothing of_nothing }
 {
     match mt_table_text::read_table(alloc, text) {
@@ -56,7 +56,7 @@ fn table_of(alloc: Global, text: &[u8]) -> Result<Table, Status>
 /// Reads the table of a file.
 pub fn read_table<F: Shelf>(alloc: Global, shelf: &mut F, path: &str) -> Result<Table, Status>
     requires { IsTrue (is_path path.now) }
-    ensures gives { IfSome (files_of (F.state shelf.old)) (λ files. Gives result (table_in path.now files)) }
+    ensures gives { IfSome (files_of (F.state shelf.old)) (λ files. GivesOutcome result (table_in path.now files)) }
     ensures files { files_of (F.state shelf.new) ≡ files_of (F.state shelf.old) }
     ensures cause { StepCausedBy result (of_shelf (F.faults shelf.old)) (of_shelf (F.faults shelf.new)) }
 {

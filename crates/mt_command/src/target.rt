@@ -6,7 +6,7 @@ ghost use Rattle.mt_shelf.specs.Paths.{is_path};
 ghost use Rattle.mt_shelf.specs.Files.{gained_files};
 ghost use Rattle.mt_shelf.specs.Held.{pair_of, HasName};
 ghost use Rattle.mt_shelf.specs.State.{files_of};
-ghost use Rattle.mt_command.specs.Status.{Gives};
+ghost use Rattle.mt_command.specs.Status.{GivesOutcome};
 ghost use Rattle.mt_command.specs.Steps.{StepCausedBy, Stored, of_shelf};
 ghost use Rattle.mt_command.specs.Targets.{free_target};
 
@@ -17,7 +17,7 @@ use mt_shelf::{Shelf, store};
 /// Refuses a target where a file stands, or below it.
 pub fn free_target<F: Shelf>(shelf: &mut F, part: &str) -> Result<(), Status>
     requires { IsTrue (is_path part.now) }
-    ensures gives { IfSome (files_of (F.state shelf.old)) (λ files. Gives result (free_target part.now files)) }
+    ensures gives { IfSome (files_of (F.state shelf.old)) (λ files. GivesOutcome result (free_target part.now files)) }
     ensures state { F.state shelf.new ≡ F.state shelf.old }
     ensures cause { StepCausedBy result (of_shelf (F.faults shelf.old)) (of_shelf (F.faults shelf.new)) }
 {

@@ -1,13 +1,13 @@
 -- A Compact part is read exactly where its files are of the layout.
 use Rattle.std.proofs.Common.{◌≡◌, ℕ, zero, suc, ◌+◌, ◌*◌, ◌<◌, ◌≤◌, Bool, true, List, [], ◌∷◌, ◌++◌, length, map, drop, get_or, refl, ap, sym, ◌∙◌, subst, arith, append-nil, get_or-append-add}
-use Rattle.std.specs.Prelude.{All, Ok, ◌↔◌, IsTrue, ◌==◌}
+use Rattle.std.specs.Prelude.{All, Ok, ◌↔◌, ◌==◌}
 use Rattle.std.specs.List.{concat, enumerate_from, list_all, sum}
 use Rattle.std.proofs.lemmas.Bool.{eqb-true, eq-eqb}
 use Rattle.std.proofs.lemmas.List.{get_or-map, get_or_default, length-map, length-take-le, length-drop}
 use Rattle.std.proofs.lemmas.List.FromFn.{get_or-enumerate_from, get_or-map-range_with_len, length-enumerate_from}
 use lib.ListN.{get_or-append}
+use Rattle.mt_facts.proofs.Numbers.{sum_cons}
 use Rattle.mt_types.specs.declared.value.Value.{Value}
-use Rattle.mt_types.specs.declared.value.Value.TheVariants.{Null}
 use Rattle.mt_types.specs.Fits.{fits_of}
 use Rattle.mt_types.specs.Profile.{is_profile}
 use Rattle.mt_types.proofs.StepLemmas.{ok_pair, ok_one, ok_then, passed, required, then_of}
@@ -15,6 +15,7 @@ use Rattle.mt_fault.specs.declared.fault.Why.TheVariants as why
 use Rattle.mt_table.specs.Rows.{Pointwise, RowFits}
 use Rattle.mt_table.specs.declared.column.Column.{Column}
 use Rattle.mt_table.specs.declared.limits.TheConstants.{MAX_COLUMNS, MAX_ROWS}
+use Rattle.mt_table.proofs.PointwiseLemmas.{Pointwise-get_or, Pointwise-length}
 use Rattle.mt_defs.specs.Compact.{EncodesColumns, compact_data_name, compact_marks_name}
 use Rattle.mt_defs.specs.Encoding.{Encodes}
 use Rattle.mt_defs.specs.Folder.{Folder}
@@ -30,18 +31,16 @@ use Rattle.mt_fault.specs.Faults.{Judged, blame, file_fault, granule_fault}
 use Rattle.mt_granules.specs.FileFaults.{in_order}
 use Rattle.mt_granules.specs.PayloadReading.{GranulePayloads, granules_reading, payloads_reading}
 use Rattle.mt_granules.proofs.CutLemmas.{AreRuns, flat, length-flat}
-use Rattle.mt_granules.proofs.GranuleLemmas.{length-granule_rows}
-use Rattle.mt_granules.proofs.IndexLemmas.{column_of_rows, cut_joined, first_cut, list_all_at, list_all_more, pointwise_at, pointwise_long, pointwise_of, rows_of_columns}
+use Rattle.mt_granules.proofs.IndexLemmas.{column_of_rows, cut_joined, first_cut, list_all_more, pointwise_of, rows_of_columns}
 use Rattle.mt_granules.proofs.OrderLemmas.{order_all, order_each}
 use Rattle.mt_granules.proofs.PayloadsHeldLemmas.{AreHeld, HoldsPayloads, payloads_held}
 use Rattle.mt_granules.proofs.PayloadsReadLemmas.{payloads_read}
-use Rattle.mt_granules.proofs.RowLemmas.{length-all_values, length-rows_of, sum-cons}
+use Rattle.mt_granules.proofs.RowLemmas.{length-all_values, length-rows_of}
 use Rattle.mt_fault.proofs.FaultLemmas.{blame_ok}
-use Rattle.mt_compact.specs.CompactReading.{column_reading, compact_reading, granule_reading, payload_reading, rows_reading, value_fault}
+use Rattle.mt_granules.proofs.LayoutLemmas.{AreProfile, row_fits}
+use Rattle.mt_defs.proofs.GranuleLemmas.{length-granule_rows}
+use Rattle.mt_compact.specs.CompactReading.{compact_column_reading, compact_reading, compact_granule_reading, compact_payload_reading, compact_rows_reading, compact_value_fault}
 use Rattle.mt_compact.specs.HeldRows.{HoldsRows}
-
-abbrev pub AreProfile : List Column → Type 0
-AreProfile = All (λ column. IsTrue (is_profile column.ty))
 
 -- ---- places of numbered things and of runs
 
@@ -59,7 +58,7 @@ numbered_pointwise {X} {B} R xs ys d b long f =
 
 numbered_at : {X B : Type 0} (R : ℕ × X → B → Type 0) (xs : List X) (ys : List B) (d : X) (b : B) (k : ℕ) → Pointwise R (enumerate_from 0 xs) ys → k < length xs → R (k, get_or xs k d) (get_or ys k b)
 numbered_at {X} {B} R xs ys d b k p h =
-    subst (λ (x : ℕ × X). R x (get_or ys k b)) (number_at xs d k (0, d) h) (pointwise_at R (enumerate_from 0 xs) ys k (0, d) b p (omega (arith, h, length-enumerate_from 0 xs)))
+    subst (λ (x : ℕ × X). R x (get_or ys k b)) (number_at xs d k (0, d) h) (Pointwise-get_or R (enumerate_from 0 xs) ys k (0, d) b p (omega (arith, h, length-enumerate_from 0 xs)))
 
 flat_at : {X : Type 0} (per : ℕ) (grouped : List (List X)) (g i : ℕ) (d : X) → AreRuns per grouped → i < per → g < length grouped → get_or (flat grouped) (g * per + i) d ≡ get_or (get_or grouped g []) i d
 flat_at per [] g i d are h within = absurd (omega (arith, within))
@@ -83,8 +82,8 @@ granule_values i (count ∷ granules) (v ∷ values) rows (suc g) p e h = granul
 
 granule_long : (granules : List ℕ) (rows : List Row) (g : ℕ) → sum granules ≡ length rows → g < length granules → length (get_or (granule_rows granules rows) g []) ≡ get_or granules g 0
 granule_long [] rows g all h = absurd (omega (arith, h))
-granule_long (count ∷ granules) rows zero all h = length-take-le count rows (omega (arith, all, sum-cons count granules))
-granule_long (count ∷ granules) rows (suc g) all h = granule_long granules (drop count rows) g (omega (arith, all, sum-cons count granules, length-drop count rows)) (omega (arith, h))
+granule_long (count ∷ granules) rows zero all h = length-take-le count rows (omega (arith, all, sum_cons count granules))
+granule_long (count ∷ granules) rows (suc g) all h = granule_long granules (drop count rows) g (omega (arith, all, sum_cons count granules, length-drop count rows)) (omega (arith, h))
 
 all_fit : (p : Value → Bool) (values : List (List Value)) → ((g : ℕ) → g < length values → list_all p (get_or values g []) ≡ true) → list_all p (all_values values) ≡ true
 all_fit p [] f = refl
@@ -109,11 +108,11 @@ none_left : (bytes : List ℕ) → is_empty bytes ≡ true → bytes ≡ []
 none_left [] e = refl
 none_left (byte ∷ bytes) e = cc
 
-payload_held : (column : Column) (g count : ℕ) (payload : List ℕ) (values : List Value) → is_profile column.ty ≡ true → AreBytes payload → payload_reading column g count payload ≡ Ok values → IsPayload column count payload values
+payload_held : (column : Column) (g count : ℕ) (payload : List ℕ) (values : List Value) → is_profile column.ty ≡ true → AreBytes payload → compact_payload_reading column g count payload ≡ Ok values → IsPayload column count payload values
 payload_held column g count payload values profile bytes e =
-    ok_then (blame (value_fault g) (front_reading column.ty count payload)) _ values e (λ read is e.
+    ok_then (blame (compact_value_fault g) (front_reading column.ty count payload)) _ values e (λ read is e.
     required (is_empty read.1) (granule_fault compact_data_name g why.Over) (λ _. Ok read.0) values e (λ empty e.
-    let (streams, all, many, encodes) = front_encodes column.ty profile count payload read.0 read.1 (small_of payload bytes) (blame_ok (value_fault g) (front_reading column.ty count payload) read is) in
+    let (streams, all, many, encodes) = front_encodes column.ty profile count payload read.0 read.1 (small_of payload bytes) (blame_ok (compact_value_fault g) (front_reading column.ty count payload) read is) in
     let same : values ≡ read.0 = ok_one _ _ e in
     record {
       many = ap (λ (l : List Value). length l) same ∙ many;
@@ -122,10 +121,10 @@ payload_held column g count payload values profile bytes e =
       joined = all ∙ ap (λ (rest : List ℕ). concat streams ++ rest) (none_left read.1 empty) ∙ append-nil (concat streams);
     }))
 
-payload_read : (column : Column) (g count : ℕ) (payload : List ℕ) (values : List Value) → is_profile column.ty ≡ true → IsPayload column count payload values → payload_reading column g count payload ≡ Ok values
+payload_read : (column : Column) (g count : ℕ) (payload : List ℕ) (values : List Value) → is_profile column.ty ≡ true → IsPayload column count payload values → compact_payload_reading column g count payload ≡ Ok values
 payload_read column g count payload values profile is =
     let front : front_reading column.ty count payload ≡ Ok (values, []) = encoded_front column.ty profile count payload values is.streams [] is.many is.encodes (is.joined ∙ sym (append-nil (concat is.streams))) in
-    then_of (blame (value_fault g) (front_reading column.ty count payload)) (values, []) _ (ap (blame (value_fault g)) front)
+    then_of (blame (compact_value_fault g) (front_reading column.ty count payload)) (values, []) _ (ap (blame (compact_value_fault g)) front)
 
 -- ---- a column
 
@@ -136,20 +135,20 @@ record ColumnIsHeld (grouped : List (List (List ℕ))) (granules : List ℕ) (k 
 
 module _ (width : ℕ) (grouped : List (List (List ℕ))) (granules : List ℕ) (runs : AreRuns width grouped) (many : length grouped ≡ length granules) where
   column_held : (read : GranulePayloads) (k : ℕ) (column : Column) (values : List (List Value)) → read.payloads ≡ flat grouped → read.granules ≡ granules → All AreBytes (flat grouped) → k < width → is_profile column.ty ≡ true
-      → column_reading width read (k, column) ≡ Ok values → ColumnIsHeld grouped granules k column values
+      → compact_column_reading width read (k, column) ≡ Ok values → ColumnIsHeld grouped granules k column values
   column_held read k column values payloads_are granules_are bytes h profile e =
-      let step = granule_reading column k width (flat grouped) in
+      let step = compact_granule_reading column k width (flat grouped) in
       let all : in_order step (enumerate_from 0 granules) ≡ Ok values =
-      ap (λ (ps : List (List ℕ)). in_order (granule_reading column k width ps) (enumerate_from 0 granules)) (sym payloads_are)
-      ∙ ap (λ (ns : List ℕ). in_order (granule_reading column k width read.payloads) (enumerate_from 0 ns)) (sym granules_are) ∙ e in
+      ap (λ (ps : List (List ℕ)). in_order (compact_granule_reading column k width ps) (enumerate_from 0 granules)) (sym payloads_are)
+      ∙ ap (λ (ns : List ℕ). in_order (compact_granule_reading column k width read.payloads) (enumerate_from 0 ns)) (sym granules_are) ∙ e in
       let are = order_each step (enumerate_from 0 granules) values all in
-      let count : length granules ≡ length values = sym (length-enumerate_from 0 granules) ∙ pointwise_long _ (enumerate_from 0 granules) values are in
+      let count : length granules ≡ length values = sym (length-enumerate_from 0 granules) ∙ Pointwise-length _ (enumerate_from 0 granules) values are in
       let within : (g : ℕ) → g < length granules → g * width + k < length (flat grouped) = λ g below. place_within g below h in
       let each : (g : ℕ) → g < length granules → IsPayload column (get_or granules g 0) (get_or (get_or grouped g []) k []) (get_or values g []) = λ g below.
       let here = flat_at width grouped g k [] runs h (omega (arith, below, many)) in
       payload_held column g (get_or granules g 0) (get_or (get_or grouped g []) k []) (get_or values g []) profile
       (subst AreBytes here (bytes (g * width + k) [] (within g below)))
-      (ap (λ (payload : List ℕ). payload_reading column g (get_or granules g 0) payload) (sym here) ∙ numbered_at (λ p vs. step p ≡ Ok vs) granules values 0 [] g are below) in
+      (ap (λ (payload : List ℕ). compact_payload_reading column g (get_or granules g 0) payload) (sym here) ∙ numbered_at (λ p vs. step p ≡ Ok vs) granules values 0 [] g are below) in
       record {
         long = pointwise_of _ granules values count (λ g a b below.
             ap (λ (vs : List Value). length vs) (get_or_default values g b [] (omega (arith, below, count))) ∙ (each g below).many ∙ get_or_default granules g 0 a below);
@@ -162,36 +161,30 @@ module _ (width : ℕ) (grouped : List (List (List ℕ))) (granules : List ℕ) 
 
   column_read : (k : ℕ) (column : Column) (rows : List Row) → k < width → is_profile column.ty ≡ true → sum granules ≡ length rows
       → ((g : ℕ) → g < length granules → IsPayload column (get_or granules g 0) (get_or (get_or grouped g []) k []) (column_values k (get_or (granule_rows granules rows) g [])))
-      → column_reading width (record { payloads = flat grouped; granules = granules }) (k, column) ≡ Ok (map (column_values k) (granule_rows granules rows))
+      → compact_column_reading width (record { payloads = flat grouped; granules = granules }) (k, column) ≡ Ok (map (column_values k) (granule_rows granules rows))
   column_read k column rows h profile all each =
-      let step = granule_reading column k width (flat grouped) in
+      let step = compact_granule_reading column k width (flat grouped) in
       let values = map (column_values k) (granule_rows granules rows) in
       let count : length granules ≡ length values = sym (length-map (granule_rows granules rows) (column_values k) ∙ length-granule_rows granules rows) in
       order_all step (enumerate_from 0 granules) values (numbered_pointwise (λ p vs. step p ≡ Ok vs) granules values 0 [] count (λ g below.
       let here = flat_at width grouped g k [] runs h (omega (arith, below, many)) in
-      ap (λ (payload : List ℕ). payload_reading column g (get_or granules g 0) payload) here
+      ap (λ (payload : List ℕ). compact_payload_reading column g (get_or granules g 0) payload) here
       ∙ payload_read column g (get_or granules g 0) (get_or (get_or grouped g []) k []) (column_values k (get_or (granule_rows granules rows) g [])) profile (each g below)
       ∙ ap (λ (vs : List Value). let r : Judged (List Value) = Ok vs in r) (sym (get_or-map (column_values k) (granule_rows granules rows) g [] [] (omega (arith, below, length-granule_rows granules rows))))))
 
 -- ---- rows that are read are held
 
-row_fits : (columns : List Column) (values : List (List Value)) (r : ℕ) → Pointwise (λ column vs. (list_all (fits_of column.ty) vs ≡ true) × (r < length vs)) columns values → RowFits columns (row_at values r)
-row_fits [] [] r p = tt
-row_fits [] (v ∷ values) r p = absurd p
-row_fits (c ∷ columns) [] r p = absurd p
-row_fits (c ∷ columns) (v ∷ values) r p = (list_all_at (fits_of c.ty) v r Null p.0.0 p.0.1, row_fits columns values r p.1)
-
 rows_held : (folder : Folder) (count : ℕ) (columns : List Column) (rows : List Row) (read : GranulePayloads) → AreProfile columns → AreHeld folder compact_data_name compact_marks_name (length columns) read → sum read.granules ≡ count
-    → rows_reading read count columns ≡ Ok rows → HoldsRows columns rows read.granules count folder
+    → compact_rows_reading read count columns ≡ Ok rows → HoldsRows columns rows read.granules count folder
 rows_held folder count columns rows read profile held all e =
     let width = length columns in
     let known = read.granules in
-    let step = column_reading width read in
+    let step = compact_column_reading width read in
     ok_then (in_order step (enumerate_from 0 columns)) (λ values. Ok (rows_of count (map all_values values))) rows e (λ values are e.
     let cols = map all_values values in
     let rows_are : rows ≡ rows_of count cols = ok_one _ _ e in
     let columns_are = order_each step (enumerate_from 0 columns) values are in
-    let wide : width ≡ length values = sym (length-enumerate_from 0 columns) ∙ pointwise_long _ (enumerate_from 0 columns) values columns_are in
+    let wide : width ≡ length values = sym (length-enumerate_from 0 columns) ∙ Pointwise-length _ (enumerate_from 0 columns) values columns_are in
     let bytes : All AreBytes (flat held.grouped) = subst (All AreBytes) held.payloads_are held.bytes in
     let column_is : (k : ℕ) → k < width → ColumnIsHeld held.grouped known k (get_or columns k no_column) (get_or values k []) = λ k h.
     column_held width held.grouped known held.are held.many read k (get_or columns k no_column) (get_or values k []) held.payloads_are refl bytes h (profile k no_column h)
@@ -251,7 +244,7 @@ compact_held folder count columns rows granules profile some e =
     let same : read ≡ found = ok_one _ _ is in
     let held = subst (AreHeld folder compact_data_name compact_marks_name (length columns)) (sym same) (payloads_held folder compact_data_name compact_marks_name (length columns) found some found_is) in
     let sums : sum read.granules ≡ count = ap (λ (r : GranulePayloads). sum r.granules) same ∙ eqb-true (sum found.granules) count all in
-    ok_then (rows_reading read count columns) _ (rows, granules) e (λ list list_is e.
+    ok_then (compact_rows_reading read count columns) _ (rows, granules) e (λ list list_is e.
     let pair = ok_pair _ _ _ _ e in
     subst (λ (g : List ℕ). HoldsRows columns rows g count folder) (sym pair.1)
     (subst (λ (l : List Row). HoldsRows columns l read.granules count folder) (sym pair.0) (rows_held folder count columns list read profile held sums list_is))))))
@@ -262,7 +255,7 @@ runs_encoded : (columns : List Column) (cut : List (List Row)) (grouped : List (
 runs_encoded columns [] [] p = tt
 runs_encoded columns [] (run ∷ more) p = absurd p
 runs_encoded columns (rows ∷ cut) [] p = absurd p
-runs_encoded columns (rows ∷ cut) (run ∷ more) p = (sym (pointwise_long _ (enumerate_from 0 columns) run p.0) ∙ length-enumerate_from 0 columns, runs_encoded columns cut more p.1)
+runs_encoded columns (rows ∷ cut) (run ∷ more) p = (sym (Pointwise-length _ (enumerate_from 0 columns) run p.0) ∙ length-enumerate_from 0 columns, runs_encoded columns cut more p.1)
 
 pub compact_read : (folder : Folder) (count : ℕ) (columns : List Column) (rows : List Row) (granules : List ℕ) → AreProfile columns → 1 ≤ length columns → length columns ≤ MAX_COLUMNS → 1 ≤ count → count ≤ MAX_ROWS
     → HoldsRows columns rows granules count folder → compact_reading folder count columns ≡ Ok (rows, granules)
@@ -273,7 +266,7 @@ compact_read folder count columns rows granules profile some narrow any few hold
     let all : sum granules ≡ count = is.cut.all ∙ holds.many in
     let runs : AreRuns width grouped = runs_encoded columns (granule_rows granules rows) grouped is.encoded in
     let rows_many : length (granule_rows granules rows) ≡ length granules = length-granule_rows granules rows in
-    let many : length grouped ≡ length granules = sym (pointwise_long _ (granule_rows granules rows) grouped is.encoded) ∙ rows_many in
+    let many : length grouped ≡ length granules = sym (Pointwise-length _ (granule_rows granules rows) grouped is.encoded) ∙ rows_many in
     let payloads : HoldsPayloads folder compact_data_name compact_marks_name width grouped granules = record {
       data_file = is.data_file;
       marks_file = is.marks_file;
@@ -290,11 +283,11 @@ compact_read folder count columns rows granules profile some narrow any few hold
     let numbered = enumerate_from 0 columns in
     let values : List (List (List Value)) = map (λ (i, column). map (column_values i) (granule_rows granules rows)) numbered in
     let long : length numbered ≡ length columns = length-enumerate_from 0 columns in
-    let columns_are : in_order (column_reading width read) numbered ≡ Ok values =
-    order_all (column_reading width read) numbered values (numbered_pointwise (λ (p : ℕ × Column) vs. column_reading width read p ≡ Ok vs) columns values no_column [] (sym (length-map numbered _ ∙ long)) (λ k h.
+    let columns_are : in_order (compact_column_reading width read) numbered ≡ Ok values =
+    order_all (compact_column_reading width read) numbered values (numbered_pointwise (λ (p : ℕ × Column) vs. compact_column_reading width read p ≡ Ok vs) columns values no_column [] (sym (length-map numbered _ ∙ long)) (λ k h.
     column_read width grouped granules runs many k (get_or columns k no_column) rows h (profile k no_column h) is.cut.all (λ g below.
     let here = numbered_at (λ (p : ℕ × Column) payload. (streams : List (List ℕ)) × Encodes p.1.ty (column_values p.0 (get_or (granule_rows granules rows) g [])) streams × (payload ≡ concat streams)) columns (get_or grouped g []) no_column [] k
-    (pointwise_at (EncodesColumns columns) (granule_rows granules rows) grouped g [] [] is.encoded (omega (arith, below, rows_many))) h in
+    (Pointwise-get_or (EncodesColumns columns) (granule_rows granules rows) grouped g [] [] is.encoded (omega (arith, below, rows_many))) h in
     record {
       many = length-map (get_or (granule_rows granules rows) g []) _ ∙ granule_long granules rows g is.cut.all below;
       streams = here.0;
@@ -304,11 +297,11 @@ compact_read folder count columns rows granules profile some narrow any few hold
     ∙ ap (λ (vs : List (List Value)). let r : Judged (List (List Value)) = Ok vs in r)
     (sym (get_or-map (λ (p : ℕ × Column). map (column_values p.0) (granule_rows granules rows)) numbered k (0, no_column) [] (omega (arith, h, long)) ∙ ap (λ (p : ℕ × Column). map (column_values p.0) (granule_rows granules rows)) (number_at columns no_column k (0, no_column) h))))) in
     let cols_are : map all_values values ≡ map (λ (i, column). column_values i rows) numbered = each_joined numbered is.cut.all in
-    let rows_are : rows_reading read count columns ≡ Ok rows =
-    then_of (in_order (column_reading width read) numbered) values (λ values. Ok (rows_of count (map all_values values))) columns_are
+    let rows_are : compact_rows_reading read count columns ≡ Ok rows =
+    then_of (in_order (compact_column_reading width read) numbered) values (λ values. Ok (rows_of count (map all_values values))) columns_are
     ∙ ap (λ (cols : List (List Value)). let r : Judged (List Row) = Ok (rows_of count cols) in r) cols_are
     ∙ ap (λ (l : List Row). let r : Judged (List Row) = Ok l in r) (rows_of_columns columns rows count holds.many holds.fit) in
-    then_of (granules_reading folder count compact_data_name compact_marks_name width) read _ first ∙ then_of (rows_reading read count columns) rows _ rows_are
+    then_of (granules_reading folder count compact_data_name compact_marks_name width) read _ first ∙ then_of (compact_rows_reading read count columns) rows _ rows_are
   where
     not_none : (ns : List ℕ) → 1 ≤ sum ns → 1 ≤ length ns
     not_none [] h = absurd (omega arith)

@@ -15,11 +15,11 @@ use Rattle.mt_defs.specs.Compact.{compact_data_name, compact_marks_name}
 use Rattle.mt_defs.specs.WrittenFrames.{mark_at, written_frames}
 use Rattle.mt_defs.specs.WrittenStreams.{written_streams}
 use Rattle.mt_defs.specs.WrittenColumns.{file, compact_files, compact_frames}
+use Rattle.mt_defs.proofs.GranuleLemmas.{length-granule_rows}
 use Rattle.mt_granules.specs.declared.data_file.DataFile.{DataFile}
 use Rattle.mt_granules.specs.declared.data_file.MarkedData.{MarkedData}
 use Rattle.mt_granules.specs.DataFiles.{AreRunsOf, all_runs, data_file_of, marked_data}
 use Rattle.mt_granules.proofs.DataFileLemmas.{length-offsets}
-use Rattle.mt_granules.proofs.GranuleLemmas.{length-granule_rows}
 use Rattle.mt_granules.proofs.NumberedLemmas.{numbered_map_step, numbered_map_end}
 
 -- the frames of a column in a granule

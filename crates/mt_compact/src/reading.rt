@@ -11,7 +11,7 @@ ghost use Rattle.mt_granules.specs.ColumnRows.{all_values};
 ghost use Rattle.mt_granules.specs.PayloadReading.{mark_count};
 ghost use Rattle.mt_granules.specs.PayloadView.{payloads_in};
 ghost use Rattle.mt_fault.specs.Results.{Gives, Shows};
-ghost use Rattle.mt_compact.specs.CompactReading.{column_reading, compact_reading, payload_reading, rows_reading};
+ghost use Rattle.mt_compact.specs.CompactReading.{compact_column_reading, compact_reading, compact_payload_reading, compact_rows_reading};
 
 use mt_codec::{CodecError, decode_front};
 use mt_fault::{FileBytes, FileError, Why, granule_fault};
@@ -61,7 +61,7 @@ fn read_columns(
     requires rows { count ≤ MAX_ROWS }
     requires each { payloads.now.marks.per_granule ≡ length columns.now }
     requires all { sum (payloads_in payloads.now).granules ≡ count }
-    ensures reads { Shows (λ rows. rows.items) result (rows_reading (payloads_in payloads.now) count columns.now) }
+    ensures reads { Shows (λ rows. rows.items) result (compact_rows_reading (payloads_in payloads.now) count columns.now) }
     ensures fit { IfOk result (λ rows. All (RowFits columns.now) rows.items) }
 {
     let width = columns.len();
@@ -89,7 +89,7 @@ pub fn read_column(
     requires each { payloads.now.marks.per_granule ≡ width }
     requires index { column_index < width }
     requires few { sum (payloads_in payloads.now).granules ≤ MAX_ROWS }
-    ensures reads { Gives result (column_reading width (payloads_in payloads.now) (column_index, column.now)) }
+    ensures reads { Gives result (compact_column_reading width (payloads_in payloads.now) (column_index, column.now)) }
     ensures many { IfOk result (λ values. map (λ here. length here) values ≡ (payloads_in payloads.now).granules) }
     ensures fit { IfOk result (λ values. IsTrue (list_all (fits_of column.now.ty) (all_values values))) }
 {
@@ -114,7 +114,7 @@ fn read_granule(
     requires profile { IsTrue (is_profile column.now.ty) }
     requires few { rows ≤ MAX_ROWS }
     requires index { index < mark_count payloads.now.marks }
-    ensures reads { Gives result (payload_reading column.now granule rows
+    ensures reads { Gives result (compact_payload_reading column.now granule rows
         (slice_index_or (payloads_in payloads.now).payloads index [])) }
     ensures many { IfOk result (λ values. length values ≡ rows) }
     ensures fit { IfOk result (λ values. IsTrue (list_all (fits_of column.now.ty) values)) }
@@ -133,7 +133,7 @@ fn read_payload(
 ) -> Result<List<Value>, FileError>
     requires profile { IsTrue (is_profile column.now.ty) }
     requires few { rows ≤ MAX_ROWS }
-    ensures reads { Gives result (payload_reading column.now granule rows payload.now) }
+    ensures reads { Gives result (compact_payload_reading column.now granule rows payload.now) }
     ensures many { IfOk result (λ values. length values ≡ rows) }
     ensures fit { IfOk result (λ values. IsTrue (list_all (fits_of column.now.ty) values)) }
 {

@@ -7,7 +7,7 @@ use Rattle.mt_query.specs.Truth.{is_same}
 use Rattle.mt_cond.specs.declared.types.Interval.{Interval}
 use Rattle.mt_cond.specs.declared.types.Side.{Side}
 use Rattle.mt_cond.specs.declared.types.KeyColumn.{KeyColumn}
-use Rattle.mt_cond.specs.Cover.{Spans, sides_of, fronts, point, some_box, from_key, from_span, to_key, to_span, both_span, between}
+use Rattle.mt_cond.specs.Cover.{Spans, sides_of, fronts, point, some_box, from_key, from_span, to_key, to_span, both_span, spans_between}
 use Rattle.mt_cond.specs.Keys.{types_of}
 use Rattle.mt_cond.proofs.WalkLemmas.{fronts_more}
 
@@ -91,18 +91,18 @@ module _ {X : Type 0} where
   -- where the values at n tie
   pub tied_next : (f : Spans → X) (key : List KeyColumn) (ls hs : List Value) (n : ℕ) (k : KeyColumn) (l h : Value) → n < length key → n < length ls → n < length hs
       → is_same (get_or ls n l) (get_or hs n h) ≡ true
-      → map (λ is. f (fronts n ls is)) (between (types_of (drop n key)) (drop n ls) (drop n hs))
-      ≡ map (λ is. f (fronts (n + 1) ls is)) (between (types_of (drop (n + 1) key)) (drop (n + 1) ls) (drop (n + 1) hs))
+      → map (λ is. f (fronts n ls is)) (spans_between (types_of (drop n key)) (drop n ls) (drop n hs))
+      ≡ map (λ is. f (fronts (n + 1) ls is)) (spans_between (types_of (drop (n + 1) key)) (drop (n + 1) ls) (drop (n + 1) hs))
   tied_next f key ls hs n k l h a b c tie =
       let front : Spans → Spans = λ is. point (get_or ls n l) ∷ is in
-      let rest = between (types_of (drop (suc n) key)) (drop (suc n) ls) (drop (suc n) hs) in
+      let rest = spans_between (types_of (drop (suc n) key)) (drop (suc n) ls) (drop (suc n) hs) in
       rw (add-one n, drop-cons key n k a, drop-cons ls n l b, drop-cons hs n h c, tie, map_map (λ is. f (fronts n ls is)) front rest)
       (map_same (λ is. f (fronts n ls (front is))) (λ is. f (fronts (suc n) ls is)) rest (λ is. ap f (fronts_more n ls l is b)))
 
   -- where they differ, and those before are the same
   pub apart_next : (f : Spans → X) (key : List KeyColumn) (ls hs : List Value) (n : ℕ) (k : KeyColumn) (l h : Value) → n < length key → n < length ls → n < length hs
       → is_same (get_or ls n l) (get_or hs n h) ≡ false → ((is : Spans) → fronts n ls is ≡ fronts n hs is)
-      → map (λ is. f (fronts n ls is)) (between (types_of (drop n key)) (drop n ls) (drop n hs))
+      → map (λ is. f (fronts n ls is)) (spans_between (types_of (drop n key)) (drop n ls) (drop n hs))
       ≡ map (λ is. f (fronts n ls is)) (some_box (both_span (get_or key n k) (get_or ls n l) (get_or hs n h)))
       ++ (map (λ is. f (fronts (n + 1) ls is)) (from_key (types_of (drop (n + 1) key)) (drop (n + 1) ls))
       ++ map (λ is. f (fronts (n + 1) hs is)) (to_key (types_of (drop (n + 1) key)) (drop (n + 1) hs)))
@@ -128,5 +128,5 @@ module _ {X : Type 0} where
       refl
 
   pub between_last : (f : Spans → X) (key : List KeyColumn) (ls hs : List Value) (n : ℕ) → length key ≤ n
-      → map (λ is. f (fronts n ls is)) (between (types_of (drop n key)) (drop n ls) (drop n hs)) ≡ f (fronts n ls []) ∷ []
+      → map (λ is. f (fronts n ls is)) (spans_between (types_of (drop n key)) (drop n ls) (drop n hs)) ≡ f (fronts n ls []) ∷ []
   between_last f key ls hs n a = rw (drop_all n key a) refl

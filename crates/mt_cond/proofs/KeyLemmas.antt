@@ -1,5 +1,5 @@
 -- The boxes between two keys hold exactly the keys between them.
-use Rattle.std.proofs.Common.{inl, inr, get_or, ◌≤◌, ◌≡◌, ℕ, zero, suc, ◌-◌, ◌^◌, ◌<◌, ℤ, pos, negsuc, Bool, true, false, ◌||◌, ◌&&◌, List, [], ◌∷◌, ◌++◌, length, ◌==◌, map, refl, ap, sym, subst, ◌∙◌, arith, Option, Some, None}
+use Rattle.std.proofs.Common.{inl, inr, get_or, ◌≡◌, ℕ, zero, suc, ◌-◌, ◌^◌, ◌<◌, ℤ, pos, negsuc, Bool, true, false, ◌||◌, ◌&&◌, List, [], ◌∷◌, ◌++◌, length, ◌==◌, map, refl, ap, sym, subst, ◌∙◌, arith, Option, Some, None}
 use Rattle.std.specs.Prelude.{◌+ℤ◌, ◌-ℤ◌, int_lt, nat_le, nat_lt, ◌⊎◌, if◌then◌else◌}
 use Rattle.std.specs.List.{list_all, list_any}
 use Rattle.std.specs.Ordering.{ordering_then, ordering_reverse, int_cmp, nat_cmp, is_eq, is_le, is_lt, is_gt, is_ge}
@@ -8,7 +8,7 @@ use Rattle.std.specs.declared.cmp.Ordering.TheVariants.{Less, Equal, Greater}
 use Rattle.std.specs.Cmp.{first_so, ranks, second_so}
 use Rattle.std.proofs.lemmas.Cmp.{by_ranked}
 use Rattle.mt_types.specs.declared.ty.Width.{Width}
-use Rattle.mt_types.specs.declared.ty.Width.TheVariants.{W8, W16, W32, W64, W128}
+use Rattle.mt_types.specs.declared.ty.Width.TheVariants.{W16, W32}
 use Rattle.mt_types.specs.declared.ty.Ty.{Ty, out-Ty, map-Ty}
 use Rattle.mt_types.specs.declared.ty.Ty.TheOpen.{Ty-F}
 use Rattle.mt_types.specs.declared.ty.Ty.TheFolds.{fold_out-Ty}
@@ -26,10 +26,12 @@ use Rattle.mt_cond.specs.declared.types.Interval.{Interval}
 use Rattle.mt_cond.specs.declared.ranges.Range.{Range}
 use Rattle.mt_cond.specs.Intervals.{above_low, below_high, is_in}
 use Rattle.mt_cond.specs.Intervals.{span}
-use Rattle.mt_cond.specs.Cover.{range_at, unsigned_range, signed_range, after, next_end, former_end, free_low, free_high, past_low, past_high, is_void, ends_empty, some_box, Spans, point, from_key, to_key, between}
+use Rattle.mt_cond.specs.Cover.{range_at, unsigned_range, signed_range, end_after, next_end, former_end, free_low, free_high, past_low, past_high, is_void, ends_empty, some_box, Spans, point, from_key, to_key, spans_between}
 use Rattle.mt_cond.specs.Keys.{are_key_types, key_fits}
 use Rattle.std.proofs.lemmas.Bool.{le-ltb, lt-ltb, ltb-false, ltb-true}
+use Rattle.mt_facts.proofs.Orderings.{not_gt_from_le}
 use Rattle.mt_types.proofs.NumberLemmas.{natural_is, num_is, number_num}
+use Rattle.mt_table.proofs.WidthLemmas.{signed_wide}
 use Rattle.mt_cond.proofs.LevelLemmas.{cmp_of, level_cmp}
 use Rattle.mt_cond.proofs.OrderLemmas.{turned, less, more, left, right}
 
@@ -139,28 +141,28 @@ next_neg : (n : ℕ) → negsuc (suc n) +ℤ pos 1 ≡ negsuc n
 next_neg n = grind arith
 
 -- the next of a number below 0 is Num, and every type has it
-pub after_negative : (r : Range) (v : Value) (n : ℤ) → int_lt n (pos 0) ≡ true → after r v n ≡ At (Num (n +ℤ pos 1))
+pub after_negative : (r : Range) (v : Value) (n : ℤ) → int_lt n (pos 0) ≡ true → end_after r v n ≡ At (Num (n +ℤ pos 1))
 after_negative r v (pos n) h = absurd (grind (arith, h))
 after_negative r v (negsuc zero) h = refl
 after_negative r v (negsuc (suc n)) h = ap (λ m. At (number_value m)) (next_neg n) ∙ sym (ap (λ m. At (Num m)) (next_neg n))
 
 module _ (r : Range) (a b : ℤ) where
   -- past a number is at the next, or past it
-  past_after : above_low (after r (number_value a) a) (number_value b) ≡ is_lt (value_cmp (number_value a) (number_value b))
+  past_after : above_low (end_after r (number_value a) a) (number_value b) ≡ is_lt (value_cmp (number_value a) (number_value b))
   past_after = by (is_lt (int_cmp a (pos r.greatest)))
     where
       by : (t : Bool) → above_low (if t then At (number_value (a +ℤ pos 1)) else Past (number_value a)) (number_value b) ≡ is_lt (value_cmp (number_value a) (number_value b))
       by true = ap is_le (nums_cmp (a +ℤ pos 1) b) ∙ above_next a b ∙ ap is_lt (sym (nums_cmp a b))
       by false = refl
 
-  next_is : next_end r (number_value a) (number_level a) ≡ after r (number_value a) a
+  next_is : next_end r (number_value a) (number_level a) ≡ end_after r (number_value a) a
   next_is = by a
     where
-      naturals : (v : Value) (n : ℕ) (b : Bool) → next_end r v (if b then Value-F.Num (pos n) else Value-F.Huge n) ≡ after r v (pos n)
+      naturals : (v : Value) (n : ℕ) (b : Bool) → next_end r v (if b then Value-F.Num (pos n) else Value-F.Huge n) ≡ end_after r v (pos n)
       naturals v n true = refl
       naturals v n false = refl
 
-      by : (n : ℤ) → next_end r (number_value a) (number_level n) ≡ after r (number_value a) n
+      by : (n : ℤ) → next_end r (number_value a) (number_level n) ≡ end_after r (number_value a) n
       by (pos n) = naturals (number_value a) n (nat_lt n (2 ^ 127))
       by (negsuc n) = refl
 
@@ -222,18 +224,6 @@ signed_held : (size : ℕ) (n : ℤ) → is_signed size n ≡ true → (v : Valu
 signed_held size (pos n) h v is = record { number = pos n; is = is; least = refl; low = grind arith; high = let less : n < 2 ^ (size - 1) = grind arith in grind (arith, less) }
 signed_held size (negsuc n) h v is = record { number = negsuc n; is = is; least = refl; low = let less : n < 2 ^ (size - 1) = grind arith in grind (arith, less); high = grind arith }
 
--- a number of fewer bits is one of 128
-signed_more : (size : ℕ) (n : ℤ) → 2 ^ (size - 1) ≤ 2 ^ 127 → is_signed size n ≡ true → is_signed 128 n ≡ true
-signed_more size (pos n) le h = lt-ltb n (2 ^ 127) (let less = ltb-true n (2 ^ (size - 1)) h in omega (arith, less, le))
-signed_more size (negsuc n) le h = lt-ltb n (2 ^ 127) (let less = ltb-true n (2 ^ (size - 1)) h in omega (arith, less, le))
-
-signed_wide : (w : Width) (n : ℤ) → is_signed (bits w) n ≡ true → is_signed 128 n ≡ true
-signed_wide W8 n h = signed_more 8 n (omega arith) h
-signed_wide W16 n h = signed_more 16 n (omega arith) h
-signed_wide W32 n h = signed_more 32 n (omega arith) h
-signed_wide W64 n h = signed_more 64 n (omega arith) h
-signed_wide W128 n h = h
-
 integer_held : (w : Width) (v : Value) → num_at (is_signed (bits w)) (out-Value v) ≡ true → Within (signed_range (bits w)) v
 integer_held w v h = let n = num_is (is_signed (bits w)) v h in signed_held (bits w) n.0 n.2 v (n.1 ∙ sym (number_num n.0 (signed_wide w n.0 n.2)))
 
@@ -275,7 +265,7 @@ any_front i k ks (is ∷ more) = rw (any_front i k ks more) (shared (is_in i k) 
     shared true b c = refl
     shared false b c = refl
 
-any_append : (f : Spans → Bool) (xs ys : List Spans) → list_any f (xs ++ ys) ≡ (list_any f xs || list_any f ys)
+pub any_append : (f : Spans → Bool) (xs ys : List Spans) → list_any f (xs ++ ys) ≡ (list_any f xs || list_any f ys)
 any_append f [] ys = refl
 any_append f (x ∷ xs) ys = rw (any_append f xs ys) (shift (f x) (list_any f xs) (list_any f ys))
   where
@@ -285,15 +275,10 @@ any_append f (x ∷ xs) ys = rw (any_append f xs ys) (shift (f x) (list_any f xs
 
 -- ---- an empty interval has no value
 
-lt_le : (o : Ordering) → is_lt o ≡ true → is_le o ≡ true
+pub lt_le : (o : Ordering) → is_lt o ≡ true → is_le o ≡ true
 lt_le Less h = refl
 lt_le Equal h = absurd cc
 lt_le Greater h = absurd cc
-
-not_gt : (o : Ordering) → is_le o ≡ true → is_gt o ≡ false
-not_gt Less h = refl
-not_gt Equal h = refl
-not_gt Greater h = absurd cc
 
 not_ge : (o : Ordering) → is_lt o ≡ true → is_ge o ≡ false
 not_ge Less h = refl
@@ -322,7 +307,7 @@ within_not_void : (k : Value) → (lo hi : End) → above_low lo k ≡ true → 
 within_not_void k Free hi low high = refl
 within_not_void k (At a) Free low high = refl
 within_not_void k (Past a) Free low high = refl
-within_not_void k (At a) (At b) low high = elim (chained a k b low high) [ inl e ↦ rw e refl | inr t ↦ rw t.second (not_gt (value_cmp k b) high) ]
+within_not_void k (At a) (At b) low high = elim (chained a k b low high) [ inl e ↦ rw e refl | inr t ↦ rw t.second (not_gt_from_le (value_cmp k b) high) ]
 within_not_void k (At a) (Past b) low high = elim (chained a k b low (lt_le (value_cmp k b) high)) [ inl e ↦ rw e refl | inr t ↦ rw t.second (not_ge (value_cmp k b) high) ]
 within_not_void k (Past a) (At b) low high = elim (chained a k b (lt_le (value_cmp a k) low) high) [ inl e ↦ rw e refl | inr t ↦ absurd (cc (t.first, low)) ]
 within_not_void k (Past a) (Past b) low high = elim (chained a k b (lt_le (value_cmp a k) low) (lt_le (value_cmp k b) high)) [ inl e ↦ rw e refl | inr t ↦ absurd (cc (t.first, low)) ]
@@ -431,9 +416,9 @@ le_turn Greater h = refl
 
 -- where the keys differ at the first column, or don't
 between_step : (t : Ty) (ts : List Ty) (l h k : Value) (ls hs ks : List Value) → Key t l → Key t h → Key t k → Keys ts ls → Keys ts hs → Keys ts ks
-    → (is_le (values_cmp ls hs) ≡ true → list_any (λ is. lies is ks) (between ts ls hs) ≡ (is_le (values_cmp ls ks) && is_le (values_cmp ks hs)))
+    → (is_le (values_cmp ls hs) ≡ true → list_any (λ is. lies is ks) (spans_between ts ls hs) ≡ (is_le (values_cmp ls ks) && is_le (values_cmp ks hs)))
     → (o : Ordering) → value_cmp l h ≡ o → is_le (ordering_then o (values_cmp ls hs)) ≡ true
-    → list_any (λ is. lies is (k ∷ ks)) (between (t ∷ ts) (l ∷ ls) (h ∷ hs)) ≡ (is_le (ordering_then (value_cmp l k) (values_cmp ls ks)) && is_le (ordering_then (value_cmp k h) (values_cmp ks hs)))
+    → list_any (λ is. lies is (k ∷ ks)) (spans_between (t ∷ ts) (l ∷ ls) (h ∷ hs)) ≡ (is_le (ordering_then (value_cmp l k) (values_cmp ls ks)) && is_le (ordering_then (value_cmp k h) (values_cmp ks hs)))
 between_step t ts l h k ls hs ks fl fh fk pl ph pk rest Less e below =
     let r = range_at (out-Ty t) in
     let el = ends r l k (holds t l fl) (holds t k fk) in
@@ -458,11 +443,11 @@ between_step t ts l h k ls hs ks fl fh fk pl ph pk rest Equal e below =
     let r = range_at (out-Ty t) in
     let el = ends r l k (holds t l fl) (holds t k fk) in
     let q : value_cmp k h ≡ ordering_reverse (value_cmp l k) = sym (left l h k e) ∙ el.turned in
-    rw (e, any_front (point l) k ks (between ts ls hs), point_in r l k el, rest below, q) (tied_step (value_cmp l k) (values_cmp ls ks) (values_cmp ks hs))
+    rw (e, any_front (point l) k ks (spans_between ts ls hs), point_in r l k el, rest below, q) (tied_step (value_cmp l k) (values_cmp ls ks) (values_cmp ks hs))
 between_step t ts l h k ls hs ks fl fh fk pl ph pk rest Greater e below = absurd cc
 
 between_law : (ts : List Ty) (ls hs ks : List Value) → Keys ts ls → Keys ts hs → Keys ts ks → is_le (values_cmp ls hs) ≡ true
-    → list_any (λ is. lies is ks) (between ts ls hs) ≡ (is_le (values_cmp ls ks) && is_le (values_cmp ks hs))
+    → list_any (λ is. lies is ks) (spans_between ts ls hs) ≡ (is_le (values_cmp ls ks) && is_le (values_cmp ks hs))
 between_law [] [] [] [] p q s below = refl
 between_law (t ∷ ts) (l ∷ ls) (h ∷ hs) (k ∷ ks) p q s below =
     between_step t ts l h k ls hs ks p.0 q.0 s.0 p.1 q.1 s.1 (between_law ts ls hs ks p.1 q.1 s.1) (value_cmp l h) refl below
@@ -475,5 +460,5 @@ between_law (t ∷ ts) (l ∷ ls) (h ∷ hs) [] p q s below = absurd s
 
 -- the boxes between two keys hold exactly the keys between them
 pub key_law : (ts : List Ty) (ls hs ks : List Value) → are_key_types ts ≡ true → key_fits ts ls ≡ true → key_fits ts hs ≡ true → key_fits ts ks ≡ true → is_le (values_cmp ls hs) ≡ true
-    → list_any (λ is. lies is ks) (between ts ls hs) ≡ (is_le (values_cmp ls ks) && is_le (values_cmp ks hs))
+    → list_any (λ is. lies is ks) (spans_between ts ls hs) ≡ (is_le (values_cmp ls ks) && is_le (values_cmp ks hs))
 key_law ts ls hs ks t l h k = between_law ts ls hs ks (keys ts ls t l) (keys ts hs t h) (keys ts ks t k)

@@ -2,10 +2,11 @@
 use Rattle.std.proofs.Common.{◌≡◌, ℕ, ℤ, suc, ◌+◌, ◌<◌, ◌==◌, Bool, true, false, ◌||◌, ◌&&◌, List, [], ◌∷◌, refl, ap, sym, arith, get_or, Option, Some, None}
 use Rattle.std.specs.Ordering.{is_lt, nat_cmp, is_le, is_ge, ordering_then}
 use Rattle.std.specs.declared.cmp.Ordering.{Ordering}
-use Rattle.std.specs.declared.cmp.Ordering.TheVariants.{Less, Equal, Greater}
+use Rattle.std.specs.declared.cmp.Ordering.TheVariants.{Less, Greater}
 use Rattle.std.specs.Cmp.{nat_cmp_is, ranks}
 use Rattle.std.proofs.lemmas.Cmp.{by_ranked}
 use Rattle.std.specs.Cmp.Lexicographic.{slice_cmp}
+use Rattle.mt_facts.proofs.Orderings.{nat_cmp_same}
 use Rattle.mt_types.specs.declared.value.Value.{Value}
 use Rattle.mt_types.specs.declared.value.Value.TheVariants.{Text, Num, Huge, Null, State, List as Items, outs-Text, outs-Num, outs-Huge, outs-Null, outs-List, outs-State}
 use Rattle.mt_types.specs.declared.value.AggState.{AggState}
@@ -18,12 +19,9 @@ use Rattle.mt_cond.specs.Masks.{next, next_byte, is_before, is_whole_ff, text_be
 less_cmp : (x y : ℕ) → x < y → nat_cmp x y ≡ Less
 less_cmp x y h = sym (nat_cmp_is x y Less h)
 
-same_cmp : (x : ℕ) → nat_cmp x x ≡ Equal
-same_cmp x = sym (nat_cmp_is x x Equal refl)
-
 next_after : (c : ℕ) (ds n : List ℕ) (o : Option (List ℕ)) → ((rest : List ℕ) → o ≡ Some rest → slice_cmp nat_cmp ds rest ≡ Less) → next_byte c o ≡ Some n → slice_cmp nat_cmp (c ∷ ds) n ≡ Less
 next_after c ds n None h e = grind (arith, less_cmp c (c + 1) (omega arith))
-next_after c ds n (Some rest) h e = grind (arith, same_cmp c, h rest refl)
+next_after c ds n (Some rest) h e = grind (arith, nat_cmp_same c, h rest refl)
 
 -- all texts that begin so are before the next
 pub begun_before : (p x n : List ℕ) → begins_with p x ≡ true → next p ≡ Some n → slice_cmp nat_cmp x n ≡ Less
@@ -115,7 +113,7 @@ begun_above (c ∷ cs) [] b = grind arith
 begun_above (c ∷ cs) (d ∷ ds) b =
     let alike : d ≡ c = grind arith in
     let more : begins_with cs ds ≡ true = grind arith in
-    rw (alike, same_cmp c) (begun_above cs ds more)
+    rw (alike, nat_cmp_same c) (begun_above cs ds more)
 
 pub begun_between : (p a x b : List ℕ) → begins_with p a ≡ true → begins_with p b ≡ true → is_le (slice_cmp nat_cmp a x) ≡ true → is_le (slice_cmp nat_cmp x b) ≡ true → begins_with p x ≡ true
 begun_between [] a x b g h below above = refl
@@ -131,7 +129,7 @@ begun_between (c ∷ cs) (d ∷ ds) (e ∷ es) (f ∷ fs) g h below above =
     (λ o less. absurd (not_over e c (slice_cmp nat_cmp es fs) less upper))
     (λ o same. let both : (e ≡ c) = sym same in
     let low : is_le (slice_cmp nat_cmp ds es) ≡ true = rw o at lower in
-    let high : is_le (slice_cmp nat_cmp es fs) ≡ true = rw (both, same_cmp c) at upper in
+    let high : is_le (slice_cmp nat_cmp es fs) ≡ true = rw (both, nat_cmp_same c) at upper in
     let rest : begins_with cs es ≡ true = begun_between cs ds es fs (grind arith) (grind arith) low high in
     grind (arith, rest, same))
     (λ o more. absurd (not_over c e (slice_cmp nat_cmp ds es) more lower))

@@ -7,6 +7,7 @@ use Rattle.std.specs.declared.cmp.Ordering.{Ordering}
 use Rattle.std.specs.declared.cmp.Ordering.TheVariants.{Less, Equal, Greater}
 use Rattle.std.specs.Cmp.{first_so, second_so}
 use Rattle.std.specs.Cmp.Lexicographic.{slice_cmp}
+use Rattle.mt_facts.proofs.Orderings.{equal_from}
 use Rattle.mt_types.specs.declared.value.Value.{Value, out-Value}
 use Rattle.mt_types.specs.declared.value.Value.TheOpen.{Value-F}
 use Rattle.mt_types.specs.declared.value.Value.TheVariants.{Text, outs-Text}
@@ -22,36 +23,25 @@ use Rattle.mt_defs.specs.Rows.{Row, cell}
 use Rattle.mt_query.specs.Truth.{Truth, not3, and3, or3, unless_null, null_is, is_same, holds, begins_with, truth_of, truth_step}
 use Rattle.mt_table.specs.declared.column.Column.{Column}
 use Rattle.mt_table.specs.Stored.{column_at}
-use Rattle.mt_query.specs.Suits.{number_at, takes_literal, cond_suits, cond_suits_step}
+use Rattle.mt_query.specs.Suits.{is_number_level, takes_literal, cond_suits, cond_suits_step}
 use Rattle.mt_cond.specs.declared.types.End.{End}
 use Rattle.mt_cond.specs.declared.types.End.TheVariants.{Free, At, Past}
 use Rattle.mt_cond.specs.declared.types.Interval.{Interval}
 use Rattle.mt_cond.specs.declared.types.Side.{Side}
 use Rattle.mt_cond.specs.declared.types.MaskPair.{MaskPair}
-use Rattle.mt_cond.specs.Intervals.{above_low, below_high, is_in, is_empty, low_less, high_greater, at_value, is_point, interval_at, lies_in}
+use Rattle.mt_cond.specs.Intervals.{above_low, below_high, is_in, is_empty_text, low_less, high_greater, at_value, is_point, interval_at, lies_in}
 use Rattle.mt_cond.specs.Masks.{value_begins, Box, pair, any_pair, swapped, cmp_mask, in_mask, next, reaches, is_before, starts_before, end_begins, starts_mask, sided, mask_by, mask_of, mask_step, allows}
 use Rattle.mt_cond.proofs.LevelLemmas.{cmp_of}
 use Rattle.mt_cond.proofs.SuitedLemmas.{alike, is_bytes, Suited}
 use Rattle.mt_cond.proofs.OrderLemmas.{turned, less, more, left, right, pinned}
 use Rattle.mt_cond.proofs.PrefixLemmas.{begun_before, begun_above, begun_between}
-
--- ---- small words
-
-lt_le : (o : Ordering) → is_lt o ≡ true → is_le o ≡ true
-lt_le Less h = refl
-lt_le Equal h = refl
-lt_le Greater h = absurd cc
-
-equal_of : (o : Ordering) → is_eq o ≡ true → o ≡ Equal
-equal_of Less h = absurd cc
-equal_of Equal h = refl
-equal_of Greater h = absurd cc
+use Rattle.mt_cond.proofs.KeyLemmas.{lt_le}
 
 -- ---- ends
 
 -- nothing is below the empty text
 abbrev Some-below : Value → Value → Type 0
-Some-below v w = value_cmp v w ≡ Less → is_empty w ≡ false
+Some-below v w = value_cmp v w ≡ Less → is_empty_text w ≡ false
 
 module _ (v w : Value) (some : Some-below v w) where
   less_low : (lo : End) → above_low lo v ≡ true → value_cmp v w ≡ Less → low_less lo w ≡ true
@@ -75,7 +65,7 @@ module _ (v w : Value) (some : Some-below v w) where
   same_high (Past e) h s = ap is_lt (sym (right v w e s)) ∙ h
 
   at_both : (lo hi : End) → above_low lo v ≡ true → below_high hi v ≡ true → at_value lo w ≡ true → at_value hi w ≡ true → value_cmp v w ≡ Equal
-  at_both (At a) (At b) h g e d = pinned v w a b h g (equal_of (value_cmp a w) e) (equal_of (value_cmp b w) d)
+  at_both (At a) (At b) h g e d = pinned v w a b h g (equal_from (value_cmp a w) e) (equal_from (value_cmp b w) d)
   at_both Free hi h g e d = absurd cc
   at_both (Past a) hi h g e d = absurd cc
   at_both (At a) Free h g e d = absurd cc
@@ -128,7 +118,7 @@ not_before_empty [] [] h = absurd cc
 not_before_empty (x ∷ xs) [] h = absurd cc
 not_before_empty a (y ∷ ys) h = grind arith
 
-number_some : (b : Level) → number_at b ≡ true → text_at (λ bytes. length bytes == 0) b ≡ false
+number_some : (b : Level) → is_number_level b ≡ true → text_at (λ bytes. length bytes == 0) b ≡ false
 number_some (Value-F.Num n) h = refl
 number_some (Value-F.Huge n) h = refl
 number_some b h = absurd cc
@@ -154,7 +144,7 @@ cmp_sound op i v w h a = known_sound (cmp_mask op i w) v (holds op (value_cmp v 
     let r = ready v w (out-Value v) (out-Value w) refl refl a k in
     by_order v w r i h op (value_cmp v w) refl)
 
-any_step : (s t r q : Bool) → (s ≡ true → t ≡ true) → (r ≡ true → q ≡ true) → (s || r) ≡ true → (t || q) ≡ true
+pub any_step : (s t r q : Bool) → (s ≡ true → t ≡ true) → (r ≡ true → q ≡ true) → (s || r) ≡ true → (t || q) ≡ true
 any_step true t r q f g h = rw (f refl) refl
 any_step false true r q f g h = refl
 any_step false false r q f g h = g h
@@ -173,7 +163,7 @@ module _ (i : Interval) (v : Value) (h : is_in i v ≡ true) (k : null_at (out-V
   any_in (w ∷ ws) a e =
       let r = ready v w (out-Value v) (out-Value w) refl refl (first_so (alike (out-Value v) (out-Value w)) (all_alike v ws) a) k in
       any_step (is_same v w) (is_in i w) (list_any (is_same v) ws) (list_any (is_in i) ws)
-      (λ s. in_same v w r i h (equal_of (value_cmp v w) s)) (any_in ws (second_so (alike (out-Value v) (out-Value w)) (all_alike v ws) a)) e
+      (λ s. in_same v w r i h (equal_from (value_cmp v w) s)) (any_in ws (second_so (alike (out-Value v) (out-Value w)) (all_alike v ws) a)) e
 
   any_point : (ws : List Value) → all_alike v ws ≡ true → list_any (is_same v) ws ≡ false → list_any (is_point i) ws ≡ false
   any_point [] a e = refl

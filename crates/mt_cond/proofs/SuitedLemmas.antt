@@ -16,12 +16,12 @@ use Rattle.mt_types.specs.Fits.{Level, bits, is_unsigned, is_signed, natural_at,
 use Rattle.mt_table.specs.declared.column.Column.{Column}
 use Rattle.mt_table.specs.Stored.{column_at}
 use Rattle.mt_defs.specs.Rows.{Row, RowFits, cell}
-use Rattle.mt_query.specs.Suits.{literal_step, number_at, takes_literal, prefix_step, takes_prefix}
+use Rattle.mt_query.specs.Suits.{literal_step, is_number_level, takes_literal, prefix_step, takes_prefix}
 
 -- two numbers, two texts, or nothing to compare
 abbrev pub alike : Level → Level → Bool
-alike (Value-F.Num m) b = number_at b
-alike (Value-F.Huge m) b = number_at b
+alike (Value-F.Num m) b = is_number_level b
+alike (Value-F.Huge m) b = is_number_level b
 alike (Value-F.Text a) (Value-F.Text b) = true
 alike Value-F.Null b = true
 alike a b = false
@@ -37,21 +37,21 @@ Suited t v = ((w : Value) → takes_literal t w ≡ true → alike (out-Value v)
 
 -- ---- one level
 
-numbers_alike : (a b : Level) → number_at a ≡ true → number_at b ≡ true → alike a b ≡ true
+numbers_alike : (a b : Level) → is_number_level a ≡ true → is_number_level b ≡ true → alike a b ≡ true
 numbers_alike (Value-F.Num m) b h g = g
 numbers_alike (Value-F.Huge m) b h g = g
 numbers_alike a b h g = absurd cc
 
-num_number : (p : ℤ → Bool) (a : Level) → num_at p a ≡ true → number_at a ≡ true
+num_number : (p : ℤ → Bool) (a : Level) → num_at p a ≡ true → is_number_level a ≡ true
 num_number p (Value-F.Num m) h = refl
 num_number p a h = absurd cc
 
-wide_number : (a : Level) → wide_at a ≡ true → number_at a ≡ true
+wide_number : (a : Level) → wide_at a ≡ true → is_number_level a ≡ true
 wide_number (Value-F.Huge m) h = refl
 wide_number (Value-F.Num m) h = refl
 wide_number a h = absurd cc
 
-natural_number : (w : Width) (a : Level) → natural_at w a ≡ true → number_at a ≡ true
+natural_number : (w : Width) (a : Level) → natural_at w a ≡ true → is_number_level a ≡ true
 natural_number W128 a h = wide_number a h
 natural_number W8 a h = num_number (is_unsigned 8) a h
 natural_number W16 a h = num_number (is_unsigned 16) a h

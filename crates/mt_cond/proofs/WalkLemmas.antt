@@ -4,15 +4,17 @@ use Rattle.std.specs.Prelude.{if◌then◌else◌, ◌⊎◌}
 use Rattle.std.specs.List.{list_any}
 use Rattle.std.proofs.Math.Seq.{drop-cons}
 use Rattle.std.proofs.lemmas.List.{drop_all}
+use Rattle.mt_facts.proofs.Lists.{any_map}
 use Rattle.mt_types.specs.declared.value.Value.{Value}
 use Rattle.mt_cond.specs.declared.types.Interval.{Interval}
 use Rattle.mt_cond.specs.declared.types.KeyColumn.{KeyColumn}
 use Rattle.mt_query.specs.Truth.{is_same}
 use Rattle.mt_cond.specs.Intervals.{interval_at}
-use Rattle.mt_cond.specs.Cover.{Spans, sides_of, fronts, opt_span, point, is_void, some_box, from_key, from_span, to_key, to_span, both_span, between, box_may, may_hold_of}
+use Rattle.mt_cond.specs.Cover.{Spans, sides_of, fronts, opt_span, point, is_void, some_box, from_key, from_span, to_key, to_span, both_span, spans_between, box_may, may_hold_of}
 use Rattle.mt_cond.specs.Keys.{types_of}
 use Rattle.mt_cond.specs.Masks.{mask_of}
 use Rattle.mt_query.specs.declared.cond.Cond.{Cond}
+use Rattle.mt_cond.proofs.KeyLemmas.{any_append}
 
 -- the interval that the box has for a column
 abbrev pub at_column : List KeyColumn → Spans → ℕ → Option Interval
@@ -62,18 +64,6 @@ pub side_none : (key : List KeyColumn) (is : Spans) (i column : ℕ) → length 
 side_none key is i column h = rw (drop_all i key h) (sym (no_columns is column))
 
 -- ---- the walk, value by value
-
-any_map : {A B : Type 0} (f : B → Bool) (g : A → B) (xs : List A) → list_any f (map g xs) ≡ list_any (λ x. f (g x)) xs
-any_map f g [] = refl
-any_map f g (x ∷ xs) = ap (λ b. f (g x) || b) (any_map f g xs)
-
-any_append : (f : Spans → Bool) (xs ys : List Spans) → list_any f (xs ++ ys) ≡ (list_any f xs || list_any f ys)
-any_append f [] ys = refl
-any_append f (x ∷ xs) ys = rw (any_append f xs ys) (shift (f x) (list_any f xs) (list_any f ys))
-  where
-    shift : (a b c : Bool) → (a || (b || c)) ≡ ((a || b) || c)
-    shift true b c = refl
-    shift false b c = refl
 
 or_none : (b : Bool) → b ≡ (b || false)
 or_none true = refl
@@ -136,18 +126,18 @@ to_end f key vs n a b = rw (drop_all n key a) (or_none (f (fronts n vs [])))
 -- where the values at n tie
 pub between_tied : (f : Spans → Bool) (key : List KeyColumn) (ls hs : List Value) (n : ℕ) (k : KeyColumn) (l h : Value) → n < length key → n < length ls → n < length hs
     → is_same (get_or ls n l) (get_or hs n h) ≡ true
-    → list_any (λ is. f (fronts n ls is)) (between (types_of (drop n key)) (drop n ls) (drop n hs))
-    ≡ list_any (λ is. f (fronts (n + 1) ls is)) (between (types_of (drop (n + 1) key)) (drop (n + 1) ls) (drop (n + 1) hs))
+    → list_any (λ is. f (fronts n ls is)) (spans_between (types_of (drop n key)) (drop n ls) (drop n hs))
+    ≡ list_any (λ is. f (fronts (n + 1) ls is)) (spans_between (types_of (drop (n + 1) key)) (drop (n + 1) ls) (drop (n + 1) hs))
 between_tied f key ls hs n k l h a b c tie =
     let front : Spans → Spans = λ is. point (get_or ls n l) ∷ is in
-    let rest = between (types_of (drop (suc n) key)) (drop (suc n) ls) (drop (suc n) hs) in
+    let rest = spans_between (types_of (drop (suc n) key)) (drop (suc n) ls) (drop (suc n) hs) in
     rw (add-one n, drop-cons key n k a, drop-cons ls n l b, drop-cons hs n h c, tie, any_map (λ is. f (fronts n ls is)) front rest)
     (any_same (λ is. f (fronts n ls (front is))) (λ is. f (fronts (suc n) ls is)) rest (λ is. ap f (fronts_more n ls l is b)))
 
 -- where they differ, and those before are the same
 pub between_apart : (f : Spans → Bool) (key : List KeyColumn) (ls hs : List Value) (n : ℕ) (k : KeyColumn) (l h : Value) → n < length key → n < length ls → n < length hs
     → is_same (get_or ls n l) (get_or hs n h) ≡ false → ((is : Spans) → fronts n ls is ≡ fronts n hs is)
-    → list_any (λ is. f (fronts n ls is)) (between (types_of (drop n key)) (drop n ls) (drop n hs))
+    → list_any (λ is. f (fronts n ls is)) (spans_between (types_of (drop n key)) (drop n ls) (drop n hs))
     ≡ ((not (is_void (both_span (get_or key n k) (get_or ls n l) (get_or hs n h))) && f (fronts n ls (both_span (get_or key n k) (get_or ls n l) (get_or hs n h) ∷ [])))
     || (list_any (λ is. f (fronts (n + 1) ls is)) (from_key (types_of (drop (n + 1) key)) (drop (n + 1) ls))
     || list_any (λ is. f (fronts (n + 1) hs is)) (to_key (types_of (drop (n + 1) key)) (drop (n + 1) hs))))
@@ -174,7 +164,7 @@ between_apart f key ls hs n k l h a b c tie alike =
     refl
 
 pub between_end : (f : Spans → Bool) (key : List KeyColumn) (ls hs : List Value) (n : ℕ) → length key ≤ n
-    → f (fronts n ls []) ≡ list_any (λ is. f (fronts n ls is)) (between (types_of (drop n key)) (drop n ls) (drop n hs))
+    → f (fronts n ls []) ≡ list_any (λ is. f (fronts n ls is)) (spans_between (types_of (drop n key)) (drop n ls) (drop n hs))
 between_end f key ls hs n a = rw (drop_all n key a) (or_none (f (fronts n ls [])))
 
 -- equal values at n
@@ -184,5 +174,5 @@ fronts_alike n ls hs l h a b e alike is =
     rw (add-one n) (sym (fronts_more n ls l is a) ∙ alike (point (get_or ls n l) ∷ is) ∙ ap (λ v. fronts n hs (point v ∷ is)) e ∙ fronts_more n hs h is b)
 
 -- the cover's boxes, by their intervals
-pub cover_walk : (c : Cond) (key : List KeyColumn) (lo hi : List Value) → may_hold_of c key lo hi ≡ list_any (box_may c key) (between (types_of key) lo hi)
-cover_walk c key lo hi = any_map (λ sides. (mask_of c sides).may_true) (sides_of key) (between (types_of key) lo hi)
+pub cover_walk : (c : Cond) (key : List KeyColumn) (lo hi : List Value) → may_hold_of c key lo hi ≡ list_any (box_may c key) (spans_between (types_of key) lo hi)
+cover_walk c key lo hi = any_map (λ sides. (mask_of c sides).may_true) (sides_of key) (spans_between (types_of key) lo hi)

@@ -50,13 +50,13 @@ free_high None = Free
 free_high (Some range) = At (number_value (pos range.greatest))
 
 -- past a value, which is this number: at the next one, if the type has it
-abbrev pub after : Range → Value → ℤ → End
-after range value n = if is_lt (int_cmp n (pos range.greatest)) then At (number_value (n +ℤ pos 1)) else Past value
+abbrev pub end_after : Range → Value → ℤ → End
+end_after range value n = if is_lt (int_cmp n (pos range.greatest)) then At (number_value (n +ℤ pos 1)) else Past value
 
 -- the same of a value of this level
 abbrev pub next_end : Range → Value → Level → End
-next_end range value (Value-F.Num n) = after range value n
-next_end range value (Value-F.Huge n) = after range value (pos n)
+next_end range value (Value-F.Num n) = end_after range value n
+next_end range value (Value-F.Huge n) = end_after range value (pos n)
 next_end range value _ = Past value
 
 -- up to a value of this level: of a number at the former one, if the type has it
@@ -117,12 +117,12 @@ to_key (ty ∷ types) (h ∷ hi) =
 to_key _ _ = [] ∷ []
 
 -- the keys between: at a common value; or, at the first place where they differ, between the two, at the lower one, or at the upper one
-abbrev pub between : List Ty → List Value → List Value → List Spans
-between (ty ∷ types) (l ∷ lo) (h ∷ hi) =
-    if is_same l h then map (λ spans. point l ∷ spans) (between types lo hi)
+abbrev pub spans_between : List Ty → List Value → List Value → List Spans
+spans_between (ty ∷ types) (l ∷ lo) (h ∷ hi) =
+    if is_same l h then map (λ spans. point l ∷ spans) (spans_between types lo hi)
     else some_box (span (past_low (range_at (out-Ty ty)) l) (past_high (range_at (out-Ty ty)) h))
     ++ (map (λ spans. point l ∷ spans) (from_key types lo) ++ map (λ spans. point h ∷ spans) (to_key types hi))
-between _ _ _ = [] ∷ []
+spans_between _ _ _ = [] ∷ []
 
 -- ---- the boxes, as sides
 
@@ -134,7 +134,7 @@ sides_of (column ∷ key) (interval ∷ spans) = record { column = column.column
 
 -- the cover of two keys
 abbrev pub cover_of : List KeyColumn → (lo hi : List Value) → List (List Side)
-cover_of key lo hi = map (sides_of key) (between (types_of key) lo hi)
+cover_of key lo hi = map (sides_of key) (spans_between (types_of key) lo hi)
 
 -- some box of the cover may be true
 abbrev pub may_hold_of : Cond → List KeyColumn → (lo hi : List Value) → Bool

@@ -41,12 +41,12 @@ is_in interval v = above_low interval.lo v && below_high interval.hi v
 -- ---- what the table of masks asks
 
 -- the value is the empty text
-abbrev pub is_empty : Value → Bool
-is_empty v = text_at (λ bytes. length bytes == 0) (out-Value v)
+abbrev pub is_empty_text : Value → Bool
+is_empty_text v = text_at (λ bytes. length bytes == 0) (out-Value v)
 
 -- below(v): the low end's value is less than v, or it is Free and v isn't empty
 abbrev pub low_less : End → Value → Bool
-low_less Free v = not (is_empty v)
+low_less Free v = not (is_empty_text v)
 low_less (At w) v = is_lt (value_cmp w v)
 low_less (Past w) v = is_lt (value_cmp w v)
 

@@ -3,7 +3,7 @@
 ghost use Rattle.std.specs.Prelude.{◌≡◌, ◌≤◌, ◌<◌, ◌++◌, ◌∷◌, [], ℕ, false, map, length, drop, IfOk, OnOk, slice_index_or};
 ghost use Rattle.mt_types.specs.declared.value.Value.{Value};
 ghost use Rattle.mt_query.specs.Truth.{is_same};
-ghost use Rattle.mt_cond.specs.Cover.{between, cover_of, from_key, fronts, sides_of, some_box, to_key, Spans};
+ghost use Rattle.mt_cond.specs.Cover.{spans_between, cover_of, from_key, fronts, sides_of, some_box, to_key, Spans};
 ghost use Rattle.mt_cond.specs.Keys.{types_of};
 ghost use Rattle.mt_cond.specs.Views.{end_of, interval_of};
 
@@ -181,7 +181,7 @@ fn apart(
     requires apart { (l h : Value) → is_same (slice_index_or lo.now at l) (slice_index_or hi.now at h) ≡ false }
     requires alike { (is : Spans) → fronts at lo.now is ≡ fronts at hi.now is }
     ensures { IfOk result (λ boxes. boxes ≡ map (λ is. sides_of key.now (fronts at lo.now is))
-        (between (types_of (drop at key.now)) (drop at lo.now) (drop at hi.now))) }
+        (spans_between (types_of (drop at key.now)) (drop at lo.now) (drop at hi.now))) }
 {
     let mut boxes = List::new(alloc);
     let last = both_span(&key[at], &lo[at], &hi[at]);

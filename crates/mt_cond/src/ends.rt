@@ -2,7 +2,7 @@
 
 ghost use Rattle.std.specs.Prelude.{◌≡◌};
 ghost use Rattle.mt_cond.specs.declared.types.End.TheVariants.{At, Past};
-ghost use Rattle.mt_cond.specs.Intervals.{above_low, at_value, below_high, high_greater, is_empty, low_less};
+ghost use Rattle.mt_cond.specs.Intervals.{above_low, at_value, below_high, high_greater, is_empty_text, low_less};
 ghost use Rattle.mt_cond.specs.Masks.{end_begins, reaches, starts_before};
 ghost use Rattle.mt_cond.specs.Cover.{ends_empty, is_void};
 ghost use Rattle.mt_cond.specs.Views.{end_of, interval_of};
@@ -13,7 +13,7 @@ use mt_types::{Value, compare};
 use std::cmp::Ordering;
 
 fn is_empty(value: &Value) -> bool
-    ensures { result ≡ is_empty value.now }
+    ensures { result ≡ is_empty_text value.now }
 {
     match value {
         Value::Text(bytes) => bytes.len() == 0,

@@ -9,7 +9,7 @@ ghost use Rattle.mt_table.specs.declared.column.Column.{Column};
 ghost use Rattle.mt_defs.specs.Rows.{Row};
 ghost use Rattle.mt_query.specs.Truth.{is_same, truth_of};
 ghost use Rattle.mt_query.specs.Suits.{cond_suits};
-ghost use Rattle.mt_cond.specs.Cover.{between, box_may, from_key, fronts, is_void, may_hold_of, to_key, Spans};
+ghost use Rattle.mt_cond.specs.Cover.{spans_between, box_may, from_key, fronts, is_void, may_hold_of, to_key, Spans};
 ghost use Rattle.mt_cond.specs.Keys.{key_fits, key_values, types_of, AreKeys, KeyOf};
 ghost use Rattle.mt_cond.specs.Views.{interval_of, walk_spans};
 
@@ -111,7 +111,7 @@ fn may_apart<'a>(
     requires apart { (l h : Value) → is_same (slice_index_or lo.now at l) (slice_index_or hi.now at h) ≡ false }
     requires alike { (is : Spans) → fronts at lo.now is ≡ fronts at hi.now is }
     ensures { result ≡ list_any (λ is. box_may cond.now key.now (fronts at lo.now is))
-        (between (types_of (drop at key.now)) (drop at lo.now) (drop at hi.now)) }
+        (spans_between (types_of (drop at key.now)) (drop at lo.now) (drop at hi.now)) }
 {
     let last = both_span(&key[at], &lo[at], &hi[at]);
     if may_box(cond, key, lo, at, last) {

@@ -95,7 +95,7 @@ fn free_high(range: Option<Range>) -> Bound<'static>
 
 /// At the number behind one that isn't negative, if the type has it, and else past the value.
 fn at_next(range: Range, number: u128, value: &Value) -> Bound<'_>
-    ensures { end_of result ≡ cover.after range value.now (pos number) }
+    ensures { end_of result ≡ cover.end_after range value.now (pos number) }
 {
     if number < range.greatest {
         at_number(number + 1)

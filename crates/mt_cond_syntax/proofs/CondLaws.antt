@@ -11,20 +11,20 @@ use Rattle.mt_phrases.proofs.ListLaws.{chain_law, closed_law, parens_law}
 use Rattle.mt_phrases.proofs.PhraseLaws.{IsRead, Any, Not, one_law, after_law, then_law, made_law, either_law, either_if_law}
 use Rattle.mt_phrases.proofs.TokenTests.{Apart, Lacks, keys_apart, words_apart, signs_apart, key_no_sign, word_no_sign, sign_no_key, given_is, one_begins, after_begins, after_is, second_of, word_no_key}
 use Rattle.mt_phrases.specs.Phrases.{IsText}
-use Rattle.mt_phrases.specs.Terminals.{text_in}
+use Rattle.mt_phrases.specs.Terminals.{text_in_token}
 use Rattle.mt_cond_syntax.specs.declared.limits.TheConstants.{MAX_COND_DEPTH}
 use Rattle.mt_cond_syntax.specs.declared.tree.Literal.{Literal}
 use Rattle.mt_cond_syntax.specs.declared.tree.CondText.{CondText}
 use Rattle.mt_cond_syntax.specs.declared.tree.CondText.TheVariants as tree
-use Rattle.mt_cond_syntax.specs.Grammar.{IsName, IsLiteral, IsComparison, IsOneOf, IsNullOrNot, IsNullTest, IsStarts, IsHas, IsAtom, IsDisjunction, IsUnit, IsCond}
-use Rattle.mt_cond_syntax.specs.Reading.{name_at, literal_at, comparison_at, one_of_at, null_at, null_test_at, starts_at, has_at, test_at, atom_at, disjunction_at, unit_at, cond_at}
+use Rattle.mt_cond_syntax.specs.Grammar.{IsUnreservedName, IsLiteral, IsComparison, IsOneOf, IsNullOrNot, IsNullTest, IsStarts, IsHas, IsAtom, IsDisjunction, IsUnit, IsCond}
+use Rattle.mt_cond_syntax.specs.Reading.{unreserved_name_at, literal_at, comparison_at, one_of_at, null_word_at, null_test_at, starts_at, has_at, test_at, atom_at, disjunction_at, unit_at, cond_at}
 use Rattle.mt_phrases.specs.NameRules.{name_in}
 use Rattle.mt_cond_syntax.specs.Terminals.{literal_of, negative_in, op_of}
 use Rattle.mt_cond_syntax.specs.Trees.{comparison_of, one_of_of, null_test_of, starts_of, has_of}
 use Rattle.mt_cond_syntax.proofs.JoinLaws.{joined_law}
 use Rattle.mt_cond_syntax.proofs.QueryTests.{query_name_no_sign, query_name_no_not, literal_no_sign, op_no_key, op_no_open}
 
-pub name_law : IsRead IsName name_at Any
+pub name_law : IsRead IsUnreservedName unreserved_name_at Any
 name_law = one_law name_in
 
 -- ---- literals
@@ -34,7 +34,7 @@ literal_law =
     either_law (is_sign Minus) (one_law negative_in) (one_law literal_of)
     (λ tokens tree rest h s. one_begins literal_of (is_sign Minus) (literal_no_sign Minus) tokens tree rest h)
 
-abbrev NoComma : List Tok → Type 0
+abbrev pub NoComma : List Tok → Type 0
 NoComma rest = Not (is_sign Comma) rest
 
 abbrev IsLiterals : Phrase (List Literal)
@@ -55,7 +55,7 @@ one_of_law = made_law one_of_of (then_law name_law (after_law (is_keyword (codes
 null_no_not : Lacks (tree_if (is_keyword (codes "NULL")) false) (is_keyword (codes "NOT"))
 null_no_not token tree e = keys_apart (codes "NULL") (codes "NOT") refl token (given_is (is_keyword (codes "NULL")) false token tree e)
 
-null_law : IsRead IsNullOrNot null_at Any
+null_law : IsRead IsNullOrNot null_word_at Any
 null_law =
     either_law (is_keyword (codes "NOT")) (one_law (tree_if (is_keyword (codes "NULL")) true)) (one_law (tree_if (is_keyword (codes "NULL")) false))
     (λ tokens tree rest h s. one_begins (tree_if (is_keyword (codes "NULL")) false) (is_keyword (codes "NOT")) null_no_not tokens tree rest h)
@@ -65,14 +65,14 @@ null_test_law = made_law null_test_of (then_law name_law (after_law (is_keyword 
 
 -- what stands behind startsWith
 abbrev IsNameAndText : Phrase CondText
-IsNameAndText = InParens (Made starts_of (IsName & (is_sign Comma ▹ IsText)))
+IsNameAndText = InParens (Made starts_of (IsUnreservedName & (is_sign Comma ▹ IsText)))
 
 -- what stands behind has
 abbrev IsNameAndLiteral : Phrase CondText
-IsNameAndLiteral = InParens (Made has_of (IsName & (is_sign Comma ▹ IsLiteral)))
+IsNameAndLiteral = InParens (Made has_of (IsUnreservedName & (is_sign Comma ▹ IsLiteral)))
 
 starts_law : IsRead IsNameAndText starts_at Any
-starts_law = parens_law (made_law starts_of (then_law name_law (after_law (is_sign Comma) (one_law text_in)))) (λ token rest e. tt)
+starts_law = parens_law (made_law starts_of (then_law name_law (after_law (is_sign Comma) (one_law text_in_token)))) (λ token rest e. tt)
 
 has_law : IsRead IsNameAndLiteral has_at Any
 has_law = parens_law (made_law has_of (then_law name_law (after_law (is_sign Comma) literal_law))) (λ token rest e. tt)
@@ -91,8 +91,8 @@ test_law =
 test_opens : (tokens : List Tok) (tree : CondText) (rest : List Tok) → (IsStarts ∣ IsHas) tokens tree rest → second_is (is_sign Open) tokens ≡ true
 test_opens [] tree rest (inl h) = absurd h
 test_opens [] tree rest (inr h) = absurd h
-test_opens (token ∷ tokens) tree rest (inl h) = after_is (is_sign Open) (Made starts_of (IsName & (is_sign Comma ▹ IsText)) ◃ is_sign Close) tokens tree rest h.1
-test_opens (token ∷ tokens) tree rest (inr h) = after_is (is_sign Open) (Made has_of (IsName & (is_sign Comma ▹ IsLiteral)) ◃ is_sign Close) tokens tree rest h.1
+test_opens (token ∷ tokens) tree rest (inl h) = after_is (is_sign Open) (Made starts_of (IsUnreservedName & (is_sign Comma ▹ IsText)) ◃ is_sign Close) tokens tree rest h.1
+test_opens (token ∷ tokens) tree rest (inr h) = after_is (is_sign Open) (Made has_of (IsUnreservedName & (is_sign Comma ▹ IsLiteral)) ◃ is_sign Close) tokens tree rest h.1
 
 one_of_is : (tokens : List Tok) (tree : CondText) (rest : List Tok) → IsOneOf tokens tree rest → second_is (is_keyword (codes "IN")) tokens ≡ true
 one_of_is tokens tree rest h = second_of name_in (is_keyword (codes "IN")) true tokens h.2.0 h.0.0 h.2.1 (after_is (is_keyword (codes "IN")) IsLiterals h.2.0 h.0.1 rest h.2.2)

@@ -22,8 +22,8 @@ use Rattle.mt_cond_syntax.specs.Terminals.{literal_of, negative_in, op_of}
 use Rattle.mt_cond_syntax.specs.Trees.{comparison_of, one_of_of, null_test_of, starts_of, has_of}
 
 -- a name, by its bytes: none of the twelve reserved words, unless in backquotes
-abbrev pub IsName : Phrase (List ℕ)
-IsName = One name_in
+abbrev pub IsUnreservedName : Phrase (List ℕ)
+IsUnreservedName = One name_in
 
 -- literal := [-] digits | text
 abbrev pub IsLiteral : Phrase Literal
@@ -33,11 +33,11 @@ IsLiteral = (is_sign Minus ▹ One negative_in) ∣ One literal_of
 
 -- name op literal
 abbrev pub IsComparison : Phrase CondText
-IsComparison = Made comparison_of (IsName & One op_of & IsLiteral)
+IsComparison = Made comparison_of (IsUnreservedName & One op_of & IsLiteral)
 
 -- name IN ( literal {, literal} )
 abbrev pub IsOneOf : Phrase CondText
-IsOneOf = Made one_of_of (IsName & (key "IN" ▹ InParens (Chain IsLiteral)))
+IsOneOf = Made one_of_of (IsUnreservedName & (key "IN" ▹ InParens (Chain IsLiteral)))
 
 -- [NOT] NULL, and whether it is with NOT
 abbrev pub IsNullOrNot : Phrase Bool
@@ -45,15 +45,15 @@ IsNullOrNot = (key "NOT" ▹ One (tree_if (key "NULL") true)) ∣ One (tree_if (
 
 -- name IS [NOT] NULL
 abbrev pub IsNullTest : Phrase CondText
-IsNullTest = Made null_test_of (IsName & (key "IS" ▹ IsNullOrNot))
+IsNullTest = Made null_test_of (IsUnreservedName & (key "IS" ▹ IsNullOrNot))
 
 -- startsWith ( name , text )
 abbrev pub IsStarts : Phrase CondText
-IsStarts = fixed "startsWith" ▹ InParens (Made starts_of (IsName & (is_sign Comma ▹ IsText)))
+IsStarts = fixed "startsWith" ▹ InParens (Made starts_of (IsUnreservedName & (is_sign Comma ▹ IsText)))
 
 -- has ( name , literal )
 abbrev pub IsHas : Phrase CondText
-IsHas = fixed "has" ▹ InParens (Made has_of (IsName & (is_sign Comma ▹ IsLiteral)))
+IsHas = fixed "has" ▹ InParens (Made has_of (IsUnreservedName & (is_sign Comma ▹ IsLiteral)))
 
 -- atom := startsWith .. | has .. | name IN .. | name IS .. | name op literal
 abbrev pub IsAtom : Phrase CondText

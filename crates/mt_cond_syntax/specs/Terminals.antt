@@ -13,8 +13,8 @@ use Rattle.mt_cond_syntax.specs.declared.tree.Literal.TheVariants as literal
 use Rattle.mt_cond_syntax.specs.Numbers.{negative_of}
 
 -- a token is a name
-abbrev pub is_name : Tok → Bool
-is_name = is_name_by Unreserved
+abbrev pub is_unreserved_name : Tok → Bool
+is_unreserved_name = is_name_by Unreserved
 
 -- digits | text
 abbrev pub literal_of : Tok → Option Literal

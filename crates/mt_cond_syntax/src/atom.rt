@@ -1,9 +1,9 @@
 //! Conditions without others inside.
 
 ghost use Rattle.mt_tokens.specs.Tokens.{plains};
-ghost use Rattle.mt_phrases.specs.Answers.{Gives};
+ghost use Rattle.mt_phrases.specs.Answers.{GivesPhrase};
 ghost use Rattle.mt_phrases.specs.Readers.{one};
-ghost use Rattle.mt_cond_syntax.specs.Reading.{atom_at, comparison_at, has_at, null_at, null_test_at, one_of_at, starts_at};
+ghost use Rattle.mt_cond_syntax.specs.Reading.{atom_at, comparison_at, has_at, null_word_at, null_test_at, one_of_at, starts_at};
 ghost use Rattle.mt_cond_syntax.specs.Terminals.{op_of};
 
 use crate::literal::{literal, literal_list};
@@ -17,7 +17,7 @@ use std::alloc::Global;
 
 /// A comparison sign.
 fn op<'a, 't>(tokens: &'t [Token<'a>]) -> Result<(Op, &'t [Token<'a>]), SyntaxError>
-    ensures { Gives (λ x. (x.0, plains x.1.now)) result (one op_of (plains tokens.now)) }
+    ensures { GivesPhrase (λ x. (x.0, plains x.1.now)) result (one op_of (plains tokens.now)) }
 {
     match split_first(tokens) {
         Some((Token::Sign(Sign::Equal), rest)) => Ok((Op::Eq, rest)),
@@ -35,7 +35,7 @@ fn comparison<'a, 't>(
     alloc: Global,
     tokens: &'t [Token<'a>],
 ) -> Result<(CondText, &'t [Token<'a>]), SyntaxError>
-    ensures { Gives (λ x. (x.0, plains x.1.now)) result (comparison_at (plains tokens.now)) }
+    ensures { GivesPhrase (λ x. (x.0, plains x.1.now)) result (comparison_at (plains tokens.now)) }
 {
     let (name, rest) = name(NameRule::Unreserved, alloc, tokens)?;
     let (op, rest) = op(rest)?;
@@ -48,7 +48,7 @@ fn one_of<'a, 't>(
     alloc: Global,
     tokens: &'t [Token<'a>],
 ) -> Result<(CondText, &'t [Token<'a>]), SyntaxError>
-    ensures { Gives (λ x. (x.0, plains x.1.now)) result (one_of_at (plains tokens.now)) }
+    ensures { GivesPhrase (λ x. (x.0, plains x.1.now)) result (one_of_at (plains tokens.now)) }
 {
     let (name, rest) = name(NameRule::Unreserved, alloc, tokens)?;
     let rest = keyword(rest, b"IN")?;
@@ -58,7 +58,7 @@ fn one_of<'a, 't>(
 
 /// NOT NULL or NULL, and whether it is with NOT.
 fn null<'a, 't>(tokens: &'t [Token<'a>]) -> Result<(bool, &'t [Token<'a>]), SyntaxError>
-    ensures { Gives (λ x. (x.0, plains x.1.now)) result (null_at (plains tokens.now)) }
+    ensures { GivesPhrase (λ x. (x.0, plains x.1.now)) result (null_word_at (plains tokens.now)) }
 {
     match after_keyword(tokens, b"NOT") {
         Some(after) => {
@@ -77,7 +77,7 @@ fn null_test<'a, 't>(
     alloc: Global,
     tokens: &'t [Token<'a>],
 ) -> Result<(CondText, &'t [Token<'a>]), SyntaxError>
-    ensures { Gives (λ x. (x.0, plains x.1.now)) result (null_test_at (plains tokens.now)) }
+    ensures { GivesPhrase (λ x. (x.0, plains x.1.now)) result (null_test_at (plains tokens.now)) }
 {
     let (name, rest) = name(NameRule::Unreserved, alloc, tokens)?;
     let rest = keyword(rest, b"IS")?;
@@ -90,7 +90,7 @@ fn starts<'a, 't>(
     alloc: Global,
     tokens: &'t [Token<'a>],
 ) -> Result<(CondText, &'t [Token<'a>]), SyntaxError>
-    ensures { Gives (λ x. (x.0, plains x.1.now)) result (starts_at (plains tokens.now)) }
+    ensures { GivesPhrase (λ x. (x.0, plains x.1.now)) result (starts_at (plains tokens.now)) }
 {
     let rest = sign(tokens, Sign::Open)?;
     let (name, rest) = name(NameRule::Unreserved, alloc, rest)?;
@@ -105,7 +105,7 @@ fn has<'a, 't>(
     alloc: Global,
     tokens: &'t [Token<'a>],
 ) -> Result<(CondText, &'t [Token<'a>]), SyntaxError>
-    ensures { Gives (λ x. (x.0, plains x.1.now)) result (has_at (plains tokens.now)) }
+    ensures { GivesPhrase (λ x. (x.0, plains x.1.now)) result (has_at (plains tokens.now)) }
 {
     let rest = sign(tokens, Sign::Open)?;
     let (name, rest) = name(NameRule::Unreserved, alloc, rest)?;
@@ -121,7 +121,7 @@ pub(crate) fn atom<'a, 't>(
     alloc: Global,
     tokens: &'t [Token<'a>],
 ) -> Result<(CondText, &'t [Token<'a>]), SyntaxError>
-    ensures { Gives (λ x. (x.0, plains x.1.now)) result (atom_at (plains tokens.now)) }
+    ensures { GivesPhrase (λ x. (x.0, plains x.1.now)) result (atom_at (plains tokens.now)) }
 {
     if second_is_sign(tokens, Sign::Open) {
         if let Some(after) = after_word(tokens, b"startsWith") {

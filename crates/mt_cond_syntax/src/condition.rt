@@ -2,10 +2,10 @@
 
 ghost use Rattle.std.specs.Prelude.{◌≡◌, IfOk};
 ghost use Rattle.mt_tokens.specs.Tokens.{plains};
-ghost use Rattle.mt_phrases.specs.Answers.{Gives};
+ghost use Rattle.mt_phrases.specs.Answers.{GivesPhrase};
 ghost use Rattle.mt_phrases.specs.Readers.{to_close};
 ghost use Rattle.mt_cond_syntax.specs.declared.tree.CondText.TheVariants.{And, Not, Or};
-ghost use Rattle.mt_cond_syntax.specs.Reading.{cond_at, conjunction_at, disjunction_at, nested_at, unit_at};
+ghost use Rattle.mt_cond_syntax.specs.Reading.{cond_at, conjunction_at, disjunction_at, nested_unit_at, unit_at};
 
 use crate::atom::atom;
 use crate::limits::MAX_COND_DEPTH;
@@ -48,7 +48,7 @@ fn unit<'a, 't>(
     tokens: &'t [Token<'a>],
     depth: u8,
 ) -> Result<(CondText, &'t [Token<'a>]), SyntaxError>
-    ensures { Gives (λ x. (x.0, plains x.1.now)) result (unit_at depth (plains tokens.now)) }
+    ensures { GivesPhrase (λ x. (x.0, plains x.1.now)) result (unit_at depth (plains tokens.now)) }
 {
     if depth == 0 {
         return atom(alloc, tokens);
@@ -63,7 +63,7 @@ fn nested_unit<'a, 't>(
     tokens: &'t [Token<'a>],
     depth: u8,
 ) -> Result<(CondText, &'t [Token<'a>]), SyntaxError>
-    ensures { Gives (λ x. (x.0, plains x.1.now)) result (nested_at (unit_at depth) (plains tokens.now)) }
+    ensures { GivesPhrase (λ x. (x.0, plains x.1.now)) result (nested_unit_at (unit_at depth) (plains tokens.now)) }
 {
     if let Some(after) = after_keyword(tokens, b"NOT") {
         let (inner, rest) = unit(alloc, after, depth)?;
@@ -82,7 +82,7 @@ fn closed<'a, 't>(
     tokens: &'t [Token<'a>],
     depth: u8,
 ) -> Result<(CondText, &'t [Token<'a>]), SyntaxError>
-    ensures { Gives (λ x. (x.0, plains x.1.now)) result (to_close (disjunction_at (unit_at depth)) (plains tokens.now)) }
+    ensures { GivesPhrase (λ x. (x.0, plains x.1.now)) result (to_close (disjunction_at (unit_at depth)) (plains tokens.now)) }
 {
     let (inner, rest) = disjunction(alloc, tokens, depth)?;
     let rest = sign(rest, Sign::Close)?;
@@ -96,7 +96,7 @@ fn conjunction<'a, 't>(
     tokens: &'t [Token<'a>],
     depth: u8,
 ) -> Result<(CondText, &'t [Token<'a>]), SyntaxError>
-    ensures { Gives (λ x. (x.0, plains x.1.now)) result (conjunction_at (unit_at depth) (plains tokens.now)) }
+    ensures { GivesPhrase (λ x. (x.0, plains x.1.now)) result (conjunction_at (unit_at depth) (plains tokens.now)) }
 {
     let (mut left, mut rest) = unit(alloc, tokens, depth)?;
     for _ in 0..rest.len() {
@@ -117,7 +117,7 @@ fn disjunction<'a, 't>(
     tokens: &'t [Token<'a>],
     depth: u8,
 ) -> Result<(CondText, &'t [Token<'a>]), SyntaxError>
-    ensures { Gives (λ x. (x.0, plains x.1.now)) result (disjunction_at (unit_at depth) (plains tokens.now)) }
+    ensures { GivesPhrase (λ x. (x.0, plains x.1.now)) result (disjunction_at (unit_at depth) (plains tokens.now)) }
 {
     let (mut left, mut rest) = conjunction(alloc, tokens, depth)?;
     for _ in 0..rest.len() {
@@ -136,7 +136,7 @@ pub fn cond<'a, 't>(
     alloc: Global,
     tokens: &'t [Token<'a>],
 ) -> Result<(CondText, &'t [Token<'a>]), SyntaxError>
-    ensures { Gives (λ x. (x.0, plains x.1.now)) result (cond_at (plains tokens.now)) }
+    ensures { GivesPhrase (λ x. (x.0, plains x.1.now)) result (cond_at (plains tokens.now)) }
 {
     disjunction(alloc, tokens, MAX_COND_DEPTH)
 }

@@ -1,7 +1,7 @@
 //! Literals.
 
 ghost use Rattle.mt_tokens.specs.Tokens.{plains};
-ghost use Rattle.mt_phrases.specs.Answers.{Gives};
+ghost use Rattle.mt_phrases.specs.Answers.{GivesPhrase};
 ghost use Rattle.mt_phrases.specs.Readers.{chain, in_parens, one};
 ghost use Rattle.mt_cond_syntax.specs.Reading.{literal_at};
 ghost use Rattle.mt_cond_syntax.specs.Terminals.{literal_of, negative_in};
@@ -15,7 +15,7 @@ use std::alloc::Global;
 
 /// The digits behind a minus.
 fn negative<'a, 't>(tokens: &'t [Token<'a>]) -> Result<(Literal, &'t [Token<'a>]), SyntaxError>
-    ensures { Gives (λ x. (x.0, plains x.1.now)) result (one negative_in (plains tokens.now)) }
+    ensures { GivesPhrase (λ x. (x.0, plains x.1.now)) result (one negative_in (plains tokens.now)) }
 {
     match split_first(tokens) {
         Some((Token::Digits(digits), rest)) => Ok((Literal::Negative(negative_of(digits)), rest)),
@@ -28,7 +28,7 @@ fn plain<'a, 't>(
     alloc: Global,
     tokens: &'t [Token<'a>],
 ) -> Result<(Literal, &'t [Token<'a>]), SyntaxError>
-    ensures { Gives (λ x. (x.0, plains x.1.now)) result (one literal_of (plains tokens.now)) }
+    ensures { GivesPhrase (λ x. (x.0, plains x.1.now)) result (one literal_of (plains tokens.now)) }
 {
     match split_first(tokens) {
         Some((Token::Digits(digits), rest)) => Ok((Literal::Number(wide_number_of(digits)), rest)),
@@ -42,7 +42,7 @@ pub(crate) fn literal<'a, 't>(
     alloc: Global,
     tokens: &'t [Token<'a>],
 ) -> Result<(Literal, &'t [Token<'a>]), SyntaxError>
-    ensures { Gives (λ x. (x.0, plains x.1.now)) result (literal_at (plains tokens.now)) }
+    ensures { GivesPhrase (λ x. (x.0, plains x.1.now)) result (literal_at (plains tokens.now)) }
 {
     match after_sign(tokens, Sign::Minus) {
         Some(after) => negative(after),
@@ -55,7 +55,7 @@ fn literal_items<'a, 't>(
     alloc: Global,
     tokens: &'t [Token<'a>],
 ) -> Result<(List<Literal>, &'t [Token<'a>]), SyntaxError>
-    ensures { Gives (λ x. (x.0, plains x.1.now)) result (chain literal_at (plains tokens.now)) }
+    ensures { GivesPhrase (λ x. (x.0, plains x.1.now)) result (chain literal_at (plains tokens.now)) }
 {
     let (first, mut rest) = literal(alloc, tokens)?;
     let mut literals = List::new(alloc);
@@ -76,7 +76,7 @@ pub(crate) fn literal_list<'a, 't>(
     alloc: Global,
     tokens: &'t [Token<'a>],
 ) -> Result<(List<Literal>, &'t [Token<'a>]), SyntaxError>
-    ensures { Gives (λ x. (x.0, plains x.1.now)) result (in_parens (chain literal_at) (plains tokens.now)) }
+    ensures { GivesPhrase (λ x. (x.0, plains x.1.now)) result (in_parens (chain literal_at) (plains tokens.now)) }
 {
     let rest = sign(tokens, Sign::Open)?;
     let (literals, rest) = literal_items(alloc, rest)?;

@@ -108,7 +108,7 @@ wide_same f g count (column ∷ columns) some all =
     let name = first_stream (column ∷ columns) in
     let granules : wide_granules f count (column ∷ columns) ≡ wide_granules g count (column ∷ columns) =
     ap (λ (read : Judged GranulePayloads). read >>= λ found. let r : Judged (List ℕ) = Ok found.granules in r) (granules_same f g count (data_name name) (marks_name name) 1 first.0 first.1) in
-    ap (λ (read : Judged (List ℕ)). read >>= λ found. wide.rows_reading f found count (column ∷ columns) >>= λ rows. let r : Judged (List Row × List ℕ) = Ok (rows, found) in r) granules
+    ap (λ (read : Judged (List ℕ)). read >>= λ found. wide.wide_rows_reading f found count (column ∷ columns) >>= λ rows. let r : Judged (List Row × List ℕ) = Ok (rows, found) in r) granules
     ∙ steps_same (wide_granules g count (column ∷ columns)) _ _ (λ found is.
     ap (λ (values : Judged (List (List (List Value)))). (values >>= λ read. let r : Judged (List Row) = Ok (rows_of count (map all_values read)) in r) >>= λ rows. let r : Judged (List Row × List ℕ) = Ok (rows, found) in r)
     (in_order_same (wide.column_reading f found) (wide.column_reading g found) (column ∷ columns) (columns_same f g found (column ∷ columns) all)))
@@ -117,5 +117,5 @@ wide_same f g count (column ∷ columns) some all =
 
 pub compact_same : (f g : Folder) (count : ℕ) (columns : List Column) → f compact_data_name ≡ g compact_data_name → f compact_marks_name ≡ g compact_marks_name → compact_reading f count columns ≡ compact_reading g count columns
 compact_same f g count columns d m =
-    ap (λ (read : Judged GranulePayloads). read >>= λ found. compact.rows_reading found count columns >>= λ rows. let r : Judged (List Row × List ℕ) = Ok (rows, found.granules) in r)
+    ap (λ (read : Judged GranulePayloads). read >>= λ found. compact.compact_rows_reading found count columns >>= λ rows. let r : Judged (List Row × List ℕ) = Ok (rows, found.granules) in r)
     (granules_same f g count compact_data_name compact_marks_name (length columns) d m)

@@ -67,7 +67,7 @@ rows_many count columns rows e = ap (λ (l : List Row). length l) (ok_one (rows_
 pub wide_data : (folder : Folder) (count : ℕ) (columns : List Column) (rows : List Row) (granules : List ℕ) → wide_reading folder count columns ≡ Ok (rows, granules) → AreData count rows granules
 wide_data folder count columns rows granules e =
     ok_then (wide_granules folder count columns) _ (rows, granules) e (λ cut is_cut e.
-    ok_then (wide.rows_reading folder cut count columns) _ (rows, granules) e (λ found are_rows e.
+    ok_then (wide.wide_rows_reading folder cut count columns) _ (rows, granules) e (λ found are_rows e.
     ok_then (granules_reading folder count (data_name (first_stream columns)) (marks_name (first_stream columns)) 1) _ cut is_cut (λ read is_read is_cut.
     ok_then (in_order (wide.column_reading folder cut) columns) _ found are_rows (λ values are_values are_rows.
     let p = ok_pair found rows cut granules e in
@@ -77,8 +77,8 @@ wide_data folder count columns rows granules e =
 pub compact_data : (folder : Folder) (count : ℕ) (columns : List Column) (rows : List Row) (granules : List ℕ) → compact_reading folder count columns ≡ Ok (rows, granules) → AreData count rows granules
 compact_data folder count columns rows granules e =
     ok_then (granules_reading folder count compact_data_name compact_marks_name (length columns)) _ (rows, granules) e (λ read is_read e.
-    ok_then (compact.rows_reading read count columns) _ (rows, granules) e (λ found are_rows e.
-    ok_then (in_order (compact.column_reading (length columns) read) (enumerate_from 0 columns)) _ found are_rows (λ values are_values are_rows.
+    ok_then (compact.compact_rows_reading read count columns) _ (rows, granules) e (λ found are_rows e.
+    ok_then (in_order (compact.compact_column_reading (length columns) read) (enumerate_from 0 columns)) _ found are_rows (λ values are_values are_rows.
     let p = ok_pair found rows read.granules granules e in
     are_data count rows granules (ap (λ (l : List Row). length l) p.0 ∙ rows_many count (map all_values values) found are_rows)
     (subst (AreCut count) (sym p.1) (granules_cut folder count compact_data_name compact_marks_name (length columns) read is_read)))))

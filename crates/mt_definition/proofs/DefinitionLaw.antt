@@ -17,11 +17,11 @@ use Rattle.mt_files.specs.Faults.{none_found}
 use Rattle.mt_definition.specs.RowsReading.{first_fall, granule_of}
 use Rattle.mt_definition.proofs.RowLemmas.{fall_free}
 
-required_true : (b : Bool) (fault : Fault) → require b fault ≡ Ok tt → b ≡ true
+pub required_true : (b : Bool) (fault : Fault) → require b fault ≡ Ok tt → b ≡ true
 required_true true fault e = refl
 required_true false fault e = cc
 
-none_is : {A : Type 0} (found : Option A) (fault : A → Fault) → none_found found fault ≡ Ok tt → found ≡ None
+pub none_is : {A : Type 0} (found : Option A) (fault : A → Fault) → none_found found fault ≡ Ok tt → found ≡ None
 none_is None fault e = refl
 none_is (Some x) fault e = cc
 

@@ -1,42 +1,27 @@
 -- The keys of a primary index, step by step.
 use Rattle.std.proofs.Common.{◌≡◌, ℕ, zero, suc, ◌+◌, ◌-◌, ◌<◌, ◌≤◌, Bool, true, false, List, [], ◌∷◌, length, map, take, drop, refl, ap, sym, subst, ◌∙◌, get_or, arith}
-use Rattle.std.specs.Prelude.{All, IsTrue, Result, Ok, ◌==◌}
+use Rattle.std.specs.Prelude.{All, Result, Ok, ◌==◌}
 use Rattle.std.specs.Borrow.{Bor}
 use Rattle.std.specs.List.{flat_map}
 use Rattle.std.specs.Str.{bytes_eq}
 use Rattle.std.proofs.lemmas.List.Elements.{All-nil, All-cons, All-head, All-tail, All-append, All-take, All-drop}
+use Rattle.mt_facts.proofs.Lists.{drop_next}
 use Rattle.mt_fault.specs.declared.fault.Fault.{Fault}
 use Rattle.mt_fault.specs.declared.error.FileError.{FileError}
 use Rattle.mt_fault.specs.declared.fault.Why.TheVariants.{Key, Over}
-use Rattle.mt_types.specs.declared.value.Value.TheVariants.{Null}
-use Rattle.mt_types.specs.Fits.{fits_of}
 use Rattle.mt_types.specs.Steps.{◌>>=◌, require}
 use Rattle.mt_types.proofs.StepLemmas.{passed, failed}
 use Rattle.mt_table.specs.declared.column.Column.{Column}
 use Rattle.mt_defs.specs.Granules.{granule_rows}
-use Rattle.mt_defs.specs.Lists.{Pointwise}
 use Rattle.mt_defs.specs.PrimaryIndex.{index_name, index_rows}
-use Rattle.mt_defs.specs.Rows.{Row, RowFits, cell}
+use Rattle.mt_defs.specs.Rows.{Row, RowFits}
 use Rattle.mt_fault.specs.Faults.{file_fault, granule_fault}
 use Rattle.mt_fault.specs.Results.{FailsAs}
 use Rattle.mt_fault.specs.Results.{IsFault}
 use Rattle.mt_definition.specs.RowRefs.{rows_in}
 use Rattle.mt_definition.specs.RowsReading.{keys_reading}
 use Rattle.mt_fault.proofs.FaultLemmas.{fault_gives}
-use Rattle.mt_files.proofs.LoopLemmas.{at_index, at_end}
-
--- ---- values
-
-Pointwise-get_or : {A B : Type 0} (R : A → B → Type 0) (xs : List A) (ys : List B) (i : ℕ) (d : A) (e : B) → Pointwise R xs ys → i < length xs → R (get_or xs i d) (get_or ys i e)
-Pointwise-get_or R [] [] i d e p h = absurd (omega arith)
-Pointwise-get_or R [] (y ∷ ys) i d e p h = absurd p
-Pointwise-get_or R (x ∷ xs) [] i d e p h = absurd p
-Pointwise-get_or R (x ∷ xs) (y ∷ ys) zero d e p h = p.0
-Pointwise-get_or R (x ∷ xs) (y ∷ ys) (suc i) d e p h = Pointwise-get_or R xs ys i d e p.1 (omega arith)
-
--- a value of a row is one of its column's type
-pub cell_fits : (columns : List Column) (row : Row) (i : ℕ) (d : Column) → RowFits columns row → i < length columns → IsTrue (fits_of (get_or columns i d).ty (cell row i))
-cell_fits columns row i d fits lt = Pointwise-get_or (λ column value. IsTrue (fits_of column.ty value)) columns row i d Null fits lt
+use Rattle.mt_files.proofs.LoopLemmas.{at_end}
 
 -- ---- the keys
 
@@ -47,12 +32,12 @@ keys_next : (granule : ℕ) (key : List ℕ) (keys : List (List ℕ)) (bytes : L
 unfolding keys_reading
 keys_next granule key keys bytes = refl
 
-keys_end : (granule : ℕ) (bytes : List ℕ) → keys_reading granule [] bytes ≡ require (length bytes == 0) (file_fault index_name Over)
+pub keys_end : (granule : ℕ) (bytes : List ℕ) → keys_reading granule [] bytes ≡ require (length bytes == 0) (file_fault index_name Over)
 unfolding keys_reading
 keys_end granule bytes = refl
 
 rows_at : (rows : List (Bor Row)) (i : ℕ) (row : Bor Row) → i < length rows → row ≡ get_or rows i row → rows_in (drop i rows) ≡ row.now ∷ rows_in (drop (i + 1) rows)
-rows_at rows i row inside at = ap rows_in (at_index rows i row inside at)
+rows_at rows i row inside at = ap rows_in (drop_next rows i row inside at)
 
 keys_at : (key_of : Row → List ℕ) (rows : List (Bor Row)) (i : ℕ) (row : Bor Row) (bytes key : List ℕ) (whole : Result Unit Fault) → keys_reading i (map key_of (rows_in (drop i rows))) bytes ≡ whole → i < length rows → row ≡ get_or rows i row → key ≡ key_of row.now
     → keys_later i key (map key_of (rows_in (drop (i + 1) rows))) bytes ≡ whole

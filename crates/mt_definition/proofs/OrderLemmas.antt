@@ -46,7 +46,7 @@ drop_set [] i x = refl
 drop_set (y ∷ xs) zero x = refl
 drop_set (y ∷ xs) (suc i) x = drop_set xs i x
 
-length_set : {X : Type 0} (xs : List X) (i : ℕ) (x : X) → length (slice_set xs i x) ≡ length xs
+pub length_set : {X : Type 0} (xs : List X) (i : ℕ) (x : X) → length (slice_set xs i x) ≡ length xs
 length_set [] i x = refl
 length_set (y ∷ xs) zero x = refl
 length_set (y ∷ xs) (suc i) x = ap suc (length_set xs i x)

@@ -1,5 +1,5 @@
 -- A definition's folder, step by step.
-use Rattle.std.proofs.Common.{◌≡◌, ℕ, suc, ◌*◌, ◌≤◌, true, List, [], ◌∷◌, length, map, refl, ap, sym, subst, ◌∙◌, arith}
+use Rattle.std.proofs.Common.{◌≡◌, ℕ, ◌*◌, ◌≤◌, true, List, length, map, refl, ap, sym, subst, ◌∙◌, arith}
 use Rattle.std.specs.Prelude.{All, IsTrue, Result, Ok}
 use Rattle.std.specs.List.{list_all}
 use Rattle.std.proofs.Math.Nat.{mul-le-mul_left}
@@ -15,32 +15,26 @@ use Rattle.mt_table.specs.declared.column.Column.{Column}
 use Rattle.mt_table.specs.declared.definition.PartDef.{PartDef}
 use Rattle.mt_table.specs.declared.limits.TheConstants.{MAX_CELLS}
 use Rattle.mt_table.specs.Kept.{is_place}
+use Rattle.mt_table.proofs.PointwiseLemmas.{Pointwise-length}
 use Rattle.mt_defs.specs.Folder.{Folder}
-use Rattle.mt_defs.specs.Lists.{Pointwise}
 use Rattle.mt_defs.specs.Metadata.{column_at, may_list}
 use Rattle.mt_defs.specs.Rows.{Row, RowFits}
 use Rattle.mt_definition.specs.declared.accepted.Accepted.{Accepted}
 use Rattle.mt_definition.specs.DataReading.{data_reading}
 use Rattle.mt_definition.specs.DefinitionReading.{cells_reading, definition_reading, in_definition_order, index_reading, sorted_reading, stored_reading}
-use Rattle.mt_files.specs.PartTexts.{order_reading, rows_reading}
+use Rattle.mt_files.specs.PartTexts.{order_reading, row_count_reading}
 use Rattle.mt_fault.specs.Results.{FailsAs}
 use Rattle.mt_definition.specs.RowsReading.{whole_row}
 use Rattle.mt_fault.proofs.FaultLemmas.{fails_then}
 
 -- ---- rows of the listed columns
 
-Pointwise-long : {A B : Type 0} (R : A → B → Type 0) (xs : List A) (ys : List B) → Pointwise R xs ys → length xs ≡ length ys
-Pointwise-long R [] [] p = refl
-Pointwise-long R [] (y ∷ ys) p = absurd p
-Pointwise-long R (x ∷ xs) [] p = absurd p
-Pointwise-long R (x ∷ xs) (y ∷ ys) p = ap suc (Pointwise-long R xs ys p.1)
-
 abbrev Fits : Column → Value → Type 0
 Fits column value = IsTrue (fits_of column.ty value)
 
 pub rows_long : (columns : List Column) (order : List ℕ) (rows : List Row) → All (RowFits (map (column_at columns) order)) rows → All (λ row. length row ≡ length order) rows
 rows_long columns order rows fit =
-    All-weaker (RowFits (map (column_at columns) order)) (λ row. length row ≡ length order) (λ row fits. sym (Pointwise-long Fits (map (column_at columns) order) row fits) ∙ length-map order (column_at columns)) rows fit
+    All-weaker (RowFits (map (column_at columns) order)) (λ row. length row ≡ length order) (λ row fits. sym (Pointwise-length Fits (map (column_at columns) order) row fits) ∙ length-map order (column_at columns)) rows fit
 
 -- ---- what is asked of the listed columns
 
@@ -63,7 +57,7 @@ abbrev behind_count : PartDef → Folder → List ℕ → ℕ → Result Accepte
 behind_count definition folder order count = data_reading folder count (map (column_at definition.columns) order) >>= behind_data definition.columns order
 
 abbrev behind_order : PartDef → Folder → List ℕ → Result Accepted Fault
-behind_order definition folder order = rows_reading definition folder >>= behind_count definition folder order
+behind_order definition folder order = row_count_reading definition folder >>= behind_count definition folder order
 
 stored_is : (definition : PartDef) (folder : Folder) → stored_reading definition folder ≡ (order_reading definition folder >>= behind_order definition folder)
 unfolding stored_reading
@@ -75,19 +69,19 @@ order_fails definition folder e fails = subst (FailsAs e) (sym (stored_is defini
 known_order : (definition : PartDef) (folder : Folder) (order : List ℕ) → order_reading definition folder ≡ Ok order → stored_reading definition folder ≡ behind_order definition folder order
 known_order definition folder order is = stored_is definition folder ∙ then_of (order_reading definition folder) order (behind_order definition folder) is
 
-pub count_fails : (definition : PartDef) (folder : Folder) (order : List ℕ) (e : FileError) → order_reading definition folder ≡ Ok order → FailsAs e (rows_reading definition folder) → FailsAs e (stored_reading definition folder)
-count_fails definition folder order e is fails = subst (FailsAs e) (sym (known_order definition folder order is)) (fails_then e (rows_reading definition folder) (behind_count definition folder order) fails)
+pub count_fails : (definition : PartDef) (folder : Folder) (order : List ℕ) (e : FileError) → order_reading definition folder ≡ Ok order → FailsAs e (row_count_reading definition folder) → FailsAs e (stored_reading definition folder)
+count_fails definition folder order e is fails = subst (FailsAs e) (sym (known_order definition folder order is)) (fails_then e (row_count_reading definition folder) (behind_count definition folder order) fails)
 
-known_count : (definition : PartDef) (folder : Folder) (order : List ℕ) (count : ℕ) → order_reading definition folder ≡ Ok order → rows_reading definition folder ≡ Ok count → stored_reading definition folder ≡ behind_count definition folder order count
-known_count definition folder order count is counts = known_order definition folder order is ∙ then_of (rows_reading definition folder) count (behind_count definition folder order) counts
+known_count : (definition : PartDef) (folder : Folder) (order : List ℕ) (count : ℕ) → order_reading definition folder ≡ Ok order → row_count_reading definition folder ≡ Ok count → stored_reading definition folder ≡ behind_count definition folder order count
+known_count definition folder order count is counts = known_order definition folder order is ∙ then_of (row_count_reading definition folder) count (behind_count definition folder order) counts
 
-pub data_fails : (definition : PartDef) (folder : Folder) (order : List ℕ) (count : ℕ) (columns : List Column) (e : FileError) → order_reading definition folder ≡ Ok order → rows_reading definition folder ≡ Ok count
+pub data_fails : (definition : PartDef) (folder : Folder) (order : List ℕ) (count : ℕ) (columns : List Column) (e : FileError) → order_reading definition folder ≡ Ok order → row_count_reading definition folder ≡ Ok count
     → columns ≡ map (column_at definition.columns) order → FailsAs e (data_reading folder count columns) → FailsAs e (stored_reading definition folder)
 data_fails definition folder order count columns e is counts are fails =
     subst (FailsAs e) (sym (known_count definition folder order count is counts))
     (fails_then e (data_reading folder count (map (column_at definition.columns) order)) (behind_data definition.columns order) (subst (λ (cs : List Column). FailsAs e (data_reading folder count cs)) are fails))
 
-pub stored_read : (definition : PartDef) (folder : Folder) (order : List ℕ) (count : ℕ) (columns : List Column) (read : List Row × List ℕ) (placed : List Row) → order_reading definition folder ≡ Ok order → rows_reading definition folder ≡ Ok count
+pub stored_read : (definition : PartDef) (folder : Folder) (order : List ℕ) (count : ℕ) (columns : List Column) (read : List Row × List ℕ) (placed : List Row) → order_reading definition folder ≡ Ok order → row_count_reading definition folder ≡ Ok count
     → columns ≡ map (column_at definition.columns) order → data_reading folder count columns ≡ Ok read → placed ≡ map (whole_row definition.columns order) read.0
     → stored_reading definition folder ≡ Ok (let a : Accepted = record { rows = placed; granules = read.1 } in a)
 stored_read definition folder order count columns (rows, granules) placed is counts are reads placed_is =
@@ -97,13 +91,13 @@ stored_read definition folder order count columns (rows, granules) placed is cou
 
 -- ---- what follows
 
-abbrev behind_index : Accepted → Unit {0} → Result Accepted Fault
+abbrev pub behind_index : Accepted → Unit {0} → Result Accepted Fault
 behind_index accepted _ = Ok accepted
 
-abbrev behind_sorted : PartDef → Folder → Accepted → Unit {0} → Result Accepted Fault
+abbrev pub behind_sorted : PartDef → Folder → Accepted → Unit {0} → Result Accepted Fault
 behind_sorted definition folder accepted _ = index_reading definition folder accepted >>= behind_index accepted
 
-abbrev behind_cells : PartDef → Folder → Accepted → Unit {0} → Result Accepted Fault
+abbrev pub behind_cells : PartDef → Folder → Accepted → Unit {0} → Result Accepted Fault
 behind_cells definition folder accepted _ = sorted_reading definition folder accepted >>= behind_sorted definition folder accepted
 
 abbrev behind_stored : PartDef → Folder → Accepted → Result Accepted Fault

@@ -14,9 +14,9 @@ use Rattle.mt_table.specs.Kept.{is_one_of}
 use Rattle.mt_defs.specs.Metadata.{column_at}
 use Rattle.mt_defs.specs.Projections.{index_in}
 use Rattle.mt_defs.specs.Rows.{Row, cell}
-use Rattle.mt_definition.specs.ListedPlaces.{ArePlaces, IsRowBy, left_by, place_in, value_by}
+use Rattle.mt_definition.specs.ListedPlaces.{ArePlaces, IsRowBy, left_by, listed_place, value_by}
 use Rattle.mt_definition.specs.RowsReading.{value_in, whole_row}
-use Rattle.mt_definition.proofs.OrderLemmas.{range_push}
+use Rattle.mt_definition.proofs.OrderLemmas.{range_push, length_set}
 use Rattle.mt_definition.proofs.WholeRows.{listed_stands, stands_listed, whole_at, whole_long}
 
 same_lists : {X : Type 0} (xs ys : List X) (d : X) → length xs ≡ length ys → ((i : ℕ) → i < length xs → get_or xs i d ≡ get_or ys i d) → xs ≡ ys
@@ -96,24 +96,24 @@ at_or_length (j ∷ order) i = by_test (j == i) (nat_eq i j) (flips i j) (at_or_
 abbrev place_or_none : List ℕ → ℕ → Option ℕ
 place_or_none order i = if is_one_of order i then Some (index_in order i) else None
 
-position_is : (order : List ℕ) (i : ℕ) → place_in order i ≡ place_or_none order i
+position_is : (order : List ℕ) (i : ℕ) → listed_place order i ≡ place_or_none order i
 position_is order i =
     let both = at_or_length order i in
     ap (λ b. cond b (Some (position_or_len (λ j. j == i) order)) None) both.1 ∙ ap (λ k. if is_one_of order i then Some k else None) both.0
 
-pub places_more : (order : List ℕ) (n : ℕ) → map (place_in order) (range_with_len 0 (n + 1)) ≡ map (place_in order) (range_with_len 0 n) ++ place_in order n ∷ []
+pub places_more : (order : List ℕ) (n : ℕ) → map (listed_place order) (range_with_len 0 (n + 1)) ≡ map (listed_place order) (range_with_len 0 n) ++ listed_place order n ∷ []
 places_more order n =
     let next : n + 1 ≡ suc n = omega arith in
     let same : 0 + n ≡ n = omega arith in
-    ap (λ k. map (place_in order) (range_with_len 0 k)) next ∙ ap (map (place_in order)) (range_push 0 n) ∙ map-append (place_in order) (range_with_len 0 n) ((0 + n) ∷ [])
-    ∙ ap (λ k. map (place_in order) (range_with_len 0 n) ++ place_in order k ∷ []) same
+    ap (λ k. map (listed_place order) (range_with_len 0 k)) next ∙ ap (map (listed_place order)) (range_push 0 n) ∙ map-append (listed_place order) (range_with_len 0 n) ((0 + n) ∷ [])
+    ∙ ap (λ k. map (listed_place order) (range_with_len 0 n) ++ listed_place order k ∷ []) same
 
-place_at : (order : List ℕ) (n i : ℕ) → i < n → get_or (map (place_in order) (range_with_len 0 n)) i None ≡ place_in order i
+place_at : (order : List ℕ) (n i : ℕ) → i < n → get_or (map (listed_place order) (range_with_len 0 n)) i None ≡ listed_place order i
 place_at order n i inside =
-    get_or-map (place_in order) (range_with_len 0 n) i 0 None (let size = length-range_with_len 0 n in omega (arith, inside, size)) ∙ ap (place_in order) (range_at n i inside)
+    get_or-map (listed_place order) (range_with_len 0 n) i 0 None (let size = length-range_with_len 0 n in omega (arith, inside, size)) ∙ ap (listed_place order) (range_at n i inside)
 
 -- a place is that of its column
-place_some : (order : List ℕ) (i k : ℕ) → place_in order i ≡ Some k → (k < length order) × (get_or order k 0 ≡ i)
+place_some : (order : List ℕ) (i k : ℕ) → listed_place order i ≡ Some k → (k < length order) × (get_or order k 0 ≡ i)
 place_some order i k e = by_test (is_one_of order i) refl (sym (position_is order i) ∙ e)
   where
     by_test : (b : Bool) → is_one_of order i ≡ b → (if b then Some (index_in order i) else None) ≡ Some k → (k < length order) × (get_or order k 0 ≡ i)
@@ -123,34 +123,34 @@ place_some order i k e = by_test (is_one_of order i) refl (sym (position_is orde
         (let w = stands.within in omega (arith, w, same), ap (λ j. get_or order j 0) (sym same) ∙ stands.there)
     by_test false none e = cc
 
-pub are_places : (order : List ℕ) (n : ℕ) → ArePlaces (length order) (map (place_in order) (range_with_len 0 n))
+pub are_places : (order : List ℕ) (n : ℕ) → ArePlaces (length order) (map (listed_place order) (range_with_len 0 n))
 are_places order n =
-    let places = map (place_in order) (range_with_len 0 n) in
-    let size : length places ≡ n = length-map (range_with_len 0 n) (place_in order) ∙ length-range_with_len 0 n in
+    let places = map (listed_place order) (range_with_len 0 n) in
+    let size : length places ≡ n = length-map (range_with_len 0 n) (listed_place order) ∙ length-range_with_len 0 n in
     record {
       within = λ i d inside.
           let there : i < n = omega (arith, inside, size) in
-          subst (λ p. IfSome p (λ k. k < length order)) (sym (get_or_default places i d None inside ∙ place_at order n i there)) (by_place i (place_in order i) refl);
+          subst (λ p. IfSome p (λ k. k < length order)) (sym (get_or_default places i d None inside ∙ place_at order n i there)) (by_place i (listed_place order i) refl);
       apart = λ i j k first second here also.
           let at_i = (place_some order i k (sym (place_at order n i (omega (arith, first, size))) ∙ here)).1 in
           let at_j = (place_some order j k (sym (place_at order n j (omega (arith, second, size))) ∙ also)).1 in
           sym at_i ∙ at_j;
     }
   where
-    by_place : (i : ℕ) (p : Option ℕ) → place_in order i ≡ p → IfSome p (λ k. k < length order)
+    by_place : (i : ℕ) (p : Option ℕ) → listed_place order i ≡ p → IfSome p (λ k. k < length order)
     by_place i None is = tt
     by_place i (Some k) is = (place_some order i k is).0
 
 -- ---- a row by places
 
-value_is : (columns : List Column) (order : List ℕ) (row : Row) (i : ℕ) → value_by (column_at columns i) row (place_in order i) ≡ value_in columns order row i
+value_is : (columns : List Column) (order : List ℕ) (row : Row) (i : ℕ) → value_by (column_at columns i) row (listed_place order i) ≡ value_in columns order row i
 value_is columns order row i = ap (value_by (column_at columns i) row) (position_is order i) ∙ by_test (is_one_of order i) refl
   where
     by_test : (b : Bool) → is_one_of order i ≡ b → value_by (column_at columns i) row (if b then Some (index_in order i) else None) ≡ (if b then cell row (index_in order i) else default_of (column_at columns i).ty)
     by_test true is = refl
     by_test false is = refl
 
-pub row_is : (columns : List Column) (order : List ℕ) (places : List (Option ℕ)) (row whole : Row) → places ≡ map (place_in order) (range_with_len 0 (length columns)) → IsRowBy columns places row whole → whole ≡ whole_row columns order row
+pub row_is : (columns : List Column) (order : List ℕ) (places : List (Option ℕ)) (row whole : Row) → places ≡ map (listed_place order) (range_with_len 0 (length columns)) → IsRowBy columns places row whole → whole ≡ whole_row columns order row
 row_is columns order places row whole are by =
     let n = length columns in
     let long = by.long in
@@ -168,11 +168,6 @@ get_set_other (y ∷ xs) zero zero x d apart = absurd (apart refl)
 get_set_other (y ∷ xs) zero (suc j) x d apart = refl
 get_set_other (y ∷ xs) (suc k) zero x d apart = refl
 get_set_other (y ∷ xs) (suc k) (suc j) x d apart = get_set_other xs k j x d (λ same. apart (ap suc same))
-
-length_set : {X : Type 0} (xs : List X) (i : ℕ) (x : X) → length (slice_set xs i x) ≡ length xs
-length_set [] i x = refl
-length_set (y ∷ xs) zero x = refl
-length_set (y ∷ xs) (suc i) x = ap suc (length_set xs i x)
 
 pub length_left : (values : Row) (place : Option ℕ) → length (left_by values place) ≡ length values
 length_left values None = refl

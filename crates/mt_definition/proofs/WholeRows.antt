@@ -2,7 +2,7 @@
 use Rattle.std.proofs.Common.{◌≡◌, ℕ, zero, suc, ◌+◌, ◌<◌, Bool, true, false, not, ◌||◌, List, [], ◌∷◌, length, map, refl, sym, ap, subst, ◌∙◌, get_or, arith, inl, inr, eqb}
 use Rattle.std.specs.Prelude.{All, IsTrue, ◌==◌, if◌then◌else◌}
 use Rattle.std.specs.List.{range_with_len}
-use Rattle.std.proofs.lemmas.Bool.{and_parts, cases_Bool, eq-eqb, eqb-true, or_parts}
+use Rattle.std.proofs.lemmas.Bool.{and_parts, cases_Bool, eq-eqb, eqb-true, or_parts, not-true}
 use Rattle.std.proofs.lemmas.List.{ext_get_or, get_or-map, length-map}
 use Rattle.std.proofs.lemmas.List.FromFn.{get_or-map-range_with_len, length-map-range_with_len}
 use Rattle.std.proofs.lemmas.List.Elements.{All-head, All-map, All-tail, All-weaker}
@@ -14,6 +14,7 @@ use Rattle.mt_types.proofs.DefaultLemmas.{default_fits}
 use Rattle.mt_table.specs.declared.column.Column.{Column}
 use Rattle.mt_table.specs.Kept.{is_one_of}
 use Rattle.mt_table.specs.Names.{places_differ}
+use Rattle.mt_table.proofs.PointwiseLemmas.{Pointwise-get_or}
 use Rattle.mt_defs.specs.Lists.{Pointwise}
 use Rattle.mt_defs.specs.Metadata.{HasDefaults, column_at, no_column}
 use Rattle.mt_defs.specs.Projections.{index_in}
@@ -26,10 +27,6 @@ use Rattle.mt_definition.specs.RowsReading.{value_in, whole_row}
 pub record StandsAt (order : List ℕ) (place index : ℕ) : Type 0 where
   pub within : index < length order
   pub there : get_or order index 0 ≡ place
-
-not_true : (b : Bool) → not b ≡ true → b ≡ false
-not_true true e = cc
-not_true false e = refl
 
 flipped : (i j : ℕ) → (j == i) ≡ false → (eqb i j) ≡ false
 flipped i j other =
@@ -64,7 +61,7 @@ found_where_it_stands (first ∷ order) (suc k) differ inside =
     let both = and_parts (not (is_one_of order first)) (places_differ order) differ in
     let place : ℕ = get_or order k 0 in
     let next : k + 1 ≡ suc k = omega arith in
-    ap (λ b. if b then 0 else index_in order place + 1) (not_there order first k (not_true (is_one_of order first) both.0) (omega (arith, inside)))
+    ap (λ b. if b then 0 else index_in order place + 1) (not_there order first k (not-true (is_one_of order first) both.0) (omega (arith, inside)))
     ∙ ap (λ n. n + 1) (found_where_it_stands order k both.1 (omega (arith, inside))) ∙ next
 
 -- what stands in an order is listed
@@ -140,13 +137,6 @@ module _ (columns : List Column) (order : List ℕ) where
 abbrev Fits : Column → Value → Type 0
 Fits column value = IsTrue (fits_of column.ty value)
 
-Pointwise-at : {A B : Type 0} (R : A → B → Type 0) (xs : List A) (ys : List B) (i : ℕ) (d : A) (e : B) → Pointwise R xs ys → i < length xs → R (get_or xs i d) (get_or ys i e)
-Pointwise-at R [] [] i d e p h = absurd (omega arith)
-Pointwise-at R [] (y ∷ ys) i d e p h = absurd p
-Pointwise-at R (x ∷ xs) [] i d e p h = absurd p
-Pointwise-at R (x ∷ xs) (y ∷ ys) zero d e p h = p.0
-Pointwise-at R (x ∷ xs) (y ∷ ys) (suc i) d e p h = Pointwise-at R xs ys i d e p.1 (omega arith)
-
 Pointwise-from : {A B : Type 0} (R : A → B → Type 0) (xs : List A) (ys : List B) (d : A) (e : B) → length xs ≡ length ys → ((i : ℕ) → i < length xs → R (get_or xs i d) (get_or ys i e)) → Pointwise R xs ys
 Pointwise-from R [] [] d e long each = tt
 Pointwise-from R [] (y ∷ ys) d e long each = absurd (omega (arith, long))
@@ -164,7 +154,7 @@ row_fits columns order row fits =
           let k : ℕ = index_in order i in
           let at = listed_stands order i is in
           let within : k < length (map (column_at columns) order) = (let size = length-map order (column_at columns) in let inside = at.within in omega (arith, inside, size)) in
-          let here : Fits (get_or (map (column_at columns) order) k no_column) (cell row k) = Pointwise-at Fits (map (column_at columns) order) row k no_column Null fits within in
+          let here : Fits (get_or (map (column_at columns) order) k no_column) (cell row k) = Pointwise-get_or Fits (map (column_at columns) order) row k no_column Null fits within in
           let same : get_or (map (column_at columns) order) k no_column ≡ column = get_or-map (column_at columns) order k 0 no_column at.within ∙ ap (column_at columns) at.there in
           subst (λ (b : Bool). Fits column (if b then cell row k else default_of column.ty)) (sym is) (subst (λ (c : Column). Fits c (cell row k)) same here)
       | inr none ↦ subst (λ (b : Bool). Fits column (if b then cell row (index_in order i) else default_of column.ty)) (sym none) (default_fits column.ty)

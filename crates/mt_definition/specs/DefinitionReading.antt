@@ -15,7 +15,7 @@ use Rattle.mt_defs.specs.Compact.{compact_data_name}
 use Rattle.mt_defs.specs.PrimaryIndex.{index_name, index_rows, key_bytes}
 use Rattle.mt_defs.specs.Part.{is_compact}
 use Rattle.mt_definition.specs.declared.accepted.Accepted.{Accepted}
-use Rattle.mt_files.specs.PartTexts.{order_reading, rows_reading}
+use Rattle.mt_files.specs.PartTexts.{order_reading, row_count_reading}
 use Rattle.mt_fault.specs.Faults.{file_fault, granule_fault}
 use Rattle.mt_granules.specs.FileFaults.{file_reading}
 use Rattle.mt_files.specs.Faults.{none_found}
@@ -30,7 +30,7 @@ in_definition_order columns order (rows, granules) = record { rows = map (whole_
 unfoldable pub stored_reading : PartDef → Folder → Result Accepted Fault
 stored_reading definition folder = do
   order ← order_reading definition folder
-  count ← rows_reading definition folder
+  count ← row_count_reading definition folder
   stored ← data_reading folder count (map (column_at definition.columns) order)
   Ok (in_definition_order definition.columns order stored)
 

@@ -9,8 +9,8 @@ use Rattle.mt_defs.specs.Metadata.{column_at}
 use Rattle.mt_defs.specs.Rows.{Row, cell}
 
 -- where a column stands among those that are listed
-abbrev pub place_in : List ℕ → ℕ → Option ℕ
-place_in order i = position (λ j. j == i) order
+abbrev pub listed_place : List ℕ → ℕ → Option ℕ
+listed_place order i = position (λ j. j == i) order
 
 -- the value at a place of a row, or else the default of the column's type
 abbrev pub value_by : Column → Row → Option ℕ → Value

@@ -2,7 +2,7 @@
 
 ghost use Rattle.std.specs.Prelude.{◌≡◌, ◌<◌, ◌==◌, length, map, All, IfOk, IfSome, IsTrue, OnOk};
 ghost use Rattle.std.specs.List.{range_with_len};
-ghost use Rattle.mt_definition.specs.ListedPlaces.{ArePlaces, IsRowBy, left_by, place_in, value_by};
+ghost use Rattle.mt_definition.specs.ListedPlaces.{ArePlaces, IsRowBy, left_by, listed_place, value_by};
 ghost use Rattle.mt_definition.specs.RowsReading.{whole_row};
 
 use mt_table::Column;
@@ -53,7 +53,7 @@ fn has_all_in_place(columns: &[Column], order: &[u32]) -> bool
 /// Where each of so many columns stands among those that are listed.
 #[tactic(auto, using(crate::proofs::WholeLemmas::places_more))]
 fn places_in(alloc: Global, count: usize, order: &[u32]) -> Result<Vec<Option<usize>>, NoMemory>
-    ensures { IfOk result (λ places. places.items ≡ map (place_in order.now) (range_with_len 0 count)) }
+    ensures { IfOk result (λ places. places.items ≡ map (listed_place order.now) (range_with_len 0 count)) }
 {
     let mut places = Vec::with_capacity(alloc, count)?;
     for column_index in 0..count {
@@ -64,7 +64,7 @@ fn places_in(alloc: Global, count: usize, order: &[u32]) -> Result<Vec<Option<us
 
 /// Where a column stands among those that are listed.
 fn place_in(order: &[u32], column_index: usize) -> Option<usize>
-    ensures { result ≡ place_in order.now column_index }
+    ensures { result ≡ listed_place order.now column_index }
 {
     order
         .iter()

@@ -23,10 +23,10 @@ use Rattle.mt_defs.specs.Writer.{files_with, file_cmp, written_folder}
 use Rattle.mt_defs.specs.WorkedExample.{input, rows, table, settings, seven_files}
 use Rattle.mt_defs.proofs.Numbers.{written_streams_UInt, stream_suffixes_UInt}
 
-item_u64 : (v : Value) → item_bytes (UInt W64) v ≡ whole_at w64 (out-Value v)
+pub item_u64 : (v : Value) → item_bytes (UInt W64) v ≡ whole_at w64 (out-Value v)
 item_u64 v = ap (λ (f : Value → List ℕ). f v) (fold_out-Ty (Value → List ℕ) item_step (UInt W64) ∙ ap (λ l. item_step (map-Ty Ty (Value → List ℕ) item_bytes l)) (outs-UInt W64))
 
-name_u64 : type_name (UInt W64) ≡ codes "UInt64"
+pub name_u64 : type_name (UInt W64) ≡ codes "UInt64"
 unfolding digits
 name_u64 = fold_out-Ty (List ℕ) name_step (UInt W64) ∙ ap (λ l. name_step (map-Ty Ty (List ℕ) type_name l)) (outs-UInt W64)
 

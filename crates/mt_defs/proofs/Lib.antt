@@ -4,3 +4,10 @@ pub mod Examples
 pub mod Sorted
 pub mod WrittenNames
 pub mod ListedColumns
+pub mod FrameLemmas
+pub mod GranuleLemmas
+pub mod ListLemmas
+pub mod NameLemmas
+pub mod NaturalLemmas
+pub mod PartitionLemmas
+pub mod RowLemmas

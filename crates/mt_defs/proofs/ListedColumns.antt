@@ -1,8 +1,8 @@
 -- The columns that a folder may list.
-use Rattle.std.proofs.Common.{◌≡◌, ℕ, zero, suc, ◌+◌, ◌<◌, ◌≤◌, Bool, true, false, List, [], ◌∷◌, length, refl, ap, sym, ◌∙◌, get_or, arith, inl, inr}
-use Rattle.std.specs.Prelude.{◌&&◌, ◌||◌, nat_eq, nat_lt, not, All}
+use Rattle.std.proofs.Common.{◌≡◌, ℕ, zero, suc, ◌<◌, ◌≤◌, true, false, List, [], ◌∷◌, length, ap, sym, ◌∙◌, get_or, arith, inl, inr}
+use Rattle.std.specs.Prelude.{◌||◌, nat_eq, nat_lt, not, All}
 use Rattle.std.specs.List.{AllByRecursion, IsDistinct, list_all, list_any}
-use Rattle.std.proofs.lemmas.Bool.{cases_Bool, eqb-true, ltb-true}
+use Rattle.std.proofs.lemmas.Bool.{cases_Bool, eqb-true, ltb-true, or_parts, not-true}
 use Rattle.std.proofs.lemmas.Map.Steps.{length-le_from_distinct_below}
 use Rattle.mt_types.proofs.StepLemmas.{both_true}
 use Rattle.mt_table.specs.declared.column.Column.{Column}
@@ -25,17 +25,9 @@ listed columns must order may =
 
 -- ---- no more than there are
 
-either_false : (a b : Bool) → (a || b) ≡ false → (a ≡ false) × (b ≡ false)
-either_false false b e = (refl, e)
-either_false true b e = cc
-
-not_true : (a : Bool) → not a ≡ true → a ≡ false
-not_true false e = refl
-not_true true e = cc
-
 apart : (x : ℕ) (xs : List ℕ) → list_any (nat_eq x) xs ≡ false → AllByRecursion (λ y. nat_eq x y ≡ false) xs
 apart x [] e = tt
-apart x (y ∷ ys) e = let both = either_false (nat_eq x y) (list_any (nat_eq x) ys) e in (both.0, apart x ys both.1)
+apart x (y ∷ ys) e = let both = or_parts (nat_eq x y) (list_any (nat_eq x) ys) e in (both.0, apart x ys both.1)
 
 -- places that differ are distinct
 pub distinct : (xs : List ℕ) → places_differ xs ≡ true → IsDistinct nat_eq xs
@@ -43,7 +35,7 @@ unfolding IsDistinct
 distinct [] e = tt
 distinct (x ∷ xs) e =
     let both = both_true (not (list_any (nat_eq x) xs)) (places_differ xs) e in
-    (apart x xs (not_true (list_any (nat_eq x) xs) both.0), distinct xs both.1)
+    (apart x xs (not-true (list_any (nat_eq x) xs) both.0), distinct xs both.1)
 
 below : (n q : ℕ) (xs : List ℕ) → list_all (λ i. nat_lt i n) xs ≡ true → list_any (nat_eq q) xs ≡ true → q < n
 below n q [] all any = cc

@@ -12,7 +12,7 @@ use Rattle.mt_types.specs.Items.{item_bytes}
 use Rattle.mt_defs.specs.FileNames.{stream_suffixes, suffix_step}
 use Rattle.mt_defs.specs.WrittenStreams.{Encoder, encoder_step, written_streams}
 
-roll_UInt : (w : Width) → roll-Ty (Ty-F.UInt w) ≡ UInt w
+pub roll_UInt : (w : Width) → roll-Ty (Ty-F.UInt w) ≡ UInt w
 roll_UInt w = ap roll-Ty (sym (outs-UInt w)) ∙ roll-out-Ty (UInt w)
 
 -- a column of numbers has one substream, of its items

@@ -11,7 +11,7 @@ use Rattle.mt_types.specs.declared.ty.Ty.{Ty, map-Ty}
 use Rattle.mt_types.specs.declared.ty.Ty.TheFolds.{fold-Ty, fold_out-Ty}
 use Rattle.mt_types.specs.Words.{is_word_start, is_word_byte as is_name_byte, is_name, is_word_text}
 use Rattle.mt_table.specs.Form.{uint64_column}
-use Rattle.mt_defs.specs.FileNames.{file_name, escaped_byte, is_word_byte, stream_names, stream_suffixes, suffix_step}
+use Rattle.mt_defs.specs.FileNames.{file_name, file_name_byte, is_word_byte, stream_names, stream_suffixes, suffix_step}
 
 word_byte : (digit upper line low : Bool) → (((upper || low) || line) || digit) ≡ true → (((digit || upper) || line) || low) ≡ true
 word_byte true upper line low e = refl
@@ -28,7 +28,7 @@ same_name : (name : List ℕ) → list_all is_name_byte name ≡ true → file_n
 same_name [] e = refl
 same_name (c ∷ name) e =
     let both = and_parts (is_name_byte c) (list_all is_name_byte name) e in
-    let first : escaped_byte c ≡ c ∷ [] = rw (name_byte_word c both.0) refl in
+    let first : file_name_byte c ≡ c ∷ [] = rw (name_byte_word c both.0) refl in
     ap (λ bytes. bytes ++ file_name name) first ∙ ap (λ rest. c ∷ rest) (same_name name both.1)
 
 -- a letter or _ stands first

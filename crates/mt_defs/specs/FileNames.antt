@@ -21,12 +21,12 @@ abbrev pub hex_digit : ℕ → ℕ
 hex_digit n = if nat_lt n 10 then 48 + n else 55 + n
 
 -- a byte of a name in a file's name: itself, or `%` and two hexadecimal digits
-abbrev pub escaped_byte : ℕ → List ℕ
-escaped_byte byte = if is_word_byte byte then byte ∷ [] else codes "%" ++ hex_digit (byte / 16) ∷ hex_digit (byte % 16) ∷ []
+abbrev pub file_name_byte : ℕ → List ℕ
+file_name_byte byte = if is_word_byte byte then byte ∷ [] else codes "%" ++ hex_digit (byte / 16) ∷ hex_digit (byte % 16) ∷ []
 
 -- a column's or an index's name in the names of its files
 abbrev pub file_name : List ℕ → List ℕ
-file_name name = flat_map escaped_byte name
+file_name name = flat_map file_name_byte name
 
 -- the suffixes of a type at a level of arrays, where those of the type inside are given
 abbrev pub suffix_step : Ty-F (ℕ → List (List ℕ)) → ℕ → List (List ℕ)

@@ -9,13 +9,13 @@ abbrev pub Folder : Type 0
 Folder = List ℕ → Option (List ℕ)
 
 -- the names are the same, byte by byte
-abbrev pub is_name : List ℕ → List ℕ → Bool
-is_name a b = is_eq (slice_cmp nat_cmp a b)
+abbrev pub names_agree : List ℕ → List ℕ → Bool
+names_agree a b = is_eq (slice_cmp nat_cmp a b)
 
 -- the folder that a list of files makes
 abbrev pub folder_of : List FileBytes → Folder
 folder_of [] name = None
-folder_of (file ∷ files) name = if is_name file.name name then Some file.bytes else folder_of files name
+folder_of (file ∷ files) name = if names_agree file.name name then Some file.bytes else folder_of files name
 
 -- the folder below a prefix of the names, as `p.proj/`
 abbrev pub folder_below : Folder → List ℕ → Folder

@@ -49,18 +49,18 @@ state_of (Of Max i) ns = state.Greatest (greatest ns)
 -- ---- folds over rows
 
 -- the number of a value, or 0
-abbrev pub number_at : Value-F Value → ℤ
-number_at (Value-F.Num n) = n
-number_at _ = pos 0
+abbrev pub number_or_zero : Value-F Value → ℤ
+number_or_zero (Value-F.Num n) = n
+number_or_zero _ = pos 0
 
 -- the number that an aggregate takes of a row; a count takes any
-abbrev pub number_of : Aggregate → Row → ℤ
-number_of Count row = pos 0
-number_of (Of agg i) row = number_at (out-Value (cell row i))
+abbrev pub number_taken : Aggregate → Row → ℤ
+number_taken Count row = pos 0
+number_taken (Of agg i) row = number_or_zero (out-Value (cell row i))
 
 -- the state of an aggregate over some rows
 abbrev pub fold_of : List Row → Aggregate → AggState
-fold_of rows aggregate = state_of aggregate (map (number_of aggregate) rows)
+fold_of rows aggregate = state_of aggregate (map (number_taken aggregate) rows)
 
 -- ---- merges
 

@@ -67,8 +67,8 @@ partition_names table =
     if length table.partition == 0 then [] else partition_name ∷ map (λ expression. minmax_name table (expression_column expression)) table.partition
 
 -- the files of a skip index
-abbrev pub skip_names : Folder → Skip → List (List ℕ)
-skip_names folder skip = skip_data_name skip ∷ skip_marks_name skip (marks_ending (is_compact folder)) ∷ []
+abbrev pub skip_file_names : Folder → Skip → List (List ℕ)
+skip_file_names folder skip = skip_data_name skip ∷ skip_marks_name skip (marks_ending (is_compact folder)) ∷ []
 
 -- the names that may stand in the folder of a projection
 abbrev pub projection_names : Table → Folder → Projection → List (List ℕ)
@@ -78,7 +78,7 @@ projection_names table folder projection =
 -- the names that may stand below a part that lists these columns of the table, side files among them
 abbrev pub known_names : Table → List ℕ → Folder → List (List ℕ)
 known_names table order folder =
-    definition_names (map (column_at table.columns) order) folder ++ partition_names table ++ flat_map (skip_names folder) table.skips ++ flat_map (projection_names table folder) table.projections
+    definition_names (map (column_at table.columns) order) folder ++ partition_names table ++ flat_map (skip_file_names folder) table.skips ++ flat_map (projection_names table folder) table.projections
 
 -- ---- the part
 

@@ -62,13 +62,13 @@ abbrev pub stored_key : List ℕ → Row → List Value
 stored_key keys row = take (length keys) row
 
 -- the state of a value that is one
-abbrev pub state_at : Value-F Value → Option AggState
-state_at (Value-F.State state) = Some state
-state_at _ = None
+abbrev pub state_of_value : Value-F Value → Option AggState
+state_of_value (Value-F.State state) = Some state
+state_of_value _ = None
 
 -- the state of an aggregate in a stored row
 abbrev pub stored_state : List ℕ → List Aggregate → Aggregate → Row → Option AggState
-stored_state keys aggs aggregate row = state_at (out-Value (cell row (length keys + aggregate_index aggs aggregate)))
+stored_state keys aggs aggregate row = state_of_value (out-Value (cell row (length keys + aggregate_index aggs aggregate)))
 
 -- the stored rows of a key
 abbrev pub stored_with_key : List ℕ → List Value → List Row → List Row

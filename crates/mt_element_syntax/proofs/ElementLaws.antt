@@ -5,7 +5,7 @@ use Rattle.mt_tokens.specs.declared.sign.Sign.TheVariants.{Open, Close, Comma}
 use Rattle.mt_tokens.specs.Tokens.{Tok}
 use Rattle.mt_tokens.specs.Words.{is_keyword, is_word, is_sign, name_of}
 use Rattle.mt_phrases.specs.Phrases.{Phrase, One, ◌▹◌, ◌◃◌, ◌&◌, Maybe, Made, Perhaps, first_is, second_is, IsNumber, Chain, InParens, IsText, ◌∣◌, singleton}
-use Rattle.mt_phrases.specs.Terminals.{number_in, is_text, tree_if, is_number, text_in}
+use Rattle.mt_phrases.specs.Terminals.{number_in_token, is_text, tree_if, is_number, text_in_token}
 use Rattle.mt_phrases.specs.Readers.{Reader, chain, to_close, number_at}
 use Rattle.mt_phrases.proofs.PhraseLaws.{IsRead, Any, Not, narrowed, one_law, after_law, both_law, then_law, made_law, either_law, either_if_law, maybe_law}
 use Rattle.mt_phrases.proofs.ListLaws.{chain_law, closed_law, parens_law, perhaps_law}
@@ -19,9 +19,9 @@ use Rattle.mt_element_syntax.specs.declared.tree.IndexKind.{IndexKind}
 use Rattle.mt_element_syntax.specs.declared.tree.IndexKind.TheVariants.{Minmax, Set}
 use Rattle.mt_element_syntax.specs.declared.tree.Element.{Element}
 use Rattle.mt_element_syntax.specs.Grammar.{IsName, IsWord, IsList, IsKey, IsArg, IsType, IsCodec, IsCodecs, IsKind}
-use Rattle.mt_element_syntax.specs.Trees.{type_of, codec_of, column_of, index_of}
+use Rattle.mt_element_syntax.specs.Trees.{type_of, codec_of, column_element_of, index_of}
 use Rattle.mt_element_syntax.specs.Terminals.{word_of}
-use Rattle.mt_element_syntax.specs.Reading.{name_at, word_at, names_at, list_at, key_at, arg_at, type_at, codec_at, codecs_at, column_at, kind_at, index_at}
+use Rattle.mt_element_syntax.specs.Reading.{name_at, word_at, names_at, name_list_at, key_at, arg_at, type_at, codec_at, codecs_at, column_element_at, kind_at, index_at}
 use Rattle.mt_element_syntax.proofs.TokenTests.{word_no_number, word_no_text}
 
 -- ---- one token
@@ -33,7 +33,7 @@ pub word_law : IsRead IsWord word_at Any
 word_law = one_law word_of
 
 pub number_law : IsRead IsNumber number_at Any
-number_law = one_law number_in
+number_law = one_law number_in_token
 
 pub close_no_comma : Apart (is_sign Close) (is_sign Comma)
 close_no_comma = signs_apart Close Comma refl
@@ -52,7 +52,7 @@ names_law = chain_law (Not (is_sign Comma)) name_law (λ token rest e. tt) (λ r
 pub closed_names_law : IsRead (Chain IsName ◃ is_sign Close) (to_close names_at) Any
 closed_names_law = closed_law names_law (λ token rest e. close_no_comma token e)
 
-pub list_law : IsRead IsList list_at (Not (is_sign Comma))
+pub list_law : IsRead IsList name_list_at (Not (is_sign Comma))
 list_law =
     either_law (is_sign Open) (narrowed (Not (is_sign Comma)) closed_names_law (λ rest s. tt)) names_law
     (λ tokens tree rest h s. one_begins name_of (is_sign Open) (name_no_sign Open) tokens h.0.0 h.2.0 h.2.1)
@@ -91,15 +91,15 @@ made_begins tree_of test make is (token ∷ tokens) tree rest h = is token h.0 h
 module _ (P : Phrase TypeText) (p : Reader TypeText) (law : IsRead P p NoOpen)
     (begins : (test : Tok → Bool) → Lacks word_of test → (tokens : List Tok) (tree : TypeText) (rest : List Tok) → P tokens tree rest → Not test tokens) where
   no_number : (tokens : List Tok) (tree : TypeArg) (rest : List Tok) → (Made arg.Text IsText ∣ Made arg.Type P) tokens tree rest → first_is is_number tokens ≡ false
-  no_number tokens tree rest (inl h) = one_begins text_in is_number text_no_number tokens h.0 rest h.2
+  no_number tokens tree rest (inl h) = one_begins text_in_token is_number text_no_number tokens h.0 rest h.2
   no_number tokens tree rest (inr h) = begins is_number word_no_number tokens h.0 rest h.2
 
   arg_law : IsRead (IsArg P) (arg_at p) NoOpen
   arg_law =
       either_if_law (first_is is_number) (narrowed NoOpen (made_law arg.Number number_law) (λ rest s. tt))
-      (either_if_law (first_is is_text) (narrowed NoOpen (made_law arg.Text (one_law text_in)) (λ rest s. tt)) (made_law arg.Type law)
-      (made_begins text_in is_text arg.Text text_is) (λ tokens tree rest h s. begins is_text word_no_text tokens h.0 rest h.2))
-      (made_begins number_in is_number arg.Number number_is) (λ tokens tree rest h s. no_number tokens tree rest h)
+      (either_if_law (first_is is_text) (narrowed NoOpen (made_law arg.Text (one_law text_in_token)) (λ rest s. tt)) (made_law arg.Type law)
+      (made_begins text_in_token is_text arg.Text text_is) (λ tokens tree rest h s. begins is_text word_no_text tokens h.0 rest h.2))
+      (made_begins number_in_token is_number arg.Number number_is) (λ tokens tree rest h s. no_number tokens tree rest h)
 
   args_law : IsRead (Chain (IsArg P)) (chain (arg_at p)) NoMore
   args_law = chain_law NoMore arg_law (λ token rest e. comma_no_open token e) (λ rest s. s)
@@ -136,14 +136,14 @@ comment_begins middle tree rest h s =
 
 -- a column, whatever it begins with
 abbrev pub IsAnyColumn : Phrase Element
-IsAnyColumn = Made column_of (IsName & IsType MAX_TYPE_DEPTH & IsCommented)
+IsAnyColumn = Made column_element_of (IsName & IsType MAX_TYPE_DEPTH & IsCommented)
 
-pub column_law : IsRead IsAnyColumn column_at EndsColumn
-unfolding column_at
+pub column_law : IsRead IsAnyColumn column_element_at EndsColumn
+unfolding column_element_at
 column_law =
     let comment = perhaps_law (is_keyword (codes "COMMENT")) (is_text ∷ []) codecs_law
     (λ tokens tree rest h s. maybe_begins (is_keyword (codes "CODEC")) (is_keyword (codes "COMMENT")) (InParens (Chain IsCodec)) (keys_apart (codes "CODEC") (codes "COMMENT") refl) tokens tree rest h s.1) in
-    made_law column_of (then_law name_law (both_law (type_law MAX_TYPE_DEPTH) comment comment_begins))
+    made_law column_element_of (then_law name_law (both_law (type_law MAX_TYPE_DEPTH) comment comment_begins))
 
 -- ---- indexes
 

@@ -14,7 +14,7 @@ use Rattle.mt_phrases.specs.declared.selection.Selected.TheVariants.{All, Items}
 use Rattle.mt_phrases.specs.declared.selection.Selection.TheVariants as item
 use Rattle.mt_phrases.specs.Phrases.{Chain, InParens, IsNumber, Phrase, One, ◌▹◌, ◌&◌, ◌∣◌, Maybe, Made, Perhaps, NotWith, IsText, singleton}
 use Rattle.mt_phrases.specs.Selections.{IsCount, IsAggregate, IsItem, IsSelected}
-use Rattle.mt_phrases.specs.Terminals.{agg_of, fixed, is_text, key, number_in, tree_if, text_in}
+use Rattle.mt_phrases.specs.Terminals.{agg_of, fixed, is_text, key, number_in_token, tree_if, text_in_token}
 use Rattle.mt_element_syntax.specs.declared.limits.TheConstants.{MAX_TYPE_DEPTH}
 use Rattle.mt_element_syntax.specs.declared.tree.CodecText.{CodecText}
 use Rattle.mt_element_syntax.specs.declared.tree.Element.{Element}
@@ -25,7 +25,7 @@ use Rattle.mt_element_syntax.specs.declared.tree.TypeArg.TheVariants as arg
 use Rattle.mt_element_syntax.specs.declared.tree.TypeText.{TypeText}
 use Rattle.mt_element_syntax.specs.Grammar.{IsArg, IsCodec, IsCodecs, IsColumn, IsElement, IsElements, IsGroup, IsIndex, IsKey, IsKind, IsList, IsName, IsOrder, IsProjection, IsType, IsWord}
 use Rattle.mt_element_syntax.specs.Terminals.{word_of}
-use Rattle.mt_element_syntax.specs.Trees.{codec_of, column_of, index_of, projection_of, type_of}
+use Rattle.mt_element_syntax.specs.Trees.{codec_of, column_element_of, index_of, projection_element_of, type_of}
 use Rattle.mt_element_syntax.specs.Formed.{has_one, has_one_given, is_formed_element}
 use Rattle.mt_phrases.proofs.PhrasesHold.{after_holds, any_holds, Any, both_hold, chain_holds, Each, EachOfSome, either_holds, Given, Good, Holds, in_parens_holds, made_holds, maybe_holds, not_with_holds, one_holds, perhaps_holds}
 
@@ -78,13 +78,13 @@ types_hold (suc depth) =
     any_made type_of (IsWord & Maybe (InParens (Chain Arg)))
     (any_both IsWord (Maybe (InParens (Chain Arg))) (any_one word_of)
     (any_maybe (InParens (Chain Arg)) (any_parens (Chain Arg) (any_in_chain Arg
-    (either_holds (Made arg.Number IsNumber) (Made arg.Text IsText ∣ Made arg.Type (IsType depth)) Any (any_made arg.Number IsNumber (any_one number_in))
-    (either_holds (Made arg.Text IsText) (Made arg.Type (IsType depth)) Any (any_made arg.Text IsText (any_one text_in)) (any_made arg.Type (IsType depth) (types_hold depth))))))))
+    (either_holds (Made arg.Number IsNumber) (Made arg.Text IsText ∣ Made arg.Type (IsType depth)) Any (any_made arg.Number IsNumber (any_one number_in_token))
+    (either_holds (Made arg.Text IsText) (Made arg.Type (IsType depth)) Any (any_made arg.Text IsText (any_one text_in_token)) (any_made arg.Type (IsType depth) (types_hold depth))))))))
 
 codecs_hold : Holds IsCodecs Any
 codecs_hold =
     after_holds (key "CODEC") (InParens (Chain IsCodec)) Any (any_parens (Chain IsCodec) (any_in_chain IsCodec
-    (any_made codec_of (IsWord & Maybe (InParens IsNumber)) (any_both IsWord (Maybe (InParens IsNumber)) (any_one word_of) (any_maybe (InParens IsNumber) (any_parens IsNumber (any_one number_in)))))))
+    (any_made codec_of (IsWord & Maybe (InParens IsNumber)) (any_both IsWord (Maybe (InParens IsNumber)) (any_one word_of) (any_maybe (InParens IsNumber) (any_parens IsNumber (any_one number_in_token)))))))
 
 abbrev pub Formed : Element → Type 0
 Formed e = is_formed_element e ≡ true
@@ -93,9 +93,9 @@ columns_hold : Holds IsColumn Formed
 columns_hold =
     let Codecs : Phrase (Option (List CodecText)) = Perhaps (key "COMMENT" ∷ is_text ∷ []) (Maybe IsCodecs) in
     let Rest : Phrase (TypeText × Option (List CodecText)) = IsType MAX_TYPE_DEPTH & Codecs in
-    not_with_holds (key "INDEX") (NotWith (key "PROJECTION") (Made column_of (IsName & Rest))) Formed
-    (not_with_holds (key "PROJECTION") (Made column_of (IsName & Rest)) Formed
-    (made_holds column_of (IsName & Rest) (λ x. Named x.0 × Any x.1) Formed (λ x holds. holds.0)
+    not_with_holds (key "INDEX") (NotWith (key "PROJECTION") (Made column_element_of (IsName & Rest))) Formed
+    (not_with_holds (key "PROJECTION") (Made column_element_of (IsName & Rest)) Formed
+    (made_holds column_element_of (IsName & Rest) (λ x. Named x.0 × Any x.1) Formed (λ x holds. holds.0)
     (both_hold IsName Rest Named Any names_hold
     (any_both (IsType MAX_TYPE_DEPTH) Codecs (types_hold MAX_TYPE_DEPTH)
     (perhaps_holds (key "COMMENT" ∷ is_text ∷ []) (Maybe IsCodecs) Any (any_maybe IsCodecs codecs_hold))))))
@@ -105,7 +105,7 @@ columns_hold =
 kinds_hold : Holds IsKind Any
 kinds_hold =
     either_holds (One (tree_if (fixed "minmax") Minmax)) (fixed "set" ▹ Made Set (InParens IsNumber)) Any (any_one (tree_if (fixed "minmax") Minmax))
-    (after_holds (fixed "set") (Made Set (InParens IsNumber)) Any (any_made Set (InParens IsNumber) (any_parens IsNumber (any_one number_in))))
+    (after_holds (fixed "set") (Made Set (InParens IsNumber)) Any (any_made Set (InParens IsNumber) (any_parens IsNumber (any_one number_in_token))))
 
 indexes_hold : Holds IsIndex Formed
 indexes_hold =
@@ -116,7 +116,7 @@ indexes_hold =
     (both_hold IsName (IsName & Kinds) Named Any names_hold
     (any_both IsName Kinds (any_holds IsName Named names_hold)
     (after_holds (key "TYPE") (IsKind & Granularity) Any
-    (any_both IsKind Granularity kinds_hold (any_maybe (key "GRANULARITY" ▹ IsNumber) (after_holds (key "GRANULARITY") IsNumber Any (any_one number_in))))))))
+    (any_both IsKind Granularity kinds_hold (any_maybe (key "GRANULARITY" ▹ IsNumber) (after_holds (key "GRANULARITY") IsNumber Any (any_one number_in_token))))))))
 
 -- ---- projections
 
@@ -157,8 +157,8 @@ projections_hold =
     let Keys : Phrase (Option (List (List ℕ)) × Option (List (List ℕ))) = IsGroup & IsOrder in
     let Body : Phrase (Selected × (Option (List (List ℕ)) × Option (List (List ℕ)))) = InParens (key "SELECT" ▹ (IsSelected name_of & Keys)) in
     let Both : Selected × (Option (List (List ℕ)) × Option (List (List ℕ))) → Type 0 = λ x. Any x.0 × (SomeGiven x.1.0 × SomeGiven x.1.1) in
-    after_holds (key "PROJECTION") (Made projection_of (IsName & Body)) Formed
-    (made_holds projection_of (IsName & Body) (λ x. Named x.0 × Both x.1) Formed
+    after_holds (key "PROJECTION") (Made projection_element_of (IsName & Body)) Formed
+    (made_holds projection_element_of (IsName & Body) (λ x. Named x.0 × Both x.1) Formed
     (λ x holds. both_of _ _ holds.0 (both_of _ _ holds.1.1.0 holds.1.1.1))
     (both_hold IsName Body Named Both names_hold
     (in_parens_holds (key "SELECT" ▹ (IsSelected name_of & Keys)) Both

@@ -15,8 +15,8 @@ use Rattle.mt_phrases.proofs.SelectionLaws.{selects_law}
 use Rattle.mt_phrases.proofs.TokenTests.{Apart, keys_apart, key_no_sign, sign_no_key, name_no_sign, after_begins, maybe_begins}
 use Rattle.mt_element_syntax.specs.declared.tree.Element.{Element}
 use Rattle.mt_element_syntax.specs.Grammar.{IsName, IsList, IsGroup, IsOrder, IsElement, IsElements}
-use Rattle.mt_element_syntax.specs.Trees.{projection_of}
-use Rattle.mt_element_syntax.specs.Reading.{group_at, order_at, selection_at, projection_at, element_at, elements_at}
+use Rattle.mt_element_syntax.specs.Trees.{projection_element_of}
+use Rattle.mt_element_syntax.specs.Reading.{group_at, order_at, selection_at, projection_element_at, element_at, element_list_at}
 use Rattle.mt_element_syntax.proofs.ElementLaws.{name_law, list_law, close_no_comma, close_no_open, comma_no_open, NoOpen, EndsColumn, NoGranularity, IsAnyColumn, column_law, IsIndexBody, index_law}
 
 -- ---- projections
@@ -58,12 +58,12 @@ selection_law =
 -- a projection behind PROJECTION
 abbrev pub IsProjectionBody : Phrase Element
 IsProjectionBody =
-    Made projection_of (IsName & InParens (is_keyword (codes "SELECT") ▹ (IsSelected name_of & IsGroup & IsOrder)))
+    Made projection_element_of (IsName & InParens (is_keyword (codes "SELECT") ▹ (IsSelected name_of & IsGroup & IsOrder)))
 
-pub projection_law : IsRead IsProjectionBody projection_at Any
-unfolding projection_at
+pub projection_law : IsRead IsProjectionBody projection_element_at Any
+unfolding projection_element_at
 projection_law =
-    made_law projection_of (then_law name_law (parens_law selection_law
+    made_law projection_element_of (then_law name_law (parens_law selection_law
     (λ token rest e. (close_no_comma token e, close_no_open token e, sign_no_key Close (codes "GROUP") token e, sign_no_key Close (codes "ORDER") token e))))
 
 -- ---- elements
@@ -151,7 +151,7 @@ sign_ends sign no_open token rest e = (
   sign_no_key sign (codes "GRANULARITY") token e,
 )
 
-pub elements_law : IsRead IsElements elements_at Any
+pub elements_law : IsRead IsElements element_list_at Any
 elements_law =
     parens_law (chain_law EndsElements element_law (λ token rest e. sign_ends Comma comma_no_open token rest e) (λ rest s. s))
     (λ token rest e. (close_no_comma token e, sign_ends Close close_no_open token rest e))

@@ -22,7 +22,7 @@ use Rattle.mt_element_syntax.specs.declared.tree.IndexKind.{IndexKind}
 use Rattle.mt_element_syntax.specs.declared.tree.IndexKind.TheVariants.{Minmax, Set}
 use Rattle.mt_element_syntax.specs.declared.tree.Element.{Element}
 use Rattle.mt_element_syntax.specs.Terminals.{word_of}
-use Rattle.mt_element_syntax.specs.Trees.{type_of, codec_of, column_of, index_of, projection_of}
+use Rattle.mt_element_syntax.specs.Trees.{type_of, codec_of, column_element_of, index_of, projection_element_of}
 
 -- ---- tokens
 
@@ -70,7 +70,7 @@ IsCodecs = key "CODEC" ▹ InParens (Chain IsCodec)
 abbrev pub IsColumn : Phrase Element
 IsColumn =
     NotWith (key "INDEX") (NotWith (key "PROJECTION")
-    (Made column_of (IsName & IsType MAX_TYPE_DEPTH & Perhaps (key "COMMENT" ∷ is_text ∷ []) (Maybe IsCodecs))))
+    (Made column_element_of (IsName & IsType MAX_TYPE_DEPTH & Perhaps (key "COMMENT" ∷ is_text ∷ []) (Maybe IsCodecs))))
 
 -- ---- indexes
 
@@ -99,7 +99,7 @@ IsOrder = Maybe (key "ORDER" ▹ key "BY" ▹ IsList)
 -- PROJECTION name ( SELECT (* | item {, item}) [GROUP BY list] [ORDER BY list] )
 abbrev pub IsProjection : Phrase Element
 IsProjection =
-    key "PROJECTION" ▹ Made projection_of (IsName &
+    key "PROJECTION" ▹ Made projection_element_of (IsName &
     InParens (key "SELECT" ▹ (IsSelected name_of & IsGroup & IsOrder)))
 
 -- ---- elements

@@ -6,7 +6,7 @@ use Rattle.mt_phrases.specs.declared.selection.Selected.{Selected}
 use Rattle.mt_phrases.specs.Phrases.{first_is, singleton}
 use Rattle.mt_phrases.specs.Selections.{selects_at}
 use Rattle.mt_phrases.specs.Terminals.{key, fixed, is_number, is_text, tree_if}
-use Rattle.mt_phrases.specs.Readers.{Reader, one, after, both, with_tree, either, either_if, maybe, perhaps, chain, to_close, in_parens, number_at, text_at}
+use Rattle.mt_phrases.specs.Readers.{Reader, one, after, both, with_tree, either, either_if, maybe, perhaps, chain, to_close, in_parens, number_at, text_token_at}
 use Rattle.mt_element_syntax.specs.declared.limits.TheConstants.{MAX_TYPE_DEPTH}
 use Rattle.mt_element_syntax.specs.declared.tree.TypeText.{TypeText}
 use Rattle.mt_element_syntax.specs.declared.tree.TypeArg.{TypeArg}
@@ -15,7 +15,7 @@ use Rattle.mt_element_syntax.specs.declared.tree.CodecText.{CodecText}
 use Rattle.mt_element_syntax.specs.declared.tree.IndexKind.{IndexKind}
 use Rattle.mt_element_syntax.specs.declared.tree.IndexKind.TheVariants.{Minmax, Set}
 use Rattle.mt_element_syntax.specs.declared.tree.Element.{Element}
-use Rattle.mt_element_syntax.specs.Trees.{type_of, codec_of, column_of, index_of, projection_of}
+use Rattle.mt_element_syntax.specs.Trees.{type_of, codec_of, column_element_of, index_of, projection_element_of}
 use Rattle.mt_element_syntax.specs.Terminals.{word_of}
 
 -- a name
@@ -31,8 +31,8 @@ abbrev pub names_at : Reader (List (List ℕ))
 names_at = chain name_at
 
 -- a list, with or without parentheses
-abbrev pub list_at : Reader (List (List ℕ))
-list_at = either (is_sign Open) (to_close names_at) names_at
+abbrev pub name_list_at : Reader (List (List ℕ))
+name_list_at = either (is_sign Open) (to_close names_at) names_at
 
 -- a key: names in parentheses, or one name
 abbrev pub key_at : Reader (List (List ℕ))
@@ -44,7 +44,7 @@ key_at = either (is_sign Open) (to_close names_at) (with_tree singleton name_at)
 abbrev pub arg_at : Reader TypeText → Reader TypeArg
 arg_at p =
     either_if (first_is is_number) (with_tree arg.Number number_at)
-    (either_if (first_is is_text) (with_tree arg.Text text_at) (with_tree arg.Type p))
+    (either_if (first_is is_text) (with_tree arg.Text text_token_at) (with_tree arg.Type p))
 
 -- a type, by what reads the types inside its parentheses
 abbrev pub nested_at : Reader TypeText → Reader TypeText
@@ -66,9 +66,9 @@ abbrev pub codecs_at : Reader (Option (List CodecText))
 codecs_at = maybe (key "CODEC") (in_parens (chain codec_at))
 
 -- a column
-unfoldable pub column_at : Reader Element
-column_at =
-    with_tree column_of (both name_at (both (type_at MAX_TYPE_DEPTH)
+unfoldable pub column_element_at : Reader Element
+column_element_at =
+    with_tree column_element_of (both name_at (both (type_at MAX_TYPE_DEPTH)
     (perhaps (key "COMMENT") (is_text ∷ []) codecs_at)))
 
 -- ---- indexes
@@ -93,20 +93,20 @@ index_at =
 
 -- the names of GROUP BY, where it is given
 abbrev pub group_at : Reader (Option (List (List ℕ)))
-group_at = maybe (key "GROUP") (after (key "BY") list_at)
+group_at = maybe (key "GROUP") (after (key "BY") name_list_at)
 
 -- the names of ORDER BY, where it is given
 abbrev pub order_at : Reader (Option (List (List ℕ)))
-order_at = maybe (key "ORDER") (after (key "BY") list_at)
+order_at = maybe (key "ORDER") (after (key "BY") name_list_at)
 
 -- SELECT and what follows it
 abbrev pub selection_at : Reader (Selected × (Option (List (List ℕ)) × Option (List (List ℕ))))
 selection_at = after (key "SELECT") (both (selects_at name_of) (both group_at order_at))
 
 -- a projection behind PROJECTION
-unfoldable pub projection_at : Reader Element
-projection_at =
-    with_tree projection_of (both name_at
+unfoldable pub projection_element_at : Reader Element
+projection_element_at =
+    with_tree projection_element_of (both name_at
     (in_parens selection_at))
 
 -- ---- elements
@@ -115,8 +115,8 @@ projection_at =
 unfoldable pub element_at : Reader Element
 element_at =
     either (key "INDEX") index_at
-    (either (key "PROJECTION") projection_at column_at)
+    (either (key "PROJECTION") projection_element_at column_element_at)
 
 -- elements in parentheses
-abbrev pub elements_at : Reader (List Element)
-elements_at = in_parens (chain element_at)
+abbrev pub element_list_at : Reader (List Element)
+element_list_at = in_parens (chain element_at)

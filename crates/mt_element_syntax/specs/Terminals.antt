@@ -10,5 +10,5 @@ word_of (Word bytes) = Some bytes
 word_of _ = None
 
 -- a token is a name
-abbrev pub is_name : Tok → Bool
-is_name = is_name_by Any
+abbrev pub is_name_token : Tok → Bool
+is_name_token = is_name_by Any

@@ -17,18 +17,18 @@ abbrev pub codec_of : List ℕ × Option ℕ → CodecText
 codec_of x = record { word = x.0; has_number = is_some x.1 }
 
 -- a column of its name, its type and its codecs
-abbrev pub column_of : List ℕ × (TypeText × Option (List CodecText)) → Element
-column_of x = element.Column x.0 x.1.0 x.1.1
+abbrev pub column_element_of : List ℕ × (TypeText × Option (List CodecText)) → Element
+column_element_of x = element.Column x.0 x.1.0 x.1.1
 
 -- an index of its name, its column, its kind and its granularity, 1 where it isn't given
 abbrev pub index_of : List ℕ × (List ℕ × (IndexKind × Option ℕ)) → Element
 index_of x = element.Index x.0 x.1.0 x.1.1.0 (unwrap_or x.1.1.1 1)
 
 -- a projection of its name, its items, GROUP BY and ORDER BY
-abbrev pub projection_of : List ℕ × (Selected × (Option (List (List ℕ)) × Option (List (List ℕ)))) → Element
-projection_of x = element.Projection x.0 x.1.0 x.1.1.0 x.1.1.1
+abbrev pub projection_element_of : List ℕ × (Selected × (Option (List (List ℕ)) × Option (List (List ℕ)))) → Element
+projection_element_of x = element.Projection x.0 x.1.0 x.1.1.0 x.1.1.1
 
 -- an element is a column
-abbrev pub is_column : Element → Bool
-is_column (element.Column name ty codecs) = true
-is_column _ = false
+abbrev pub is_column_element : Element → Bool
+is_column_element (element.Column name ty codecs) = true
+is_column_element _ = false

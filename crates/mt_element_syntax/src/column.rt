@@ -5,8 +5,8 @@ ghost use Rattle.mt_tokens.specs.Tokens.{plains};
 ghost use Rattle.mt_tokens.specs.Words.{is_keyword};
 ghost use Rattle.mt_phrases.specs.Terminals.{is_text};
 ghost use Rattle.mt_phrases.specs.Readers.{chain, in_parens, skip};
-ghost use Rattle.mt_phrases.specs.Answers.{Gives};
-ghost use Rattle.mt_element_syntax.specs.Reading.{codec_at, codecs_at, column_at};
+ghost use Rattle.mt_phrases.specs.Answers.{GivesPhrase};
+ghost use Rattle.mt_element_syntax.specs.Reading.{codec_at, codecs_at, column_element_at};
 
 use crate::limits::MAX_TYPE_DEPTH;
 use crate::token::{any_text, word};
@@ -18,12 +18,12 @@ use mt_types::List;
 use std::alloc::Global;
 
 /// A column.
-#[tactic(auto, unfolding(crate::specs::Reading::column_at))]
+#[tactic(auto, unfolding(crate::specs::Reading::column_element_at))]
 pub(crate) fn column<'a, 't>(
     alloc: Global,
     tokens: &'t [Token<'a>],
 ) -> Result<(Element, &'t [Token<'a>]), SyntaxError>
-    ensures { Gives (λ x. (x.0, plains x.1.now)) result (column_at (plains tokens.now)) }
+    ensures { GivesPhrase (λ x. (x.0, plains x.1.now)) result (column_element_at (plains tokens.now)) }
 {
     let (name, rest) = name(NameRule::Any, alloc, tokens)?;
     let (ty, rest) = type_text(alloc, rest, MAX_TYPE_DEPTH)?;
@@ -34,7 +34,7 @@ pub(crate) fn column<'a, 't>(
 
 /// What follows `COMMENT text`, where it is given.
 pub fn skip_comment<'a, 't>(tokens: &'t [Token<'a>]) -> Result<&'t [Token<'a>], SyntaxError>
-    ensures { Gives (λ x. plains x.now) result
+    ensures { GivesPhrase (λ x. plains x.now) result
         (skip (is_keyword (codes "COMMENT")) (is_text ∷ []) (plains tokens.now)) }
 {
     match after_keyword(tokens, b"COMMENT") {
@@ -48,7 +48,7 @@ fn codecs<'a, 't>(
     alloc: Global,
     tokens: &'t [Token<'a>],
 ) -> Result<(Option<List<CodecText>>, &'t [Token<'a>]), SyntaxError>
-    ensures { Gives (λ x. (x.0, plains x.1.now)) result (codecs_at (plains tokens.now)) }
+    ensures { GivesPhrase (λ x. (x.0, plains x.1.now)) result (codecs_at (plains tokens.now)) }
 {
     match after_keyword(tokens, b"CODEC") {
         Some(after) => {
@@ -64,7 +64,7 @@ fn codec_list<'a, 't>(
     alloc: Global,
     tokens: &'t [Token<'a>],
 ) -> Result<(List<CodecText>, &'t [Token<'a>]), SyntaxError>
-    ensures { Gives (λ x. (x.0, plains x.1.now)) result (in_parens (chain codec_at) (plains tokens.now)) }
+    ensures { GivesPhrase (λ x. (x.0, plains x.1.now)) result (in_parens (chain codec_at) (plains tokens.now)) }
 {
     let rest = sign(tokens, Sign::Open)?;
     let (codecs, rest) = codec_items(alloc, rest)?;
@@ -77,7 +77,7 @@ fn codec_items<'a, 't>(
     alloc: Global,
     tokens: &'t [Token<'a>],
 ) -> Result<(List<CodecText>, &'t [Token<'a>]), SyntaxError>
-    ensures { Gives (λ x. (x.0, plains x.1.now)) result (chain codec_at (plains tokens.now)) }
+    ensures { GivesPhrase (λ x. (x.0, plains x.1.now)) result (chain codec_at (plains tokens.now)) }
 {
     let (first, mut rest) = codec(alloc, tokens)?;
     let mut codecs = List::new(alloc);
@@ -98,7 +98,7 @@ fn codec<'a, 't>(
     alloc: Global,
     tokens: &'t [Token<'a>],
 ) -> Result<(CodecText, &'t [Token<'a>]), SyntaxError>
-    ensures { Gives (λ x. (x.0, plains x.1.now)) result (codec_at (plains tokens.now)) }
+    ensures { GivesPhrase (λ x. (x.0, plains x.1.now)) result (codec_at (plains tokens.now)) }
 {
     let (word, rest) = word(alloc, tokens)?;
     match after_sign(rest, Sign::Open) {

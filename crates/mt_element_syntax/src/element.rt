@@ -2,8 +2,8 @@
 
 ghost use Rattle.mt_tokens.specs.Tokens.{plains};
 ghost use Rattle.mt_phrases.specs.Readers.{chain};
-ghost use Rattle.mt_phrases.specs.Answers.{Gives};
-ghost use Rattle.mt_element_syntax.specs.Reading.{element_at, elements_at};
+ghost use Rattle.mt_phrases.specs.Answers.{GivesPhrase};
+ghost use Rattle.mt_element_syntax.specs.Reading.{element_at, element_list_at};
 
 use crate::column::column;
 use crate::index::index;
@@ -19,7 +19,7 @@ pub fn elements<'a, 't>(
     alloc: Global,
     tokens: &'t [Token<'a>],
 ) -> Result<(List<Element>, &'t [Token<'a>]), SyntaxError>
-    ensures { Gives (λ x. (x.0, plains x.1.now)) result (elements_at (plains tokens.now)) }
+    ensures { GivesPhrase (λ x. (x.0, plains x.1.now)) result (element_list_at (plains tokens.now)) }
 {
     let rest = sign(tokens, Sign::Open)?;
     let (elements, rest) = element_list(alloc, rest)?;
@@ -32,7 +32,7 @@ fn element_list<'a, 't>(
     alloc: Global,
     tokens: &'t [Token<'a>],
 ) -> Result<(List<Element>, &'t [Token<'a>]), SyntaxError>
-    ensures { Gives (λ x. (x.0, plains x.1.now)) result (chain element_at (plains tokens.now)) }
+    ensures { GivesPhrase (λ x. (x.0, plains x.1.now)) result (chain element_at (plains tokens.now)) }
 {
     let (first, mut rest) = element(alloc, tokens)?;
     let mut elements = List::new(alloc);
@@ -54,7 +54,7 @@ fn element<'a, 't>(
     alloc: Global,
     tokens: &'t [Token<'a>],
 ) -> Result<(Element, &'t [Token<'a>]), SyntaxError>
-    ensures { Gives (λ x. (x.0, plains x.1.now)) result (element_at (plains tokens.now)) }
+    ensures { GivesPhrase (λ x. (x.0, plains x.1.now)) result (element_at (plains tokens.now)) }
 {
     if let Some(after) = after_keyword(tokens, b"INDEX") {
         return index(alloc, after);

@@ -1,7 +1,7 @@
 //! Skip indexes.
 
 ghost use Rattle.mt_tokens.specs.Tokens.{plains};
-ghost use Rattle.mt_phrases.specs.Answers.{Gives};
+ghost use Rattle.mt_phrases.specs.Answers.{GivesPhrase};
 ghost use Rattle.mt_element_syntax.specs.Reading.{granularity_at, index_at, kind_at};
 
 use crate::tree::{Element, IndexKind};
@@ -17,7 +17,7 @@ pub(crate) fn index<'a, 't>(
     alloc: Global,
     tokens: &'t [Token<'a>],
 ) -> Result<(Element, &'t [Token<'a>]), SyntaxError>
-    ensures { Gives (λ x. (x.0, plains x.1.now)) result (index_at (plains tokens.now)) }
+    ensures { GivesPhrase (λ x. (x.0, plains x.1.now)) result (index_at (plains tokens.now)) }
 {
     let (name_, rest) = name(NameRule::Any, alloc, tokens)?;
     let (column, rest) = name(NameRule::Any, alloc, rest)?;
@@ -38,7 +38,7 @@ pub(crate) fn index<'a, 't>(
 
 /// `minmax` or `set(N)`.
 fn kind<'a, 't>(tokens: &'t [Token<'a>]) -> Result<(IndexKind, &'t [Token<'a>]), SyntaxError>
-    ensures { Gives (λ x. (x.0, plains x.1.now)) result (kind_at (plains tokens.now)) }
+    ensures { GivesPhrase (λ x. (x.0, plains x.1.now)) result (kind_at (plains tokens.now)) }
 {
     if begins_with_word(tokens, b"minmax") {
         let rest = fixed_word(tokens, b"minmax")?;
@@ -55,7 +55,7 @@ fn kind<'a, 't>(tokens: &'t [Token<'a>]) -> Result<(IndexKind, &'t [Token<'a>]),
 fn granularity<'a, 't>(
     tokens: &'t [Token<'a>],
 ) -> Result<(Option<u64>, &'t [Token<'a>]), SyntaxError>
-    ensures { Gives (λ x. (x.0, plains x.1.now)) result (granularity_at (plains tokens.now)) }
+    ensures { GivesPhrase (λ x. (x.0, plains x.1.now)) result (granularity_at (plains tokens.now)) }
 {
     match after_keyword(tokens, b"GRANULARITY") {
         Some(after) => {

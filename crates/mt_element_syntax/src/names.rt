@@ -2,8 +2,8 @@
 
 ghost use Rattle.mt_tokens.specs.Tokens.{plains};
 ghost use Rattle.mt_phrases.specs.Readers.{to_close};
-ghost use Rattle.mt_phrases.specs.Answers.{Gives};
-ghost use Rattle.mt_element_syntax.specs.Reading.{names_at, list_at, key_at};
+ghost use Rattle.mt_phrases.specs.Answers.{GivesPhrase};
+ghost use Rattle.mt_element_syntax.specs.Reading.{names_at, name_list_at, key_at};
 
 use mt_phrases::{NameRule, SyntaxError, name, names, sign, singleton};
 use mt_tokens::{Sign, Token, after_sign};
@@ -15,7 +15,7 @@ fn closed_names<'a, 't>(
     alloc: Global,
     tokens: &'t [Token<'a>],
 ) -> Result<(List<List<u8>>, &'t [Token<'a>]), SyntaxError>
-    ensures { Gives (λ x. (x.0, plains x.1.now)) result (to_close names_at (plains tokens.now)) }
+    ensures { GivesPhrase (λ x. (x.0, plains x.1.now)) result (to_close names_at (plains tokens.now)) }
 {
     let (names, rest) = names(NameRule::Any, alloc, tokens)?;
     let rest = sign(rest, Sign::Close)?;
@@ -27,7 +27,7 @@ pub(crate) fn list<'a, 't>(
     alloc: Global,
     tokens: &'t [Token<'a>],
 ) -> Result<(List<List<u8>>, &'t [Token<'a>]), SyntaxError>
-    ensures { Gives (λ x. (x.0, plains x.1.now)) result (list_at (plains tokens.now)) }
+    ensures { GivesPhrase (λ x. (x.0, plains x.1.now)) result (name_list_at (plains tokens.now)) }
 {
     match after_sign(tokens, Sign::Open) {
         Some(inner) => closed_names(alloc, inner),
@@ -40,7 +40,7 @@ pub fn key<'a, 't>(
     alloc: Global,
     tokens: &'t [Token<'a>],
 ) -> Result<(List<List<u8>>, &'t [Token<'a>]), SyntaxError>
-    ensures { Gives (λ x. (x.0, plains x.1.now)) result (key_at (plains tokens.now)) }
+    ensures { GivesPhrase (λ x. (x.0, plains x.1.now)) result (key_at (plains tokens.now)) }
 {
     match after_sign(tokens, Sign::Open) {
         Some(inner) => closed_names(alloc, inner),

@@ -1,8 +1,8 @@
 //! Projections.
 
 ghost use Rattle.mt_tokens.specs.Tokens.{plains};
-ghost use Rattle.mt_phrases.specs.Answers.{Gives};
-ghost use Rattle.mt_element_syntax.specs.Reading.{group_at, order_at, projection_at, selection_at};
+ghost use Rattle.mt_phrases.specs.Answers.{GivesPhrase};
+ghost use Rattle.mt_element_syntax.specs.Reading.{group_at, order_at, projection_element_at, selection_at};
 
 use crate::names::list;
 use crate::tree::Element;
@@ -23,12 +23,12 @@ struct SelectText {
 }
 
 /// A projection, behind PROJECTION.
-#[tactic(auto, unfolding(crate::specs::Reading::projection_at))]
+#[tactic(auto, unfolding(crate::specs::Reading::projection_element_at))]
 pub(crate) fn projection<'a, 't>(
     alloc: Global,
     tokens: &'t [Token<'a>],
 ) -> Result<(Element, &'t [Token<'a>]), SyntaxError>
-    ensures { Gives (λ x. (x.0, plains x.1.now)) result (projection_at (plains tokens.now)) }
+    ensures { GivesPhrase (λ x. (x.0, plains x.1.now)) result (projection_element_at (plains tokens.now)) }
 {
     let (name, rest) = name(NameRule::Any, alloc, tokens)?;
     let rest = sign(rest, Sign::Open)?;
@@ -55,7 +55,7 @@ fn selecting<'a, 't>(
     alloc: Global,
     tokens: &'t [Token<'a>],
 ) -> Result<(SelectText, &'t [Token<'a>]), SyntaxError>
-    ensures { Gives (λ x. ((x.0.items, (x.0.group, x.0.order)), plains x.1.now)) result (selection_at (plains tokens.now)) }
+    ensures { GivesPhrase (λ x. ((x.0.items, (x.0.group, x.0.order)), plains x.1.now)) result (selection_at (plains tokens.now)) }
 {
     let rest = keyword(tokens, b"SELECT")?;
     let (items, rest) = selects(NameRule::Any, alloc, rest)?;
@@ -76,7 +76,7 @@ fn group<'a, 't>(
     alloc: Global,
     tokens: &'t [Token<'a>],
 ) -> Result<(Option<List<List<u8>>>, &'t [Token<'a>]), SyntaxError>
-    ensures { Gives (λ x. (x.0, plains x.1.now)) result (group_at (plains tokens.now)) }
+    ensures { GivesPhrase (λ x. (x.0, plains x.1.now)) result (group_at (plains tokens.now)) }
 {
     match after_keyword(tokens, b"GROUP") {
         Some(after) => {
@@ -93,7 +93,7 @@ fn order<'a, 't>(
     alloc: Global,
     tokens: &'t [Token<'a>],
 ) -> Result<(Option<List<List<u8>>>, &'t [Token<'a>]), SyntaxError>
-    ensures { Gives (λ x. (x.0, plains x.1.now)) result (order_at (plains tokens.now)) }
+    ensures { GivesPhrase (λ x. (x.0, plains x.1.now)) result (order_at (plains tokens.now)) }
 {
     match after_keyword(tokens, b"ORDER") {
         Some(after) => {

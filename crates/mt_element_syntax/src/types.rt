@@ -2,7 +2,7 @@
 
 ghost use Rattle.mt_tokens.specs.Tokens.{plains};
 ghost use Rattle.mt_phrases.specs.Readers.{chain, to_close};
-ghost use Rattle.mt_phrases.specs.Answers.{Gives};
+ghost use Rattle.mt_phrases.specs.Answers.{GivesPhrase};
 ghost use Rattle.mt_element_syntax.specs.Reading.{arg_at, nested_at, type_at};
 
 use crate::token::word;
@@ -20,7 +20,7 @@ pub(crate) fn type_text<'a, 't>(
     tokens: &'t [Token<'a>],
     depth: u8,
 ) -> Result<(TypeText, &'t [Token<'a>]), SyntaxError>
-    ensures { Gives (λ x. (x.0, plains x.1.now)) result (type_at depth (plains tokens.now)) }
+    ensures { GivesPhrase (λ x. (x.0, plains x.1.now)) result (type_at depth (plains tokens.now)) }
 {
     if depth == 0 {
         let (word, rest) = word(alloc, tokens)?;
@@ -37,7 +37,7 @@ fn nested_type<'a, 't>(
     tokens: &'t [Token<'a>],
     depth: u8,
 ) -> Result<(TypeText, &'t [Token<'a>]), SyntaxError>
-    ensures { Gives (λ x. (x.0, plains x.1.now)) result (nested_at (type_at depth) (plains tokens.now)) }
+    ensures { GivesPhrase (λ x. (x.0, plains x.1.now)) result (nested_at (type_at depth) (plains tokens.now)) }
 {
     let (word, rest) = word(alloc, tokens)?;
     match after_sign(rest, Sign::Open) {
@@ -59,7 +59,7 @@ fn closed_args<'a, 't>(
     tokens: &'t [Token<'a>],
     depth: u8,
 ) -> Result<(List<TypeArg>, &'t [Token<'a>]), SyntaxError>
-    ensures { Gives (λ x. (x.0, plains x.1.now)) result (to_close (chain (arg_at (type_at depth))) (plains tokens.now)) }
+    ensures { GivesPhrase (λ x. (x.0, plains x.1.now)) result (to_close (chain (arg_at (type_at depth))) (plains tokens.now)) }
 {
     let (args, rest) = args(alloc, tokens, depth)?;
     let rest = sign(rest, Sign::Close)?;
@@ -73,7 +73,7 @@ fn args<'a, 't>(
     tokens: &'t [Token<'a>],
     depth: u8,
 ) -> Result<(List<TypeArg>, &'t [Token<'a>]), SyntaxError>
-    ensures { Gives (λ x. (x.0, plains x.1.now)) result (chain (arg_at (type_at depth)) (plains tokens.now)) }
+    ensures { GivesPhrase (λ x. (x.0, plains x.1.now)) result (chain (arg_at (type_at depth)) (plains tokens.now)) }
 {
     let (first, mut rest) = arg(alloc, tokens, depth)?;
     let mut args = List::new(alloc);
@@ -96,7 +96,7 @@ fn arg<'a, 't>(
     tokens: &'t [Token<'a>],
     depth: u8,
 ) -> Result<(TypeArg, &'t [Token<'a>]), SyntaxError>
-    ensures { Gives (λ x. (x.0, plains x.1.now)) result (arg_at (type_at depth) (plains tokens.now)) }
+    ensures { GivesPhrase (λ x. (x.0, plains x.1.now)) result (arg_at (type_at depth) (plains tokens.now)) }
 {
     if begins_with_digits(tokens) {
         let (number, rest) = number(tokens)?;

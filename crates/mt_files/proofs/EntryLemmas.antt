@@ -15,20 +15,20 @@ use Rattle.mt_frame.specs.FrameReading.{frames_reading, layout}
 use Rattle.mt_fault.specs.Faults.{blame}
 use Rattle.mt_granules.specs.FileFaults.{file_reading, frame_fault}
 use Rattle.mt_fault.specs.Results.{FailsAs}
-use Rattle.mt_files.specs.SkipMarks.{blocks_reading, index_entries, marks_reading, pieces_at, positions_reading}
+use Rattle.mt_files.specs.SkipMarks.{blocks_reading, index_entries, skip_marks_reading, pieces_at, positions_reading}
 use Rattle.mt_fault.proofs.FaultLemmas.{fails_then}
 
 abbrev Entries : Type 0
 Entries = Result (List (List ℕ)) Fault
 
-abbrev positions_of : List ℕ → ℕ → List Block → List Mark → Result (List ℕ) Fault
+abbrev pub positions_of : List ℕ → ℕ → List Block → List Mark → Result (List ℕ) Fault
 positions_of file per blocks marks = positions_reading file per (length (file_of blocks)) (layout blocks) 0 None marks
 
 abbrev after_marks : List ℕ → ℕ → List Block → List Mark → Entries
 after_marks file per blocks marks = positions_of file per blocks marks >>= λ positions. Ok (pieces_at (payload_of blocks) positions)
 
 abbrev after_bytes : List ℕ → ℕ → ℕ → List Block → List ℕ → Entries
-after_bytes file per count blocks bytes = marks_reading file count bytes >>= after_marks file per blocks
+after_bytes file per count blocks bytes = skip_marks_reading file count bytes >>= after_marks file per blocks
 
 abbrev after_blocks : Folder → List ℕ → ℕ → ℕ → List Block → Entries
 after_blocks folder file per count blocks = file_reading folder file >>= after_bytes file per count blocks
@@ -85,15 +85,15 @@ module _ (folder : Folder) (ending : List ℕ) (skip : Skip) (count : ℕ) where
       behind_blocks name again bytes blocks named is same reads
       ∙ then_of (file_reading folder marks_file) marks (after_bytes marks_file skip.granularity count blocks) (ap (file_reading folder) (sym marked) ∙ there)
 
-  pub marks_fail : (bytes name : List ℕ) (blocks : List Block) (e : FileError) → whole ≡ after_bytes marks_file skip.granularity count blocks bytes → name ≡ marks_file → FailsAs e (marks_reading name count bytes) → FailsAs e whole
+  pub marks_fail : (bytes name : List ℕ) (blocks : List Block) (e : FileError) → whole ≡ after_bytes marks_file skip.granularity count blocks bytes → name ≡ marks_file → FailsAs e (skip_marks_reading name count bytes) → FailsAs e whole
   marks_fail bytes name blocks e ahead named fails =
       subst (FailsAs e) (sym ahead)
-      (fails_then e (marks_reading marks_file count bytes) (after_marks marks_file skip.granularity blocks) (subst (λ (n : List ℕ). FailsAs e (marks_reading n count bytes)) named fails))
+      (fails_then e (skip_marks_reading marks_file count bytes) (after_marks marks_file skip.granularity blocks) (subst (λ (n : List ℕ). FailsAs e (skip_marks_reading n count bytes)) named fails))
 
-  pub behind_marks : (bytes name : List ℕ) (blocks : List Block) (marks : List Mark) → whole ≡ after_bytes marks_file skip.granularity count blocks bytes → name ≡ marks_file → marks_reading name count bytes ≡ Ok marks
+  pub behind_marks : (bytes name : List ℕ) (blocks : List Block) (marks : List Mark) → whole ≡ after_bytes marks_file skip.granularity count blocks bytes → name ≡ marks_file → skip_marks_reading name count bytes ≡ Ok marks
       → whole ≡ after_marks marks_file skip.granularity blocks marks
   behind_marks bytes name blocks marks ahead named reads =
-      ahead ∙ then_of (marks_reading marks_file count bytes) marks (after_marks marks_file skip.granularity blocks) (ap (λ (n : List ℕ). marks_reading n count bytes) (sym named) ∙ reads)
+      ahead ∙ then_of (skip_marks_reading marks_file count bytes) marks (after_marks marks_file skip.granularity blocks) (ap (λ (n : List ℕ). skip_marks_reading n count bytes) (sym named) ∙ reads)
 
   positions_are : (file data_bytes : List ℕ) (end : ℕ) (frames : List Frame) (blocks : List Block) (marks items : List Mark) → file ≡ marks_file → IsFileOf blocks data_bytes → frames ≡ layout blocks → end ≡ length data_bytes → items ≡ marks
       → positions_reading file skip.granularity end frames 0 None items ≡ positions_of marks_file skip.granularity blocks marks

@@ -1,23 +1,16 @@
 -- Files by their names, and the files of a partition.
-use Rattle.std.proofs.Common.{◌≡◌, ℕ, zero, suc, ◌+◌, ◌<◌, ◌≤◌, true, false, List, [], ◌∷◌, length, drop, refl, ap, sym, ◌∙◌, arith, get_or, inl, inr}
+use Rattle.std.proofs.Common.{◌≡◌, ℕ, zero, suc, ◌+◌, ◌<◌, ◌≤◌, false, List, [], ◌∷◌, length, drop, refl, ap, sym, ◌∙◌, arith, get_or, inl, inr}
 use Rattle.std.specs.Prelude.{Option, Some, None, if◌then◌else◌}
 use Rattle.std.proofs.lemmas.Bool.{cases_Bool}
-use Rattle.std.proofs.lemmas.Map.Text.{is_eq-slice_cmp}
-use Rattle.std.proofs.lemmas.Slice.Eq.{bytes_eq-Decides}
 use Rattle.mt_fault.specs.declared.file.FileBytes.{FileBytes}
-use Rattle.mt_defs.specs.Folder.{folder_of, is_name}
+use Rattle.mt_defs.specs.Folder.{folder_of, names_agree}
+use Rattle.mt_defs.proofs.NameLemmas.{name_is, same_name}
 
 -- ---- names
 
-pub name_is : (a b : List ℕ) → is_name a b ≡ true → a ≡ b
-name_is a b e = (bytes_eq-Decides a b).0 (sym (is_eq-slice_cmp a b) ∙ e)
-
-pub same_name : (a b : List ℕ) → a ≡ b → is_name a b ≡ true
-same_name a b e = is_eq-slice_cmp a b ∙ (bytes_eq-Decides a b).1 e
-
-pub other_name : (a b : List ℕ) → (a ≡ b → ⊥) → is_name a b ≡ false
+pub other_name : (a b : List ℕ) → (a ≡ b → ⊥) → names_agree a b ≡ false
 other_name a b differ =
-    elim (cases_Bool (is_name a b)) [
+    elim (cases_Bool (names_agree a b)) [
       | inl same ↦ absurd (differ (name_is a b same))
       | inr other ↦ other
     ]

@@ -1,14 +1,15 @@
 -- The payload of a file, frame by frame.
 use Rattle.std.proofs.Common.{◌≡◌, ℕ, zero, suc, ◌+◌, ◌<◌, ◌≤◌, List, [], ◌∷◌, ◌++◌, length, take, drop, refl, ap, sym, subst, ◌∙◌, get_or, arith}
 use Rattle.std.specs.Prelude.{Ok}
-use Rattle.std.proofs.lemmas.List.{append-nil, take_more, take_all, length-take-le, length-drop}
+use Rattle.std.proofs.lemmas.List.{append-nil, take_more, take_all, length-take-le, length-drop, get_or_default}
 use Rattle.std.proofs.lemmas.List.Concat.{flat_map-append, flat_map-cons}
 use Rattle.std.proofs.lemmas.List.Elements.{All-get_or}
+use Rattle.mt_facts.proofs.Lists.{drop_next}
 use Rattle.mt_defs.specs.declared.frame.Frame.{Frame}
 use Rattle.mt_defs.specs.Frames.{Block, IsBlock, IsFileOf, block_bytes, file_of, payload_of}
 use Rattle.mt_frame.specs.FrameReading.{frames_reading, layout, layout_from, u32_at}
 use Rattle.mt_frame.proofs.BlockLemmas.{frame_complete, frames_complete, header_facts}
-use Rattle.mt_files.proofs.LoopLemmas.{at_index, drop_drop, same_default}
+use Rattle.mt_files.proofs.LoopLemmas.{drop_drop}
 
 -- a frame at the front is cut off by its payload's length
 pub record IsCut (bytes : List ℕ) (block : Block) (rest : List ℕ) : Type 0 where
@@ -62,13 +63,13 @@ next_frame file frames items blocks i rest d is laid same left inside =
     let within : i < length blocks = omega (arith, inside, ap length (same ∙ laid), length-layout 0 blocks) in
     let block = get_or blocks i (record { checksum = []; payload = [] }) in
     let is_block : IsBlock block = All-get_or IsBlock blocks i (record { checksum = []; payload = [] }) within is.each in
-    let self : block ≡ get_or blocks i block = same_default blocks i (record { checksum = []; payload = [] }) block within in
+    let self : block ≡ get_or blocks i block = get_or_default blocks i (record { checksum = []; payload = [] }) block within in
     record {
       block = block;
       there = self;
       inside = within;
       size = ap (λ (fs : List Frame). (get_or fs i d).payload) (same ∙ laid) ∙ layout_at 0 blocks i d (record { checksum = []; payload = [] }) within;
-      cut = subst (λ (bytes : List ℕ). IsCut bytes block (file_of (drop (i + 1) blocks))) (sym (left ∙ ap file_of (at_index blocks i block within self) ∙ flat_map-cons block_bytes block (drop (i + 1) blocks))) (block_cut block (file_of (drop (i + 1) blocks)) is_block);
+      cut = subst (λ (bytes : List ℕ). IsCut bytes block (file_of (drop (i + 1) blocks))) (sym (left ∙ ap file_of (drop_next blocks i block within self) ∙ flat_map-cons block_bytes block (drop (i + 1) blocks))) (block_cut block (file_of (drop (i + 1) blocks)) is_block);
     }
 
 pub payload_more : (blocks : List Block) (i : ℕ) (rest : List ℕ) (n : ℕ) (payload new piece : List ℕ) → IsNext blocks i rest n → payload ≡ payload_of (take i blocks) → piece ≡ take n (drop 25 rest) → new ≡ payload ++ piece → new ≡ payload_of (take (i + 1) blocks)

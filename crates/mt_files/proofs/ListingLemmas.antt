@@ -10,34 +10,29 @@ use Rattle.std.specs.declared.cmp.Ordering.TheVariants.{Less, Equal, Greater}
 use Rattle.std.specs.FinMap.{entries, find, get-entries, is_sorted}
 use Rattle.std.specs.FinMap.Entries.{below_all}
 use Rattle.std.proofs.lemmas.Cmp.{nat_list_cmp_total}
+use Rattle.mt_facts.proofs.Orderings.{less_from}
+use Rattle.std.proofs.lemmas.List.{get_or_default}
 use Rattle.mt_types.proofs.StepLemmas.{both_true}
 use Rattle.mt_shelf.specs.declared.file.Entry.{Entry}
 use Rattle.mt_shelf.specs.Files.{Files, entries_below, entry_of, is_file_name}
 use Rattle.mt_shelf.specs.Paths.{joined_path, name_below}
 use Rattle.mt_shelf.proofs.Puts.{below_joined, joined_below}
+use Rattle.mt_shelf.proofs.Listings.{Pair}
 use Rattle.mt_defs.specs.Compact.{compact_marks_name}
-use Rattle.mt_defs.specs.Folder.{folder_below, is_name}
+use Rattle.mt_defs.specs.Folder.{folder_below, names_agree}
 use Rattle.mt_defs.specs.Part.{is_compact}
+use Rattle.mt_defs.proofs.NameLemmas.{name_is, same_name}
 use Rattle.mt_files.specs.Listings.{listed_folder, size_in}
 use Rattle.mt_files.specs.NamedFiles.{part_folder}
-use Rattle.mt_files.proofs.FileLemmas.{name_is, other_name, same_name}
-use Rattle.mt_files.proofs.LoopLemmas.{same_default}
+use Rattle.mt_files.proofs.FileLemmas.{other_name}
 
 -- ---- names that rise
 
 abbrev pub cmp : List ℕ → List ℕ → Ordering
 cmp a b = slice_cmp nat_cmp a b
 
-abbrev Pair : Type 0
-Pair = List ℕ × List ℕ
-
 abbrev keyed : Entry → List ℕ × ℕ
 keyed entry = (entry.name, entry.size)
-
-less_from : (o : Ordering) → is_lt o ≡ true → o ≡ Less
-less_from Less e = refl
-less_from Equal e = cc
-less_from Greater e = cc
 
 below_at : (name : List ℕ) (es : List Entry) (j : ℕ) (d : Entry) → below_all (slice_cmp nat_cmp) name (map keyed es) ≡ true → j < length es → cmp name (get_or es j d).name ≡ Less
 below_at name [] j d all inside = absurd (omega (arith, inside))
@@ -52,11 +47,11 @@ rises (x ∷ es) (suc i) (suc j) d e sorted less inside = rises es i j d e (both
 
 -- ---- the search
 
-none_in : (es : List Entry) (name : List ℕ) → ((i : ℕ) (d : Entry) → i < length es → is_name (get_or es i d).name name ≡ false) → size_in es name ≡ None
+none_in : (es : List Entry) (name : List ℕ) → ((i : ℕ) (d : Entry) → i < length es → names_agree (get_or es i d).name name ≡ false) → size_in es name ≡ None
 none_in [] name differ = refl
 none_in (e ∷ es) name differ = ap (λ b. if b then Some e.size else size_in es name) (differ 0 e (omega arith)) ∙ none_in es name (λ i d inside. differ (suc i) d (omega (arith, inside)))
 
-found_in : (es : List Entry) (name : List ℕ) (k : ℕ) (d : Entry) → k < length es → is_name (get_or es k d).name name ≡ true → ((i : ℕ) (d : Entry) → i < k → is_name (get_or es i d).name name ≡ false) → size_in es name ≡ Some (get_or es k d).size
+found_in : (es : List Entry) (name : List ℕ) (k : ℕ) (d : Entry) → k < length es → names_agree (get_or es k d).name name ≡ true → ((i : ℕ) (d : Entry) → i < k → names_agree (get_or es i d).name name ≡ false) → size_in es name ≡ Some (get_or es k d).size
 found_in [] name k d inside same before = absurd (omega (arith, inside))
 found_in (e ∷ es) name zero d inside same before = ap (λ b. if b then Some e.size else size_in es name) same
 found_in (e ∷ es) name (suc k) d inside same before =
@@ -80,7 +75,7 @@ all_left es name high is = record {
 pub none_left : (es : List Entry) (name : List ℕ) (low high : ℕ) → Narrowed es name low high → high ≤ low → size_in es name ≡ None
 none_left es name low high n over = none_in es name (λ i d inside. by_side i d inside (nat_lt i low) refl)
   where
-    by_side : (i : ℕ) (d : Entry) → i < length es → (b : Bool) → nat_lt i low ≡ b → is_name (get_or es i d).name name ≡ false
+    by_side : (i : ℕ) (d : Entry) → i < length es → (b : Bool) → nat_lt i low ≡ b → names_agree (get_or es i d).name name ≡ false
     by_side i d inside true is = ap is_eq (n.below i d (ltb-true i low is))
     by_side i d inside false is = ap is_eq (n.above i d (let least = ltb-false i low is in omega (arith, least, over)) inside)
 
@@ -106,7 +101,7 @@ is_less_here es name low high middle d sorted n least less here =
         let past = ltb-false i middle is in
         let same : middle ≡ i = omega (arith, past, before) in
         let inside : middle < length es = let within = n.within in omega (arith, less, within) in
-        subst (λ k. cmp (get_or es k e).name name ≡ Less) same (subst (λ (x : Entry). cmp x.name name ≡ Less) (same_default es middle d e inside) here)
+        subst (λ k. cmp (get_or es k e).name name ≡ Less) same (subst (λ (x : Entry). cmp x.name name ≡ Less) (get_or_default es middle d e inside) here)
 
 pub is_greater_here : (es : List Entry) (name : List ℕ) (low high middle : ℕ) (d : Entry) → is_sorted (slice_cmp nat_cmp) (map keyed es) ≡ true → Narrowed es name low high → low ≤ middle → middle < high
     → cmp (get_or es middle d).name name ≡ Greater → Narrowed es name low middle
@@ -127,7 +122,7 @@ is_greater_here es name low high middle d sorted n least less here =
         let past = ltb-false middle i is in
         let same : middle ≡ i = omega (arith, past, after) in
         let inside : middle < length es = omega (arith, same, inside) in
-        subst (λ k. cmp (get_or es k e).name name ≡ Greater) same (subst (λ (x : Entry). cmp x.name name ≡ Greater) (same_default es middle d e inside) here)
+        subst (λ k. cmp (get_or es k e).name name ≡ Greater) same (subst (λ (x : Entry). cmp x.name name ≡ Greater) (get_or_default es middle d e inside) here)
 
 pub is_here : (es : List Entry) (name : List ℕ) (low high middle : ℕ) (d : Entry) → is_sorted (slice_cmp nat_cmp) (map keyed es) ≡ true → Narrowed es name low high → low ≤ middle → middle < high
     → cmp (get_or es middle d).name name ≡ Equal → size_in es name ≡ Some (get_or es middle d).size
@@ -149,17 +144,17 @@ sizes_below part name (file ∷ files) = by_name (name_below part file.0) refl (
 
     by_name : (o : Option (List ℕ)) → name_below part file.0 ≡ o → later_size ≡ option_map length (find (slice_cmp nat_cmp) (joined_path part name) files)
         → size_in (cons_option (option_map (λ (n : List ℕ). let e : Entry = record { name = n; size = length file.1 } in e) o) (filter_map (entry_of part) files)) name
-        ≡ option_map length (cond (is_name (joined_path part name) file.0) (Some file.1) (find (slice_cmp nat_cmp) (joined_path part name) files))
+        ≡ option_map length (cond (names_agree (joined_path part name) file.0) (Some file.1) (find (slice_cmp nat_cmp) (joined_path part name) files))
     by_name None is later =
-        let other : is_name (joined_path part name) file.0 ≡ false = other_name (joined_path part name) file.0 (λ same.
+        let other : names_agree (joined_path part name) file.0 ≡ false = other_name (joined_path part name) file.0 (λ same.
         let there : None ≡ Some name = sym is ∙ ap (name_below part) (sym same) ∙ below_joined part name in cc) in
         later ∙ ap (λ b. option_map length (cond b (Some file.1) (find (slice_cmp nat_cmp) (joined_path part name) files))) (sym other)
-    by_name (Some found) is later = by_test (is_name found name) refl
+    by_name (Some found) is later = by_test (names_agree found name) refl
       where
         path : file.0 ≡ joined_path part found
         path = joined_below part file.0 found is
 
-        by_test : (b : Bool) → is_name found name ≡ b → (if b then Some (length file.1) else later_size) ≡ option_map length (cond (is_name (joined_path part name) file.0) (Some file.1) (find (slice_cmp nat_cmp) (joined_path part name) files))
+        by_test : (b : Bool) → names_agree found name ≡ b → (if b then Some (length file.1) else later_size) ≡ option_map length (cond (names_agree (joined_path part name) file.0) (Some file.1) (find (slice_cmp nat_cmp) (joined_path part name) files))
         by_test true same =
             ap (λ b. option_map length (cond b (Some file.1) (find (slice_cmp nat_cmp) (joined_path part name) files)))
             (sym (same_name (joined_path part name) file.0 (ap (joined_path part) (sym (name_is found name same)) ∙ sym path)))
@@ -178,12 +173,12 @@ size_of_file part name files = sizes_below part name (entries files) ∙ ap (opt
 -- a listed name has the form of one
 pub listed_form : (es : List Entry) (name : List ℕ) (size : ℕ) → list_all (λ (entry : Entry). is_file_name entry.name) es ≡ true → size_in es name ≡ Some size → is_file_name name ≡ true
 listed_form [] name size form is = cc
-listed_form (e ∷ es) name size form is = by_test (is_name e.name name) refl (λ found. listed_form es name size parts.1 found) is
+listed_form (e ∷ es) name size form is = by_test (names_agree e.name name) refl (λ found. listed_form es name size parts.1 found) is
   where
     parts : (is_file_name e.name ≡ true) × (list_all (λ (entry : Entry). is_file_name entry.name) es ≡ true)
     parts = both_true (is_file_name e.name) (list_all (λ (entry : Entry). is_file_name entry.name) es) form
 
-    by_test : (b : Bool) → is_name e.name name ≡ b → (size_in es name ≡ Some size → is_file_name name ≡ true) → (if b then Some e.size else size_in es name) ≡ Some size → is_file_name name ≡ true
+    by_test : (b : Bool) → names_agree e.name name ≡ b → (size_in es name ≡ Some size → is_file_name name ≡ true) → (if b then Some e.size else size_in es name) ≡ Some size → is_file_name name ≡ true
     by_test true same later found = ap is_file_name (sym (name_is e.name name same)) ∙ parts.0
     by_test false other later found = later found
 

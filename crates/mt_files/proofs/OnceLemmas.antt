@@ -3,12 +3,13 @@ use Rattle.std.proofs.Common.{◌≡◌, ℕ, ◌+◌, ◌<◌, ◌≤◌, Bool,
 use Rattle.std.specs.Prelude.{◌==◌, cond, if◌then◌else◌}
 use Rattle.std.specs.List.{list_any}
 use Rattle.std.proofs.lemmas.List.{append-nil, append_assoc}
+use Rattle.mt_facts.proofs.Lists.{drop_next}
 use Rattle.mt_table.specs.declared.definition.Table.{Table}
 use Rattle.mt_table.specs.declared.partition.PartExpr.{PartExpr}
 use Rattle.mt_defs.specs.Part.{partition_names}
 use Rattle.mt_defs.specs.Partition.{expression_column, minmax_name, partition_name}
-use Rattle.mt_files.specs.OwnNames.{each_once, last_use, partition_columns, partition_files}
-use Rattle.mt_files.proofs.LoopLemmas.{at_end, at_index, nonempty}
+use Rattle.mt_files.specs.OwnNames.{each_once, last_use, partition_columns, partition_file_names}
+use Rattle.mt_files.proofs.LoopLemmas.{at_end, nonempty}
 
 -- the files of the columns of some expressions
 abbrev files_left : Table → List PartExpr → List (List ℕ)
@@ -30,7 +31,7 @@ left_next table initial names new i expression column later inside at is rest mo
     ap (λ (ns : List (List ℕ)). ns ++ files_left table after) (more ∙ ap (λ (es : List PartExpr). names ++ last_use table column (map expression_column es)) rest ∙ ap (λ k. names ++ last_use table k columns) is)
     ∙ append_assoc names (last_use table (expression_column expression) columns) (files_left table after)
     ∙ ap (λ (ns : List (List ℕ)). names ++ ns) (one_use table (expression_column expression) columns (list_any (λ j. j == expression_column expression) columns))
-    ∙ ap (λ (es : List PartExpr). names ++ files_left table es) (sym (at_index table.partition i expression inside at))
+    ∙ ap (λ (es : List PartExpr). names ++ files_left table es) (sym (drop_next table.partition i expression inside at))
     ∙ left
 
 pub none_left : (table : Table) (initial names : List (List ℕ)) (i : ℕ) → length table.partition ≤ i → Left table initial names i → names ≡ initial ++ files_left table table.partition
@@ -38,7 +39,7 @@ none_left table initial names i over left = sym (append-nil names) ∙ ap (λ (e
 
 -- ---- a key
 
-pub files_are : (table : Table) → (table.partition ≡ [] → ⊥) → partition_files table ≡ partition_name ∷ map (minmax_name table) (partition_columns table)
+pub files_are : (table : Table) → (table.partition ≡ [] → ⊥) → partition_file_names table ≡ partition_name ∷ map (minmax_name table) (partition_columns table)
 files_are table some = ap (λ b. if b then [] else partition_name ∷ map (minmax_name table) (partition_columns table)) (nonempty table.partition some)
 
 -- ---- the names

@@ -2,6 +2,7 @@
 use Rattle.std.proofs.Common.{◌≡◌, ℕ, suc, ◌+◌, ◌*◌, ◌<◌, ◌≤◌, false, List, [], ◌∷◌, ◌++◌, length, drop, refl, ap, sym, ◌∙◌, get_or, arith}
 use Rattle.std.specs.Prelude.{Option, Some, Result, Ok, Err}
 use Rattle.std.proofs.lemmas.List.{append-nil, append_assoc}
+use Rattle.mt_facts.proofs.Lists.{drop_next}
 use Rattle.mt_fault.specs.declared.fault.Fault.{Fault}
 use Rattle.mt_fault.specs.declared.error.FileError.{FileError}
 use Rattle.mt_fault.specs.declared.fault.Why.{Why}
@@ -16,13 +17,13 @@ use Rattle.mt_fault.specs.Results.{FailsAs}
 use Rattle.mt_fault.specs.Results.{IsFault}
 use Rattle.mt_files.specs.SkipMarks.{positions_reading}
 use Rattle.mt_fault.proofs.FaultLemmas.{fault_gives}
-use Rattle.mt_files.proofs.LoopLemmas.{at_index, at_end}
+use Rattle.mt_files.proofs.LoopLemmas.{at_end}
 
 -- the positions before, and what is read of the other marks
 abbrev pub behind : List ℕ → Result (List ℕ) Fault → Result (List ℕ) Fault
 behind positions reading = reading >>= λ later. Ok (positions ++ later)
 
-abbrev later_of : List ℕ → ℕ → ℕ → List Frame → ℕ → List Mark → Former → Result (List ℕ) Fault
+abbrev pub later_of : List ℕ → ℕ → ℕ → List Frame → ℕ → List Mark → Former → Result (List ℕ) Fault
 later_of file per end frames granule marks here = onto here.position (positions_reading file per end frames (granule + per) (Some here) marks)
 
 positions_next : (file : List ℕ) (per end : ℕ) (frames : List Frame) (granule : ℕ) (former : Option Former) (mark : Mark) (marks : List Mark)
@@ -41,7 +42,7 @@ behind_onto positions position (Err fault) = refl
 positions_at : (file : List ℕ) (per end : ℕ) (frames : List Frame) (marks : List Mark) (i : ℕ) (former : Option Former) (mark : Mark) → i < length marks → mark ≡ get_or marks i mark
     → positions_reading file per end frames (i * per) former (drop i marks) ≡ (blame (granule_fault file (i * per)) (mark_reading end frames false former mark) >>= later_of file per end frames (i * per) (drop (i + 1) marks))
 positions_at file per end frames marks i former mark inside at =
-    ap (positions_reading file per end frames (i * per) former) (at_index marks i mark inside at) ∙ positions_next file per end frames (i * per) former mark (drop (i + 1) marks)
+    ap (positions_reading file per end frames (i * per) former) (drop_next marks i mark inside at) ∙ positions_next file per end frames (i * per) former mark (drop (i + 1) marks)
 
 pub mark_fails : (file : List ℕ) (per end : ℕ) (frames : List Frame) (marks : List Mark) (i : ℕ) (former : Option Former) (mark : Mark) (positions : List ℕ) (whole : Result (List ℕ) Fault) (why : Why) (e : FileError)
     → behind positions (positions_reading file per end frames (i * per) former (drop i marks)) ≡ whole → i < length marks → mark ≡ get_or marks i mark → mark_reading end frames false former mark ≡ Err why → IsFault (granule_fault file (i * per) why) e → FailsAs e whole

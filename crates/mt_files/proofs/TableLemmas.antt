@@ -4,6 +4,7 @@ use Rattle.std.specs.Prelude.{nat_le}
 use Rattle.std.specs.List.{list_all, filter_map}
 use Rattle.std.proofs.lemmas.Bool.{leb-true}
 use Rattle.std.proofs.lemmas.List.Elements.{All-weaker}
+use Rattle.mt_facts.proofs.Lists.{each_passes}
 use Rattle.mt_types.specs.declared.ty.Ty.{Ty, out-Ty}
 use Rattle.mt_types.specs.declared.ty.Ty.TheOpen.{Ty-F}
 use Rattle.mt_types.specs.declared.ty.Ty.TheVariants.{Date, outs-Date}
@@ -22,8 +23,8 @@ use Rattle.mt_table.specs.Names.{places_differ}
 use Rattle.mt_table.specs.Tables.{fields_of_table}
 use Rattle.mt_table.proofs.KeptLemmas.{each_of}
 use Rattle.mt_defs.specs.Metadata.{column_at}
-use Rattle.mt_meta.specs.PartitionKeys.{ArePartitionKeys, IsExpression}
-use Rattle.mt_meta.proofs.DefinitionLemmas.{all_pass, has_column, key_scalar}
+use Rattle.mt_meta.specs.PartitionKeys.{ArePartitionKeys, IsKeyExpression}
+use Rattle.mt_meta.proofs.DefinitionLemmas.{has_column, key_scalar}
 use Rattle.mt_files.specs.SkipRules.{HasSkips, IsSkip}
 
 -- ---- skip indexes
@@ -42,7 +43,7 @@ skips_checked table =
     let keeps = (each_of (fields_of_table table) table.rules).skips in
     let parts = both_true (nat_le (length table.skips) MAX_SKIPS) _ keeps in
     let each = both_true (list_all (keeps_skip table.columns) table.skips) _ parts.1 in
-    All-weaker (λ skip. keeps_skip table.columns skip ≡ true) (IsSkip table.columns) (skip_is table.columns) table.skips (all_pass (keeps_skip table.columns) table.skips each.0)
+    All-weaker (λ skip. keeps_skip table.columns skip ≡ true) (IsSkip table.columns) (skip_is table.columns) table.skips (each_passes (keeps_skip table.columns) table.skips each.0)
 
 -- ---- partition keys
 
@@ -50,7 +51,7 @@ date_at : (ty : Ty) (level : Ty-F Ty) → out-Ty ty ≡ level → is_date_at lev
 date_at ty Ty-F.Date is e = same_level ty Date (is ∙ sym outs-Date)
 date_at ty _ is e = cc
 
-expression_is : (columns : List Column) (expression : PartExpr) → keeps_expression columns expression ≡ true → IsExpression columns expression
+expression_is : (columns : List Column) (expression : PartExpr) → keeps_expression columns expression ≡ true → IsKeyExpression columns expression
 expression_is columns (Plain i) keeps =
     let has = has_column is_key_type columns i keeps in
     (has.known, key_scalar (column_at columns i).ty has.passes)
@@ -64,4 +65,4 @@ partition_checked table =
     let few = both_true (nat_le (length table.partition) MAX_PARTITION) _ keeps in
     let plain = both_true (places_differ (filter_map plain_place table.partition)) _ few.1 in
     let month = both_true (places_differ (filter_map month_place table.partition)) (list_all (keeps_expression table.columns) table.partition) plain.1 in
-    All-weaker (λ expression. keeps_expression table.columns expression ≡ true) (IsExpression table.columns) (expression_is table.columns) table.partition (all_pass (keeps_expression table.columns) table.partition month.1)
+    All-weaker (λ expression. keeps_expression table.columns expression ≡ true) (IsKeyExpression table.columns) (expression_is table.columns) table.partition (each_passes (keeps_expression table.columns) table.partition month.1)

@@ -9,10 +9,10 @@ use Rattle.mt_meta.specs.ColumnsReading.{columns_reading, Lists}
 use Rattle.mt_fault.specs.Faults.{blame, file_fault}
 use Rattle.mt_fault.specs.Results.{Gives}
 
-abbrev ListsAre : Type 0
+abbrev pub ListsAre : Type 0
 ListsAre = (columns : List Column) (must order text : List ℕ) → columns_reading columns must text ≡ Ok order → Lists columns must order text
 
-read_in : {A : Type 0} (file : List ℕ) (reading : Result A Why) (x : A) → blame (file_fault file) reading ≡ Ok x → reading ≡ Ok x
+pub read_in : {A : Type 0} (file : List ℕ) (reading : Result A Why) (x : A) → blame (file_fault file) reading ≡ Ok x → reading ≡ Ok x
 read_in file (Ok y) x e = let same : y ≡ x = cc in ap Ok same
 read_in file (Err why) x e = cc
 

@@ -33,12 +33,12 @@ abbrev pub partition_columns : Table → List ℕ
 partition_columns table = each_once (map expression_column table.partition)
 
 -- the files of a table's partition key, each once
-abbrev pub partition_files : Table → List (List ℕ)
-partition_files table = if length table.partition == 0 then [] else partition_name ∷ map (minmax_name table) (partition_columns table)
+abbrev pub partition_file_names : Table → List (List ℕ)
+partition_file_names table = if length table.partition == 0 then [] else partition_name ∷ map (minmax_name table) (partition_columns table)
 
 -- the files that a part in a layout may have, each once, but for projections and side files
 abbrev pub base_names : Table → Bool → List (List ℕ)
-base_names table compact = own_names table.columns compact ++ (partition_files table ++ flat_map (skip_names_in compact) table.skips)
+base_names table compact = own_names table.columns compact ++ (partition_file_names table ++ flat_map (skip_names_in compact) table.skips)
 
 -- the file of an expression's column, unless a later expression is over the column too
 abbrev pub last_use : Table → ℕ → List ℕ → List (List ℕ)

@@ -27,7 +27,7 @@ count_why (Err Syntax) = Err why.Syntax
 count_why (Err TooLong) = Err why.TooLong
 
 -- count.txt: the rows of the folder (2.1 to 2.4)
-abbrev pub rows_reading : PartDef → Folder → Result ℕ Fault
-rows_reading definition folder = do
+abbrev pub row_count_reading : PartDef → Folder → Result ℕ Fault
+row_count_reading definition folder = do
   text ← file_reading folder count_name
   blame (file_fault count_name) (count_why (count_reading (length definition.columns) text))

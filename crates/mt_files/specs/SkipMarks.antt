@@ -37,8 +37,8 @@ positions_reading file per_entry end frames granule former (mark ∷ marks) = do
   onto here.position (positions_reading file per_entry end frames (granule + per_entry) (Some here) marks)
 
 -- so many marks of a file (8.4)
-abbrev pub marks_reading : List ℕ → ℕ → List ℕ → Result (List Mark) Fault
-marks_reading file count bytes = do
+abbrev pub skip_marks_reading : List ℕ → ℕ → List ℕ → Result (List Mark) Fault
+skip_marks_reading file count bytes = do
   marks ← ok_or (file_fault file why.Length) (option_map (marks_of 1) (entries_reading 1 bytes))
   _ ← require (length marks.places == count) (file_fault file why.Length)
   Ok marks.places
@@ -56,7 +56,7 @@ unfoldable pub index_entries : Folder → List ℕ → Skip → ℕ → Result (
 index_entries folder marks_ending skip count = do
   blocks ← blocks_reading folder (skip_data_name skip)
   bytes ← file_reading folder (skip_marks_name skip marks_ending)
-  marks ← marks_reading (skip_marks_name skip marks_ending) count bytes
+  marks ← skip_marks_reading (skip_marks_name skip marks_ending) count bytes
   positions ← positions_reading (skip_marks_name skip marks_ending) skip.granularity (length (file_of blocks)) (layout blocks) 0 None marks
   Ok (pieces_at (payload_of blocks) positions)
 

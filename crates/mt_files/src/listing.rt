@@ -5,7 +5,7 @@ ghost use Rattle.mt_defs.specs.Folder.{folder_below};
 ghost use Rattle.mt_defs.specs.Part.{is_compact};
 ghost use Rattle.mt_shelf.specs.Files.{IsListing};
 ghost use Rattle.mt_types.specs.NameReading.{after_prefix};
-ghost use Rattle.mt_files.specs.Listings.{has_below, listed_folder, names_of, size_in};
+ghost use Rattle.mt_files.specs.Listings.{has_below, listed_folder, entry_names, size_in};
 
 use mt_names::{MARKS_FILE, with_ending};
 use mt_shelf::Entry;
@@ -42,7 +42,7 @@ pub fn is_compact_below(alloc: Global, listing: &[Entry], prefix: &[u8]) -> Resu
 
 /// Whether a listed name begins with a prefix.
 pub fn has_below(listing: &[Entry], prefix: &[u8]) -> bool
-    ensures { result ≡ has_below (names_of listing.now) prefix.now }
+    ensures { result ≡ has_below (entry_names listing.now) prefix.now }
 {
     for entry in listing {
         if is_below(entry, prefix) {

@@ -26,7 +26,7 @@ pub fn base_names(alloc: Global, table: &Table, compact: bool) -> Result<Vec<Lis
 /// Appends the names of the partition's files.
 fn push_partition(alloc: Global, table: &Table, names: &mut Vec<List<u8>>) -> Result<(), NoMemory>
     requires { ArePartitionKeys table.now.columns table.now.partition }
-    ensures { OnOk result (names.new.items ≡ names.old.items ++ defined.partition_files table.now) }
+    ensures { OnOk result (names.new.items ≡ names.old.items ++ defined.partition_file_names table.now) }
 {
     if table.partition.is_empty() {
         return Ok(());

@@ -18,7 +18,7 @@ pub(crate) fn read_marks(
     count: usize,
     bytes: &[u8],
 ) -> Result<List<Mark>, FileError>
-    ensures { Gives result (defined.marks_reading file.now count bytes.now) }
+    ensures { Gives result (defined.skip_marks_reading file.now count bytes.now) }
 {
     match raw_marks(alloc, bytes, 1) {
         Ok(Some(marks)) => {

@@ -4,7 +4,7 @@ ghost use Rattle.std.specs.Prelude.{◌≡◌, ◌*◌, ◌≤◌, length, IfOk,
 ghost use Rattle.mt_table.specs.declared.limits.TheConstants.{MAX_CELLS, MAX_COLUMNS, MAX_ROWS};
 ghost use Rattle.mt_defs.specs.Folder.{folder_of};
 ghost use Rattle.mt_defs.specs.Metadata.{may_list};
-ghost use Rattle.mt_files.specs.PartTexts.{count_why, order_reading, rows_reading};
+ghost use Rattle.mt_files.specs.PartTexts.{count_why, order_reading, row_count_reading};
 ghost use Rattle.mt_fault.specs.Results.{Gives};
 
 use crate::files::bytes_of;
@@ -43,7 +43,7 @@ pub fn read_row_count(
 ) -> Result<u64, FileError>
     requires some { 1 ≤ length definition.now.columns }
     requires few { length definition.now.columns ≤ MAX_COLUMNS }
-    ensures gives { Gives result (rows_reading definition.now (folder_of files.now)) }
+    ensures gives { Gives result (row_count_reading definition.now (folder_of files.now)) }
     ensures some { IfOk result (λ count. 1 ≤ count) }
     ensures rows { IfOk result (λ count. count ≤ MAX_ROWS) }
     ensures cells { IfOk result (λ count. count * length definition.now.columns ≤ MAX_CELLS) }

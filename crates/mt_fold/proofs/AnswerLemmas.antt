@@ -9,6 +9,7 @@ use Rattle.std.proofs.lemmas.Bool.{cases_Bool}
 use Rattle.std.proofs.lemmas.List.Sorted.{All-permutation, IsPermutation-map, IsPermutation-refl, IsPermutation-middle, IsPermutation-trans, IsPermutation-cons, IsPermutation-sym}
 use Rattle.std.proofs.lemmas.Map.Keys.{IsDistinct-cons, IsDistinct-head, IsDistinct-tail, IsDistinct-IsPermutation}
 use Rattle.std.proofs.lemmas.Map.Views.{any-filter_same}
+use Rattle.mt_facts.proofs.Lists.{any_map}
 use Rattle.mt_types.specs.declared.value.AggState.{AggState}
 use Rattle.mt_types.specs.declared.value.Value.{Value}
 use Rattle.mt_types.specs.Order.{values_cmp}
@@ -18,7 +19,7 @@ use Rattle.mt_defs.specs.Lists.{distinct_by}
 use Rattle.mt_defs.specs.Rows.{Row, key_of}
 use Rattle.mt_defs.specs.Projections.{is_same_key, with_key}
 use Rattle.mt_sort.proofs.SortedLemmas.{IsPermutation-sorted_by}
-use Rattle.mt_sort.proofs.KeyLemmas.{one_key, sorted_same, same_keys, any_map}
+use Rattle.mt_sort.proofs.KeyLemmas.{one_key, sorted_same, same_keys}
 use Rattle.mt_tsv.specs.Printing.{rows_text}
 use Rattle.mt_query.specs.declared.query.Query.{Query}
 use Rattle.mt_fold.specs.Answer.{aggregates, is_empty, is_grouped, kept_rows, group_keys, group_row, plain_row, ordered, limited, item_columns, answer_rows, answer_text}

@@ -5,10 +5,11 @@ use Rattle.std.specs.Prelude.{filter, unwrap_or}
 use Rattle.std.specs.List.{All, list_any, IsDistinct}
 use Rattle.std.specs.Map.{lookup, keys_of}
 use Rattle.std.specs.List.Sorted.{IsPermutation}
-use Rattle.std.proofs.lemmas.Bool.{cases_Bool}
+use Rattle.std.proofs.lemmas.Bool.{cases_Bool, and_parts}
 use Rattle.std.proofs.lemmas.List.Sorted.{IsPermutation-append_left, IsPermutation-refl}
 use Rattle.std.proofs.lemmas.List.Elements.{filter-append, All-append, All-cons, All-nil}
 use Rattle.std.proofs.lemmas.List.Folds.{list_any-append}
+use Rattle.mt_facts.proofs.Truth.{right_false, or_false, or_true}
 use Rattle.mt_types.specs.declared.value.AggState.{AggState}
 use Rattle.mt_types.specs.declared.value.Value.{Value}
 use Rattle.mt_defs.specs.Rows.{Row, key_of}
@@ -16,7 +17,7 @@ use Rattle.mt_defs.specs.Projections.{is_same_key, with_key}
 use Rattle.mt_sort.proofs.KeyLemmas.{one_key, none_kept, same_keys}
 use Rattle.mt_query.specs.declared.query.Query.{Query}
 use Rattle.mt_fold.specs.Answer.{aggregates, is_empty, is_grouped, keeps, kept_rows, plain_row}
-use Rattle.mt_fold.specs.Gathered.{Group, folds_of, has_group, group_at, AreGroups, GathersBy}
+use Rattle.mt_fold.specs.Gathered.{Group, folds_of, has_group, group_states, AreGroups, GathersBy}
 use Rattle.mt_fold.specs.Steps.{each_with}
 use Rattle.mt_fold.proofs.StateLemmas.{folds_more}
 
@@ -27,18 +28,6 @@ more_in p rows row is = filter-append p rows (row ∷ []) ∙ ap (λ b. filter p
 
 more_out : (p : Row → Bool) (rows : List Row) (row : Row) → p row ≡ false → filter p (rows ++ row ∷ []) ≡ filter p rows
 more_out p rows row is = filter-append p rows (row ∷ []) ∙ ap (λ b. filter p rows ++ cond b (row ∷ []) []) is ∙ append-nil (filter p rows)
-
-or_true : (b : Bool) → (b || true) ≡ true
-or_true true = refl
-or_true false = refl
-
-or_same : (b : Bool) → (b || false) ≡ b
-or_same true = refl
-or_same false = refl
-
-or_none : (b c : Bool) → (b || c) ≡ false → c ≡ false
-or_none true c e = cc
-or_none false c e = e
 
 module _ (q : Query) (rows : List Row) (row : Row) where
   abbrev has : List Value → Row → Bool
@@ -53,24 +42,24 @@ module _ (q : Query) (rows : List Row) (row : Row) where
 
   group_out : (k : List Value) → has k row ≡ false → has_group q.keys k (rows ++ row ∷ []) ≡ has_group q.keys k rows
   group_out k is =
-      ap (λ b. alone k || b) (list_any-append (has k) rows (row ∷ []) ∙ ap (λ b. list_any (has k) rows || (b || false)) is ∙ or_same (list_any (has k) rows))
+      ap (λ b. alone k || b) (list_any-append (has k) rows (row ∷ []) ∙ ap (λ b. list_any (has k) rows || (b || false)) is ∙ or_false (list_any (has k) rows))
 
 -- the states that a key has so far, or those of no rows
-had : (q : Query) (rows : List Row) (k : List Value) → unwrap_or (group_at q rows k) (folds_of (aggregates q.items) []) ≡ folds_of (aggregates q.items) (with_key q.keys k rows)
+pub had : (q : Query) (rows : List Row) (k : List Value) → unwrap_or (group_states q rows k) (folds_of (aggregates q.items) []) ≡ folds_of (aggregates q.items) (with_key q.keys k rows)
 had q rows k =
     let f : Bool → List AggState = λ b. unwrap_or (cond b (Some (folds_of (aggregates q.items) (with_key q.keys k rows))) None) (folds_of (aggregates q.items) []) in
     elim (cases_Bool (has_group q.keys k rows)) [
       | inl hit ↦ ap f hit
-      | inr miss ↦ ap f miss ∙ ap (folds_of (aggregates q.items)) (sym (none_kept (λ r. is_same_key k (key_of q.keys r)) rows (or_none _ _ miss)))
+      | inr miss ↦ ap f miss ∙ ap (folds_of (aggregates q.items)) (sym (none_kept (λ r. is_same_key k (key_of q.keys r)) rows (right_false _ _ miss)))
     ]
 
 abbrev Looks : Type 0
 Looks = List Value → Option (List AggState)
 
 -- what each key has after the row's numbers are added at its key
-groups_more : (q : Query) (rows : List Row) (row : Row) (before after : Looks) → ((k : List Value) → before k ≡ group_at q rows k)
+groups_more : (q : Query) (rows : List Row) (row : Row) (before after : Looks) → ((k : List Value) → before k ≡ group_states q rows k)
     → ((k : List Value) → after k ≡ cond (is_same_key (key_of q.keys row) k) (Some (each_with (aggregates q.items) row (unwrap_or (before (key_of q.keys row)) (folds_of (aggregates q.items) [])))) (before k))
-    → (k : List Value) → after k ≡ group_at q (rows ++ row ∷ []) k
+    → (k : List Value) → after k ≡ group_states q (rows ++ row ∷ []) k
 groups_more q rows row before after was now k =
     let aggs = aggregates q.items in
     let kr = key_of q.keys row in
@@ -85,7 +74,7 @@ groups_more q rows row before after was now k =
           ∙ ap (folds_of aggs) (sym (more_in (λ r. is_same_key kr (key_of q.keys r)) rows row (same_keys.refl kr))) in
           now k ∙ ap (λ b. cond b fresh (before k)) hit ∙ ap Some states
           ∙ sym (ap (λ b. cond b (Some (folds_of aggs (with_key q.keys kr all))) None) (group_in q rows row kr (same_keys.refl kr)))
-          ∙ ap (group_at q all) (one_key kr k hit)
+          ∙ ap (group_states q all) (one_key kr k hit)
       | inr miss ↦
           let other : is_same_key k kr ≡ false = same_keys.symm k kr ∙ miss in
           now k ∙ ap (λ b. cond b fresh (before k)) miss ∙ was k
@@ -127,21 +116,17 @@ plain_more made m q R row plain keep had_all =
 
 -- ---- nothing gathered yet
 
-empty_at : (q : Query) (k : List Value) → is_empty q.keys ≡ true → lookup (is_same_key k) (([], folds_of (aggregates q.items) []) ∷ []) ≡ group_at q [] k
+empty_at : (q : Query) (k : List Value) → is_empty q.keys ≡ true → lookup (is_same_key k) (([], folds_of (aggregates q.items) []) ∷ []) ≡ group_states q [] k
 empty_at q [] e = sym (ap (λ b. cond ((b && true) || false) (Some (folds_of (aggregates q.items) [])) None) e)
 empty_at q (v ∷ vs) e = sym (ap (λ b. cond ((b && false) || false) (Some (folds_of (aggregates q.items) [])) None) e)
 
-both_true : (a b : Bool) → (a && b) ≡ true → (a ≡ true) × (b ≡ true)
-both_true true b e = (refl, e)
-both_true false b e = cc
-
 pub one_group : (q : Query) (m : List Group) → (is_empty q.keys && is_grouped q) ≡ true → IsDistinct is_same_key (keys_of m) → m ≡ ([], folds_of (aggregates q.items) []) ∷ [] → GathersAll [] m q []
 one_group q m e once is =
-    let parts = both_true (is_empty q.keys) (is_grouped q) e in
+    let parts = and_parts (is_empty q.keys) (is_grouped q) e in
     subst (λ b. GathersBy b [] m q []) (sym parts.1)
     (refl, record { once = once; each = λ k. ap (lookup (is_same_key k)) is ∙ empty_at q k parts.0 })
 
-none_at : (q : Query) (k : List Value) → is_empty q.keys ≡ false → None ≡ group_at q [] k
+none_at : (q : Query) (k : List Value) → is_empty q.keys ≡ false → None ≡ group_states q [] k
 none_at q k e = sym (ap (λ b. cond ((b && is_empty k) || false) (Some (folds_of (aggregates q.items) [])) None) e)
 
 no_groups_by : (b : Bool) (q : Query) (m : List Group) → (is_empty q.keys && b) ≡ false → IsDistinct is_same_key (keys_of m) → m ≡ [] → GathersBy b [] m q []

@@ -10,7 +10,7 @@ use Rattle.mt_table.specs.declared.projection.Aggregate.TheVariants as aggregate
 use Rattle.mt_table.specs.declared.definition.Table.{Table}
 use Rattle.mt_table.specs.Stored.{index_in}
 use Rattle.mt_defs.specs.Rows.{Row, cell}
-use Rattle.mt_defs.specs.Folds.{fold_of, number_of, state_of}
+use Rattle.mt_defs.specs.Folds.{fold_of, number_taken, state_of}
 use Rattle.mt_agg.specs.States.{state_with}
 use Rattle.mt_agg.proofs.FoldLemmas.{withs}
 use Rattle.mt_query.specs.declared.query.Item.{Item}
@@ -20,7 +20,7 @@ use Rattle.mt_fold.specs.Gathered.{folds_of}
 use Rattle.mt_fold.specs.Steps.{each_with, row_of_states}
 
 -- the aggregates of the items from this place on
-abbrev Left : List Item → ℕ → List Aggregate
+abbrev pub Left : List Item → ℕ → List Aggregate
 Left items i = aggregates (drop i items)
 
 -- the aggregates left, when the next item has none, or one
@@ -47,7 +47,7 @@ pub step_full : (items : List Item) (states : List AggState) (i j : ℕ) (row : 
 step_full items states i j row all = ap (λ ss. take j states ++ ss)
     (ap (each_with (Left items i) row) (drop_all j states all) ∙ none_with (Left items i) row ∙ sym (ap (each_with (Left items (i + 1)) row) (drop_all j states all) ∙ none_with (Left items (i + 1)) row))
 
-pub step_some : (items : List Item) (states : List AggState) (i j : ℕ) (one : Item) (a : Aggregate) (d v : AggState) (row : Row) → drop i items ≡ one ∷ drop (i + 1) items → item_aggregates one ≡ a ∷ [] → j < length states → v ≡ state_with (get_or states j d) (number_of a row)
+pub step_some : (items : List Item) (states : List AggState) (i j : ℕ) (one : Item) (a : Aggregate) (d v : AggState) (row : Row) → drop i items ≡ one ∷ drop (i + 1) items → item_aggregates one ≡ a ∷ [] → j < length states → v ≡ state_with (get_or states j d) (number_taken a row)
     → take j states ++ each_with (Left items i) row (drop j states)
     ≡ take (j + 1) (set states j v) ++ each_with (Left items (i + 1)) row (drop (j + 1) (set states j v))
 step_some items states i j one a d v row at has within is =
@@ -65,8 +65,8 @@ step_some items states i j one a d v row at has within is =
 pub folds_more : (aggs : List Aggregate) (rows : List Row) (row : Row) → folds_of aggs (rows ++ row ∷ []) ≡ each_with aggs row (folds_of aggs rows)
 folds_more [] rows row = refl
 folds_more (a ∷ aggs) rows row =
-    let first : fold_of (rows ++ row ∷ []) a ≡ state_with (fold_of rows a) (number_of a row) = ap (state_of a) (map-append (number_of a) rows (row ∷ [])) ∙ sym (withs a (map (number_of a) rows) (number_of a row)) in
-    ap (λ s. s ∷ folds_of aggs (rows ++ row ∷ [])) first ∙ ap (λ ss. state_with (fold_of rows a) (number_of a row) ∷ ss) (folds_more aggs rows row)
+    let first : fold_of (rows ++ row ∷ []) a ≡ state_with (fold_of rows a) (number_taken a row) = ap (state_of a) (map-append (number_taken a) rows (row ∷ [])) ∙ sym (withs a (map (number_taken a) rows) (number_taken a row)) in
+    ap (λ s. s ∷ folds_of aggs (rows ++ row ∷ [])) first ∙ ap (λ ss. state_with (fold_of rows a) (number_taken a row) ∷ ss) (folds_more aggs rows row)
 
 -- the result row of states that are the folds over a group's rows is the group's
 pub folds_row : (t : Table) (keys : List ℕ) (key : List Value) (rows : List Row) (items : List Item) → row_of_states t keys key items (folds_of (aggregates items) rows) ≡ map (group_item t keys key rows) items

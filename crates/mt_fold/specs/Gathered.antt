@@ -25,14 +25,14 @@ abbrev pub has_group : (keys : List ℕ) → (key : List Value) → List Row →
 has_group keys key rows = (is_empty keys && is_empty key) || list_any (λ row. is_same_key key (key_of keys row)) rows
 
 -- the folds over the rows of a key, if it has a group
-abbrev pub group_at : Query → List Row → (key : List Value) → Option (List AggState)
-group_at query rows key =
+abbrev pub group_states : Query → List Row → (key : List Value) → Option (List AggState)
+group_states query rows key =
     if has_group query.keys key rows then Some (folds_of (aggregates query.items) (with_key query.keys key rows)) else None
 
 -- each group of the rows once, with its folds, and no other group, in any order
 pub record AreGroups (query : Query) (rows : List Row) (groups : List Group) : Type 0 where
   pub once : IsDistinct is_same_key (keys_of groups)
-  pub each : (key : List Value) → lookup (is_same_key key) groups ≡ group_at query rows key
+  pub each : (key : List Value) → lookup (is_same_key key) groups ≡ group_states query rows key
 
 -- with groups, their groups alone; without, their result rows alone, in any order
 abbrev pub GathersBy : (grouped : Bool) → List Row → List Group → Query → List Row → Type 0

@@ -8,7 +8,7 @@ use Rattle.mt_table.specs.declared.projection.Aggregate.TheVariants as aggregate
 use Rattle.mt_table.specs.declared.definition.Table.{Table}
 use Rattle.mt_table.specs.Stored.{index_in}
 use Rattle.mt_defs.specs.Rows.{Row, cell}
-use Rattle.mt_defs.specs.Folds.{number_of}
+use Rattle.mt_defs.specs.Folds.{number_taken}
 use Rattle.mt_agg.specs.States.{state_with}
 use Rattle.mt_query.specs.declared.query.Item.{Item}
 use Rattle.mt_query.specs.declared.query.Item.TheVariants as item
@@ -28,7 +28,7 @@ aggregate_item (aggregate.Of agg i) = item.Of agg i
 abbrev pub each_with : List Aggregate → Row → List AggState → List AggState
 each_with [] row states = states
 each_with (agg ∷ aggs) row [] = []
-each_with (agg ∷ aggs) row (state ∷ states) = state_with state (number_of agg row) ∷ each_with aggs row states
+each_with (agg ∷ aggs) row (state ∷ states) = state_with state (number_taken agg row) ∷ each_with aggs row states
 
 -- the values of a group's items from its key and its states; NULL where there are too few states
 abbrev pub row_of_states : Table → (keys : List ℕ) → (key : List Value) → List Item → List AggState → Row

@@ -3,7 +3,7 @@
 ghost use Rattle.std.specs.Prelude.{◌≡◌, ◌<◌, ◌&&◌, not, length, IsTrue};
 ghost use Rattle.mt_types.specs.declared.value.Value.{out-Value};
 ghost use Rattle.mt_defs.specs.Folds as folds;
-ghost use Rattle.mt_look.specs.Seen.{row_at, value_seen};
+ghost use Rattle.mt_look.specs.Seen.{row_by_index, value_seen};
 ghost use Rattle.mt_fold.specs.Answer as answer;
 ghost use Rattle.mt_query.specs.Named.{item_passes};
 ghost use Rattle.mt_fold.specs.Steps.{aggregate_item, option_list};
@@ -28,7 +28,7 @@ pub fn aggregate_of(item: Item) -> Option<Aggregate>
 pub fn number_of<L: Look>(aggregate: Aggregate, from: &L, row: u64) -> i128
     requires shown { IsTrue (item_passes (L.shows from.now) (aggregate_item aggregate)) }
     requires there { row < length (L.rows_of from.now) }
-    ensures { result ≡ folds.number_of aggregate (row_at (L.rows_of from.now) row) }
+    ensures { result ≡ folds.number_taken aggregate (row_by_index (L.rows_of from.now) row) }
 {
     match aggregate {
         Aggregate::Count => 0,
@@ -38,7 +38,7 @@ pub fn number_of<L: Look>(aggregate: Aggregate, from: &L, row: u64) -> i128
 
 /// The number of a value, or 0.
 fn number_at(seen: Seen) -> i128
-    ensures { result ≡ folds.number_at (out-Value (value_seen seen.entry)) }
+    ensures { result ≡ folds.number_or_zero (out-Value (value_seen seen.entry)) }
 {
     match seen {
         Seen::Num(number) => number,

@@ -1,7 +1,7 @@
 //! The value of a condition on a row: true, false or NULL.
 
 ghost use Rattle.std.specs.Prelude.{◌≡◌, ◌<◌, length, IsTrue};
-ghost use Rattle.mt_look.specs.Seen.{row_at};
+ghost use Rattle.mt_look.specs.Seen.{row_by_index};
 ghost use Rattle.mt_fold.specs.Answer as answer;
 ghost use Rattle.mt_query.specs.Named.{cond_passes, given_cond_passes};
 ghost use Rattle.mt_query.specs.Truth.{and3, not3, or3, truth_of};
@@ -14,7 +14,7 @@ use mt_query::Cond;
 pub fn truth<L: Look>(cond: &Cond, from: &L, row: u64) -> Option<bool>
     requires shown { IsTrue (cond_passes (L.shows from.now) cond.now) }
     requires there { row < length (L.rows_of from.now) }
-    ensures { result ≡ truth_of cond.now (row_at (L.rows_of from.now) row) }
+    ensures { result ≡ truth_of cond.now (row_by_index (L.rows_of from.now) row) }
 {
     match cond {
         Cond::Cmp {
@@ -82,7 +82,7 @@ fn is_true(truth: Option<bool>) -> bool
 pub fn keeps<L: Look>(cond: &Option<Cond>, from: &L, row: u64) -> bool
     requires shown { IsTrue (given_cond_passes (L.shows from.now) cond.now) }
     requires there { row < length (L.rows_of from.now) }
-    ensures { result ≡ answer.keeps cond.now (row_at (L.rows_of from.now) row) }
+    ensures { result ≡ answer.keeps cond.now (row_by_index (L.rows_of from.now) row) }
 {
     match cond {
         None => true,

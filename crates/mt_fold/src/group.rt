@@ -5,7 +5,7 @@ ghost use Rattle.std.specs.List.{list_all};
 ghost use Rattle.indexmap.specs.IndexMap.{get, IsUnique};
 ghost use Rattle.mt_types.specs.declared.value.Value.{Value};
 ghost use Rattle.mt_defs.specs.Projections.{is_same_key};
-ghost use Rattle.mt_look.specs.Seen.{row_at};
+ghost use Rattle.mt_look.specs.Seen.{row_by_index};
 ghost use Rattle.mt_fold.specs.Answer.{aggregates};
 ghost use Rattle.mt_query.specs.Named.{item_passes};
 ghost use Rattle.mt_fold.specs.Gathered.{folds_of};
@@ -32,7 +32,7 @@ pub fn add_to_group<L: Look>(
     ensures unique { IfOk result (IsUnique is_same_key) }
     ensures added { IfOk result (λ made. (k : List Value) → get is_same_key made k
         ≡ cond (is_same_key key k)
-        (Some (each_with (aggregates items.now) (row_at (L.rows_of from.now) row)
+        (Some (each_with (aggregates items.now) (row_by_index (L.rows_of from.now) row)
         (unwrap_or (get is_same_key groups key) (folds_of (aggregates items.now) []))))
         (get is_same_key groups k)) }
 {

@@ -2,7 +2,7 @@
 
 ghost use Rattle.std.specs.Prelude.{◌≡◌, ◌<◌, [], ◌∷◌, ◌++◌, length, All, IsTrue, IfOk, List};
 ghost use Rattle.mt_defs.specs.Rows as defined;
-ghost use Rattle.mt_look.specs.Seen.{row_at};
+ghost use Rattle.mt_look.specs.Seen.{row_by_index};
 ghost use Rattle.mt_fold.specs.Answer.{answer_rows, answer_text};
 ghost use Rattle.mt_query.specs.Named.{query_passes};
 ghost use Rattle.mt_fold.specs.Gathered.{Gathers, Suits};
@@ -61,7 +61,7 @@ impl Partial {
         ensures suits { IfOk result (λ made. Suits made query.now) }
         ensures gathers { (rows : List defined.Row) → Gathers self query.now rows
             → IfOk result (λ made. Gathers made query.now
-            (rows ++ row_at (L.rows_of from.now) row ∷ [])) }
+            (rows ++ row_by_index (L.rows_of from.now) row ∷ [])) }
     {
         if !keeps(&query.cond, from, row) {
             return Ok(self);

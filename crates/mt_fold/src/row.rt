@@ -4,7 +4,7 @@ ghost use Rattle.std.specs.Prelude.{◌≡◌, ◌<◌, ◌≤◌, map, length, 
 ghost use Rattle.std.specs.List.{list_all};
 ghost use Rattle.mt_table.specs.Stored as stored;
 ghost use Rattle.mt_defs.specs.Rows as rows;
-ghost use Rattle.mt_look.specs.Seen.{row_at};
+ghost use Rattle.mt_look.specs.Seen.{row_by_index};
 ghost use Rattle.mt_fold.specs.Answer as answer;
 ghost use Rattle.mt_query.specs.Named.{item_passes};
 ghost use Rattle.mt_fold.specs.Steps as steps;
@@ -20,7 +20,7 @@ use std::alloc::Global;
 pub fn key_of<L: Look>(alloc: Global, columns: &[u32], from: &L, row: u64) -> Result<Row, NoMemory>
     requires shown { IsTrue (list_all (L.shows from.now) columns.now) }
     requires there { row < length (L.rows_of from.now) }
-    ensures { IfOk result (λ key. key ≡ rows.key_of columns.now (row_at (L.rows_of from.now) row)) }
+    ensures { IfOk result (λ key. key ≡ rows.key_of columns.now (row_by_index (L.rows_of from.now) row)) }
 {
     let mut key = List::with_capacity(alloc, columns.len())?;
     for column in columns {
@@ -39,7 +39,7 @@ pub fn plain_row<L: Look>(
     requires shown { IsTrue (list_all (item_passes (L.shows from.now)) items.now) }
     requires there { row < length (L.rows_of from.now) }
     ensures { IfOk result (λ made. made
-        ≡ map (answer.plain_item (row_at (L.rows_of from.now) row)) items.now) }
+        ≡ map (answer.plain_item (row_by_index (L.rows_of from.now) row)) items.now) }
 {
     let mut made = List::with_capacity(alloc, items.len())?;
     for item in items {

@@ -2,7 +2,7 @@
 
 ghost use Rattle.std.specs.Prelude.{◌≡◌, ◌<◌, [], length, IsTrue, IfOk};
 ghost use Rattle.std.specs.List.{list_all};
-ghost use Rattle.mt_look.specs.Seen.{row_at};
+ghost use Rattle.mt_look.specs.Seen.{row_by_index};
 ghost use Rattle.mt_fold.specs.Answer.{aggregates};
 ghost use Rattle.mt_query.specs.Named.{item_passes};
 ghost use Rattle.mt_fold.specs.Gathered.{folds_of};
@@ -40,7 +40,7 @@ pub fn add_row<L: Look>(
     requires shown { IsTrue (list_all (item_passes (L.shows from.now)) items.now) }
     requires there { row < length (L.rows_of from.now) }
     ensures { states.new
-        ≡ each_with (aggregates items.now) (row_at (L.rows_of from.now) row) states.old }
+        ≡ each_with (aggregates items.now) (row_by_index (L.rows_of from.now) row) states.old }
 {
     let mut held = mem::replace(states, List::new(alloc)).into_vec();
     add_numbers(items, from, row, held.as_mut_slice());
@@ -51,7 +51,7 @@ fn add_numbers<L: Look>(items: &[Item], from: &L, row: u64, states: &mut [AggSta
     requires shown { IsTrue (list_all (item_passes (L.shows from.now)) items.now) }
     requires there { row < length (L.rows_of from.now) }
     ensures { states.new
-        ≡ each_with (aggregates items.now) (row_at (L.rows_of from.now) row) states.old }
+        ≡ each_with (aggregates items.now) (row_by_index (L.rows_of from.now) row) states.old }
 {
     let mut place: usize = 0;
     for item in items {

@@ -15,14 +15,14 @@ GivesPayload bytes (Ok payload) reading = (block : Block) × (payload ≡ length
 GivesPayload bytes (Err why) reading = reading ≡ Err why
 
 -- a fault is the reading's, out of memory aside
-abbrev pub FailsAs : FrameError → Result (List Block) (ℕ × FrameWhy) → Type 0
-FailsAs (error.At offset why) reading = reading ≡ Err (offset, why)
-FailsAs error.NoMemory reading = Unit {0}
+abbrev pub FrameFailsAs : FrameError → Result (List Block) (ℕ × FrameWhy) → Type 0
+FrameFailsAs (error.At offset why) reading = reading ≡ Err (offset, why)
+FrameFailsAs error.NoMemory reading = Unit {0}
 
 -- the frames are those that the file is read as
 abbrev pub GivesFrames : Result Frames FrameError → Result (List Block) (ℕ × FrameWhy) → Type 0
 GivesFrames (Ok frames) reading = (reading >>= λ blocks. Ok (layout blocks)) ≡ Ok frames.list
-GivesFrames (Err e) reading = FailsAs e reading
+GivesFrames (Err e) reading = FrameFailsAs e reading
 
 -- the file is frames that lie as these do
 abbrev pub AreFramesOf : Frames → List ℕ → Type 0

@@ -1,5 +1,5 @@
 -- The values of a column that fit.
-use Rattle.std.proofs.Common.{◌≡◌, ℕ, zero, suc, ◌<◌, true, List, [], ◌∷◌, length, get_or, refl, ap, sym, subst, arith}
+use Rattle.std.proofs.Common.{◌≡◌, ℕ, ◌<◌, true, List, [], ◌∷◌, length, get_or, refl, sym, subst, arith}
 use Rattle.std.specs.Prelude.{All, IsTrue}
 use Rattle.std.specs.List.{list_all}
 use Rattle.std.proofs.lemmas.Bool.{and_from}
@@ -10,7 +10,7 @@ use Rattle.mt_types.specs.declared.value.Value.TheVariants.{Null}
 use Rattle.mt_types.specs.Fits.{fits_of}
 use Rattle.mt_types.specs.Profile.{is_profile}
 use Rattle.mt_table.specs.declared.column.Column.{Column}
-use Rattle.mt_defs.specs.Lists.{Pointwise}
+use Rattle.mt_table.proofs.PointwiseLemmas.{Pointwise-get_or, Pointwise-length}
 use Rattle.mt_defs.specs.Rows.{Row, RowFits, cell, column_values}
 use Rattle.mt_granules.specs.CellColumns.{HasValues}
 
@@ -24,19 +24,6 @@ column_fit ty k (row ∷ rows) are = and_from _ _ (All-head (IsThere ty k) row r
 pub column_there : (ty : Ty) (k : ℕ) (rows : List Row) → HasValues ty k rows → All (λ row. k < length row) rows
 column_there ty k [] are = All-nil (λ (row : Row). k < length row)
 column_there ty k (row ∷ rows) are = All-cons (λ (row : Row). k < length row) row rows (All-head (IsThere ty k) row rows are).0 (column_there ty k rows (All-tail (IsThere ty k) row rows are))
-
-Pointwise-get_or : {A B : Type 0} (R : A → B → Type 0) (xs : List A) (ys : List B) (i : ℕ) (d : A) (e : B) → Pointwise R xs ys → i < length xs → R (get_or xs i d) (get_or ys i e)
-Pointwise-get_or R [] [] i d e p h = absurd (omega arith)
-Pointwise-get_or R [] (y ∷ ys) i d e p h = absurd p
-Pointwise-get_or R (x ∷ xs) [] i d e p h = absurd p
-Pointwise-get_or R (x ∷ xs) (y ∷ ys) zero d e p h = p.0
-Pointwise-get_or R (x ∷ xs) (y ∷ ys) (suc i) d e p h = Pointwise-get_or R xs ys i d e p.1 (omega arith)
-
-Pointwise-length : {A B : Type 0} (R : A → B → Type 0) (xs : List A) (ys : List B) → Pointwise R xs ys → length xs ≡ length ys
-Pointwise-length R [] [] p = refl
-Pointwise-length R [] (y ∷ ys) p = absurd p
-Pointwise-length R (x ∷ xs) [] p = absurd p
-Pointwise-length R (x ∷ xs) (y ∷ ys) p = ap suc (Pointwise-length R xs ys p.1)
 
 -- rows that fit have values of each column
 pub column_values_fit : (columns : List Column) (rows : List Row) (i : ℕ) (column : Column) → i < length columns → column ≡ get_or columns i column → All (RowFits columns) rows → HasValues column.ty i rows

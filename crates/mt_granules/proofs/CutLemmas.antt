@@ -3,10 +3,10 @@ use Rattle.std.proofs.Common.{◌≡◌, ℕ, zero, suc, ◌+◌, ◌-◌, ◌*�
 use Rattle.std.specs.List.{concat, flat_map, sum}
 use Rattle.std.proofs.lemmas.List.{length-take, length-take-le, length-drop, drop-drop, take-append-drop, take_at, drop_at}
 use Rattle.std.proofs.Math.Seq.{take-append_seam, drop-append_seam}
+use Rattle.mt_facts.proofs.Numbers.{sum_cons}
 use Rattle.mt_defs.specs.Lists.{offsets_from}
 use Rattle.mt_defs.specs.Marks.{granule_starts}
 use Rattle.mt_granules.specs.PayloadReading.{pieces}
-use Rattle.mt_granules.proofs.RowLemmas.{sum-cons}
 
 abbrev pub sizes_of : List (List ℕ) → List ℕ
 sizes_of = map (λ (p : List ℕ). length p)
@@ -154,7 +154,7 @@ offsets_take (suc k) a (s ∷ sizes) = ap (λ (l : List ℕ). a ∷ l) (offsets_
 offsets_drop : (k a : ℕ) (sizes : List ℕ) → offsets_from (a + sum (take k sizes)) (drop k sizes) ≡ drop k (offsets_from a sizes)
 offsets_drop zero a sizes = ap (λ (n : ℕ). offsets_from n sizes) (omega arith)
 offsets_drop (suc k) a [] = refl
-offsets_drop (suc k) a (s ∷ sizes) = ap (λ (n : ℕ). offsets_from n (drop k sizes)) (let z : a + sum (s ∷ take k sizes) ≡ (a + s) + sum (take k sizes) = omega (arith, sum-cons s (take k sizes)) in z) ∙ offsets_drop k (a + s) sizes
+offsets_drop (suc k) a (s ∷ sizes) = ap (λ (n : ℕ). offsets_from n (drop k sizes)) (let z : a + sum (s ∷ take k sizes) ≡ (a + s) + sum (take k sizes) = omega (arith, sum_cons s (take k sizes)) in z) ∙ offsets_drop k (a + s) sizes
 
 pub starts_runs : (per n a : ℕ) (sizes : List ℕ) → granule_starts a (runs per n sizes) ≡ runs per n (offsets_from a sizes)
 starts_runs per zero a sizes = refl
@@ -172,8 +172,8 @@ concat_flat (run ∷ more) = ap (λ (l : List ℕ). concat run ++ l) (concat_fla
 
 pub sum_sizes : (ps : List (List ℕ)) → sum (sizes_of ps) ≡ length (concat ps)
 sum_sizes [] = refl
-sum_sizes (p ∷ ps) = omega (arith, sum-cons (length p) (sizes_of ps), sum_sizes ps, length-append p (concat ps))
+sum_sizes (p ∷ ps) = omega (arith, sum_cons (length p) (sizes_of ps), sum_sizes ps, length-append p (concat ps))
 
 pub sum_grouped : (grouped : List (List (List ℕ))) → sum (map sum (map sizes_of grouped)) ≡ length (concat (map concat grouped))
 sum_grouped [] = refl
-sum_grouped (run ∷ more) = omega (arith, sum-cons (sum (sizes_of run)) (map sum (map sizes_of more)), sum_grouped more, sum_sizes run, length-append (concat run) (concat (map concat more)))
+sum_grouped (run ∷ more) = omega (arith, sum_cons (sum (sizes_of run)) (map sum (map sizes_of more)), sum_grouped more, sum_sizes run, length-append (concat run) (concat (map concat more)))

@@ -1,23 +1,21 @@
 -- What entries that keep the rules say of rows, positions and offsets, and back.
 use Rattle.std.proofs.Common.{◌≡◌, ℕ, zero, suc, ◌+◌, ◌-◌, ◌^◌, ◌<◌, ◌≤◌, Bool, true, false, List, [], ◌∷◌, ◌++◌, length, map, take, get_or, refl, ap, sym, ◌∙◌, subst, arith, append_assoc, append-nil, Option, Some, None}
-use Rattle.std.specs.Prelude.{All, nat_le, nat_lt, ◌==◌, ◌||◌, not, replicate}
+use Rattle.std.specs.Prelude.{nat_le, nat_lt, ◌==◌, ◌||◌, not, replicate}
 use Rattle.std.specs.List.{sum}
 use Rattle.std.specs.List.Sorted.{IsNonDecreasingBy}
 use Rattle.std.proofs.lemmas.Bool.{ltb-true, eqb-true, and_parts}
-use Rattle.std.proofs.lemmas.List.Elements.{All-nil, All-cons}
+use Rattle.mt_facts.proofs.Numbers.{sum_cons}
 use Rattle.mt_table.specs.Rows.{Pointwise}
 use Rattle.mt_defs.specs.declared.mark.Mark.{Mark}
 use Rattle.mt_frame.specs.declared.frames.Frames.{Frames}
 use Rattle.mt_marks.specs.Entries.{Entry}
 use Rattle.mt_marks.specs.declared.rules.Former.{Former}
 use Rattle.mt_marks.specs.MarkReading.{is_placed, payload_len, is_last}
-use Rattle.mt_marks.specs.Positions.{position_of}
 use Rattle.mt_marks.proofs.RawLemmas.{all_rows}
-use Rattle.mt_granules.proofs.RowLemmas.{sum-cons}
 use Rattle.mt_granules.proofs.MarksBytesLemmas.{entry_lists}
 use Rattle.mt_granules.proofs.MarksFileLemmas.{HaveMarks}
 use Rattle.mt_granules.proofs.CutLemmas.{AreRuns, RisesTo, flat}
-use Rattle.mt_granules.proofs.RuleLemmas.{as_former, AreRuled, AreEntries, Rises, joined}
+use Rattle.mt_granules.proofs.RuleLemmas.{as_former, AreRuled, AreEntries, Rises, joined, Denote}
 
 -- ---- rows
 
@@ -42,16 +40,9 @@ rows_small frames total former (x ∷ y ∷ es) (ns ∷ ps) are small =
     let here = ltb-true (total + x.rows) (2 ^ 64) (and_parts (nat_le 1 x.rows) (nat_lt (total + x.rows) (2 ^ 64)) are.0).1 in
     let more = rows_small frames (total + x.rows) are.1.0 (y ∷ es) ps are.1.2 here in
     subst (λ (k : ℕ). total + sum (take k (all_rows (x ∷ y ∷ es))) < 2 ^ 64) (sym (one_less (length es)))
-    (omega (arith, more, sum-cons x.rows (take (suc (length es) - 1) (all_rows (y ∷ es)))))
-
-pub each_below : (n : ℕ) (ns : List ℕ) → sum ns < n → All (λ m. m < n) ns
-each_below n [] h = All-nil (λ m. m < n)
-each_below n (m ∷ ns) h = let both = sum-cons m ns in All-cons (λ k. k < n) m ns (omega (arith, both, h)) (each_below n ns (omega (arith, both, h)))
+    (omega (arith, more, sum_cons x.rows (take (suc (length es) - 1) (all_rows (y ∷ es)))))
 
 -- ---- positions
-
-abbrev Denote : Frames → List Mark → List ℕ → Type 0
-Denote frames = Pointwise (λ m n. position_of frames m ≡ Some n)
 
 ruled_denote : (frames : Frames) (last : Bool) (former : Option Former) (ms : List Mark) (ns : List ℕ) (after : Option Former) → AreRuled frames last former ms ns after → Denote frames ms ns × (length ns ≡ length ms)
 ruled_denote frames last former [] [] after are = (tt, refl)

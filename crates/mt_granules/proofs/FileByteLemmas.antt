@@ -4,7 +4,6 @@ use Rattle.std.specs.Prelude.{All, Ok, Err, option_and_then}
 use Rattle.std.specs.Bool.{then_some}
 use Rattle.std.specs.List.{flat_map, list_all}
 use Rattle.std.specs.Int.{w32, w64, to_le_bytes}
-use Rattle.std.proofs.lemmas.Bool.{and_from, and_parts, lt-ltb, ltb-true}
 use Rattle.std.proofs.lemmas.List.Elements.{All-nil, All-cons, All-head, All-tail, All-append}
 use Rattle.std.proofs.lemmas.Option.{option_and_then_some}
 use Rattle.mt_types.specs.Bytes.{is_byte}
@@ -17,26 +16,16 @@ use Rattle.mt_defs.specs.Folder.{Folder}
 use Rattle.mt_defs.specs.Frames.{Block, IsBlock, IsFileOf, block_bytes, file_of}
 use Rattle.mt_defs.specs.Lists.{AreBytes}
 use Rattle.mt_defs.specs.Marks.{entry_bytes, mark_bytes, marks_bytes, u64_bytes}
-use Rattle.mt_item.proofs.ItemBytes.{number_bytes}
+use Rattle.mt_item.proofs.ItemBytes.{number_bytes, IsByte}
 use Rattle.mt_fault.specs.Faults.{file_fault}
+use Rattle.mt_defs.proofs.ListLemmas.{bytes_tested, tested_bytes}
 use Rattle.mt_granules.specs.FileFaults.{file_at, file_reading}
-
-abbrev IsByte : ℕ → Type 0
-IsByte byte = byte < 256
 
 -- ---- files
 
-pub test_bytes : (bytes : List ℕ) → AreBytes bytes → list_all is_byte bytes ≡ true
-test_bytes [] are = refl
-test_bytes (b ∷ bytes) are = and_from (is_byte b) (list_all is_byte bytes) (lt-ltb b 256 (All-head IsByte b bytes are)) (test_bytes bytes (All-tail IsByte b bytes are))
-
-pub tested_bytes : (bytes : List ℕ) → list_all is_byte bytes ≡ true → AreBytes bytes
-tested_bytes [] e = All-nil IsByte
-tested_bytes (b ∷ bytes) e = let both = and_parts (is_byte b) (list_all is_byte bytes) e in All-cons IsByte b bytes (ltb-true b 256 both.0) (tested_bytes bytes both.1)
-
 -- the list at a name, where it is one of bytes
 pub file_there : (folder : Folder) (name file : List ℕ) → folder name ≡ Some file → AreBytes file → file_at folder name ≡ Some file
-file_there folder name file is are = ap (option_and_then (λ numbers. then_some (list_all is_byte numbers) numbers)) is ∙ ap (λ (b : Bool). then_some b file) (test_bytes file are)
+file_there folder name file is are = ap (option_and_then (λ numbers. then_some (list_all is_byte numbers) numbers)) is ∙ ap (λ (b : Bool). then_some b file) (bytes_tested file are)
 
 pub no_file : (folder : Folder) (name : List ℕ) → folder name ≡ None → file_at folder name ≡ None
 no_file folder name is = ap (option_and_then (λ numbers. then_some (list_all is_byte numbers) numbers)) is

@@ -12,9 +12,10 @@ use Rattle.std.proofs.Math.Path.{fun_ext}
 use Rattle.std.proofs.lemmas.Cmp.{on_total, nat_list_cmp_total}
 use Rattle.std.proofs.lemmas.List.{drop_all, drop_more, get_or-drop, get_or-map, get_or_default, length-drop, length-map}
 use Rattle.std.proofs.lemmas.List.Sorted.{sorted_far, ranks_by}
+use Rattle.mt_facts.proofs.Orderings.{less_from}
 use Rattle.mt_fault.specs.declared.file.FileBytes.{FileBytes}
-use Rattle.mt_defs.specs.Folder.{folder_of, is_name}
-use Rattle.mt_granules.specs.FileOrder.{IsLowerBound, files_in, name_cmp}
+use Rattle.mt_defs.specs.Folder.{folder_of, names_agree}
+use Rattle.mt_granules.specs.FileOrder.{IsLowerBound, referenced_files, name_cmp}
 
 abbrev cmp : List ℕ → List ℕ → Ordering
 cmp = slice_cmp nat_cmp
@@ -28,11 +29,6 @@ name_total = on_total (λ (file : FileBytes). file.name) nat_list_cmp_total
 pub name_weak : IsStrictWeakOrder (λ (a b : FileBytes). is_lt (name_cmp a b))
 name_weak = ranks_by name_total (λ v. v)
 
-less_is : (o : Ordering) → is_lt o ≡ true → o ≡ Less
-less_is Less e = refl
-less_is Equal e = cc
-less_is Greater e = cc
-
 le_back : (o r : Ordering) → o ≡ ordering_reverse r → is_lt r ≡ false → is_le o ≡ true
 le_back o Less e not_less = cc
 le_back o Equal e not_less = ap is_le e
@@ -41,7 +37,7 @@ le_back o Greater e not_less = ap is_le e
 -- a name that isn't above one that is below, is below too
 below_on : (a b name : List ℕ) → is_lt (cmp b a) ≡ false → is_lt (cmp b name) ≡ true → is_lt (cmp a name) ≡ true
 below_on a b name order less =
-    ap is_lt (le_lt_trans nat_list_cmp_total a b name (le_back (cmp a b) (cmp b a) (nat_list_cmp_total.antisymm a b) order) (less_is (cmp b name) less))
+    ap is_lt (le_lt_trans nat_list_cmp_total a b name (le_back (cmp a b) (cmp b a) (nat_list_cmp_total.antisymm a b) order) (less_from (cmp b name) less))
 
 above_on : (a b name : List ℕ) → is_lt (cmp b a) ≡ false → is_lt (cmp a name) ≡ false → is_lt (cmp b name) ≡ false
 above_on a b name order not_less = by (is_lt (cmp b name)) refl
@@ -93,7 +89,7 @@ lt_differs Less e = refl
 lt_differs Equal e = cc
 lt_differs Greater e = cc
 
-pass_by : (name : List ℕ) (files : List FileBytes) (file : FileBytes) → is_name file.name name ≡ false → folder_of (file ∷ files) name ≡ folder_of files name
+pass_by : (name : List ℕ) (files : List FileBytes) (file : FileBytes) → names_agree file.name name ≡ false → folder_of (file ∷ files) name ≡ folder_of files name
 pass_by name files file e = ap (λ (b : Bool). if b then Some file.bytes else folder_of files name) e
 
 skip : (name : List ℕ) (files : List FileBytes) (n : ℕ) → n ≤ length files → ((k : ℕ) (d : FileBytes) → k < n → is_lt (cmp (get_or files k d).name name) ≡ true) → folder_of files name ≡ folder_of (drop n files) name
@@ -115,7 +111,7 @@ at_bound name files index file bound inside at =
     skip name files index bound.within bound.below
     ∙ ap (λ (fs : List FileBytes). folder_of fs name) (drop_more files index file inside ∙ ap (λ (f : FileBytes). f ∷ drop (index + 1) files) (sym at))
 
-pub found_there : (name : List ℕ) (files : List FileBytes) (index : ℕ) (file : FileBytes) → IsLowerBound name files index → index < length files → file ≡ get_or files index file → is_name file.name name ≡ true → folder_of files name ≡ Some file.bytes
+pub found_there : (name : List ℕ) (files : List FileBytes) (index : ℕ) (file : FileBytes) → IsLowerBound name files index → index < length files → file ≡ get_or files index file → names_agree file.name name ≡ true → folder_of files name ≡ Some file.bytes
 found_there name files index file bound inside at same =
     at_bound name files index file bound inside at ∙ ap (λ (b : Bool). if b then Some file.bytes else folder_of (drop (index + 1) files) name) same
 
@@ -135,7 +131,7 @@ eq_after a b name order not_less differ = by (cmp b name) refl
         not_above o Equal e l q b = cc
         not_above o Greater e l q b = cc
 
-pub other_there : (name : List ℕ) (files : List FileBytes) (index : ℕ) (file : FileBytes) → IsSorted name_cmp files → IsLowerBound name files index → index < length files → file ≡ get_or files index file → is_name file.name name ≡ false → folder_of files name ≡ None
+pub other_there : (name : List ℕ) (files : List FileBytes) (index : ℕ) (file : FileBytes) → IsSorted name_cmp files → IsLowerBound name files index → index < length files → file ≡ get_or files index file → names_agree file.name name ≡ false → folder_of files name ≡ None
 other_there name files index file up bound inside at differ =
     at_bound name files index file bound inside at ∙ pass_by name (drop (index + 1) files) file differ
     ∙ none_there name (drop (index + 1) files) (λ k d less.
@@ -154,7 +150,7 @@ abbrev first_of : List FileBytes → Option (List ℕ)
 first_of [] = None
 first_of (file ∷ files) = Some file.bytes
 
-ties_name : (name : List ℕ) (f : FileBytes) → ties comes_before (record { name = name; bytes = [] }) f ≡ is_name f.name name
+ties_name : (name : List ℕ) (f : FileBytes) → ties comes_before (record { name = name; bytes = [] }) f ≡ names_agree f.name name
 ties_name name f = by (cmp f.name name) (cmp name f.name) (nat_list_cmp_total.antisymm name f.name)
   where
     by : (o r : Ordering) → r ≡ ordering_reverse o → (not (is_lt r) && not (is_lt o)) ≡ is_eq o
@@ -164,39 +160,39 @@ ties_name name f = by (cmp f.name name) (cmp name f.name) (nat_list_cmp_total.an
 
 -- ---- the same of references
 
-at_index : (files : List (Bor FileBytes)) (k : ℕ) (d : FileBytes) (e : Bor FileBytes) → k < length files → get_or (files_in files) k d ≡ (get_or files k e).now
+at_index : (files : List (Bor FileBytes)) (k : ℕ) (d : FileBytes) (e : Bor FileBytes) → k < length files → get_or (referenced_files files) k d ≡ (get_or files k e).now
 at_index files k d e h = get_or-map (λ (f : Bor FileBytes). f.now) files k e d h
 
-pub reference_at : (files : List (Bor FileBytes)) (k : ℕ) (file : Bor FileBytes) → k < length files → file ≡ get_or files k file → file.now ≡ get_or (files_in files) k file.now
+pub reference_at : (files : List (Bor FileBytes)) (k : ℕ) (file : Bor FileBytes) → k < length files → file ≡ get_or files k file → file.now ≡ get_or (referenced_files files) k file.now
 reference_at files k file h at = ap (λ (f : Bor FileBytes). f.now) at ∙ sym (at_index files k file.now file h)
 
-pub files_many : (files : List (Bor FileBytes)) → length (files_in files) ≡ length files
+pub files_many : (files : List (Bor FileBytes)) → length (referenced_files files) ≡ length files
 files_many files = length-map files (λ (f : Bor FileBytes). f.now)
 
-pub files_rise : (files : List (Bor FileBytes)) → IsSorted (λ a b. name_cmp a.now b.now) files → IsSorted name_cmp (files_in files)
+pub files_rise : (files : List (Bor FileBytes)) → IsSorted (λ a b. name_cmp a.now b.now) files → IsSorted name_cmp (referenced_files files)
 files_rise files up = λ k d from to.
     let long = length-map files (λ (f : Bor FileBytes). f.now) in
     let e : Bor FileBytes = a_reference files (omega (arith, to, long)) in
     let here = at_index files k d e (omega (arith, to, long)) in
     let next = at_index files (k + 1) d e (omega (arith, to, long)) in
-    ap (λ (a : FileBytes). is_lt (name_cmp a (get_or (files_in files) k d))) next ∙ ap (λ (b : FileBytes). is_lt (name_cmp (get_or files (k + 1) e).now b)) here
+    ap (λ (a : FileBytes). is_lt (name_cmp a (get_or (referenced_files files) k d))) next ∙ ap (λ (b : FileBytes). is_lt (name_cmp (get_or files (k + 1) e).now b)) here
     ∙ up k e from (omega (arith, to, long))
   where
     a_reference : (files : List (Bor FileBytes)) → 0 < length files → Bor FileBytes
     a_reference [] h = absurd (omega arith)
     a_reference (f ∷ files) h = f
 
-named_in : (name : List ℕ) (test : Bor FileBytes → Bool) → ((f : Bor FileBytes) → test f ≡ is_name f.now.name name) → (files : List (Bor FileBytes)) → folder_of (files_in files) name ≡ first_of (files_in (filter test files))
+named_in : (name : List ℕ) (test : Bor FileBytes → Bool) → ((f : Bor FileBytes) → test f ≡ names_agree f.now.name name) → (files : List (Bor FileBytes)) → folder_of (referenced_files files) name ≡ first_of (referenced_files (filter test files))
 named_in name test same [] = refl
 named_in name test same (file ∷ files) =
     by (test file) refl (named_in name test same files)
   where
-    by : (b : Bool) → test file ≡ b → folder_of (files_in files) name ≡ first_of (files_in (filter test files)) → folder_of (files_in (file ∷ files)) name ≡ first_of (files_in (filter test (file ∷ files)))
-    by true e more = ap (λ (b : Bool). if b then Some file.now.bytes else folder_of (files_in files) name) (sym (same file) ∙ e) ∙ sym (ap (λ (b : Bool). first_of (files_in (if b then file ∷ filter test files else filter test files))) e)
-    by false e more = ap (λ (b : Bool). if b then Some file.now.bytes else folder_of (files_in files) name) (sym (same file) ∙ e) ∙ more ∙ sym (ap (λ (b : Bool). first_of (files_in (if b then file ∷ filter test files else filter test files))) e)
+    by : (b : Bool) → test file ≡ b → folder_of (referenced_files files) name ≡ first_of (referenced_files (filter test files)) → folder_of (referenced_files (file ∷ files)) name ≡ first_of (referenced_files (filter test (file ∷ files)))
+    by true e more = ap (λ (b : Bool). if b then Some file.now.bytes else folder_of (referenced_files files) name) (sym (same file) ∙ e) ∙ sym (ap (λ (b : Bool). first_of (referenced_files (if b then file ∷ filter test files else filter test files))) e)
+    by false e more = ap (λ (b : Bool). if b then Some file.now.bytes else folder_of (referenced_files files) name) (sym (same file) ∙ e) ∙ more ∙ sym (ap (λ (b : Bool). first_of (referenced_files (if b then file ∷ filter test files else filter test files))) e)
 
-pub files_stay : (files sorted : List (Bor FileBytes)) → IsStable (λ a b. name_cmp a.now b.now) files sorted → folder_of (files_in sorted) ≡ folder_of (files_in files)
+pub files_stay : (files sorted : List (Bor FileBytes)) → IsStable (λ a b. name_cmp a.now b.now) files sorted → folder_of (referenced_files sorted) ≡ folder_of (referenced_files files)
 files_stay files sorted stable = fun_ext (λ name.
     let one : Bor FileBytes = record { ref_ptr = (0, 0); now = record { name = name; bytes = [] } } in
     let tie : Bor FileBytes → Bool = λ f. ties comes_before (record { name = name; bytes = [] }) f.now in
-    named_in name tie (λ f. ties_name name f.now) sorted ∙ ap (λ fs. first_of (files_in fs)) (stable one) ∙ sym (named_in name tie (λ f. ties_name name f.now) files))
+    named_in name tie (λ f. ties_name name f.now) sorted ∙ ap (λ fs. first_of (referenced_files fs)) (stable one) ∙ sym (named_in name tie (λ f. ties_name name f.now) files))

@@ -1,5 +1,5 @@
 -- Granules cut off one by one.
-use Rattle.std.proofs.Common.{◌≡◌, ℕ, suc, ◌+◌, ◌-◌, ◌<◌, ◌≤◌, List, [], ◌∷◌, length, take, drop, get_or, refl, ap, sym, ◌∙◌, arith}
+use Rattle.std.proofs.Common.{◌≡◌, ℕ, ◌+◌, ◌-◌, ◌<◌, ◌≤◌, List, ◌∷◌, length, take, drop, get_or, ap, sym, ◌∙◌, arith}
 use Rattle.std.specs.Prelude.{sum}
 use Rattle.std.proofs.lemmas.List.{drop_more, length-drop}
 use Rattle.std.proofs.lemmas.List.Sums.{sum_by-cons}
@@ -30,7 +30,3 @@ granule_next granules i rest granule after h front back =
     ap (λ (l : List ℕ). granule_rows l rest) (drop_more granules i 0 h)
     ∙ ap (λ (g : List Row). g ∷ granule_rows (drop (i + 1) granules) (drop (get_or granules i 0) rest)) (sym front)
     ∙ ap (λ (a : List Row). granule ∷ granule_rows (drop (i + 1) granules) a) (sym back)
-
-pub length-granule_rows : (granules : List ℕ) (rows : List Row) → length (granule_rows granules rows) ≡ length granules
-length-granule_rows [] rows = refl
-length-granule_rows (count ∷ granules) rows = ap suc (length-granule_rows granules (drop count rows))

@@ -5,6 +5,7 @@ use Rattle.std.specs.List.{enumerate_from, list_all, range_with_len, sum}
 use Rattle.std.proofs.lemmas.Bool.{and_parts, and_from}
 use Rattle.std.proofs.lemmas.List.{ext_get_or, get_or-map, get_or_default, length-map, length-drop, take-append-drop, take_at, drop_at}
 use Rattle.std.proofs.lemmas.List.FromFn.{get_or-enumerate_from, get_or-map-range_with_len, length-enumerate_from, length-map-range_with_len}
+use Rattle.mt_facts.proofs.Numbers.{sum_cons}
 use Rattle.mt_types.specs.declared.value.Value.{Value}
 use Rattle.mt_types.specs.declared.value.Value.TheVariants.{Null}
 use Rattle.mt_table.specs.Rows.{Pointwise, RowFits}
@@ -12,8 +13,9 @@ use Rattle.mt_table.specs.declared.column.Column.{Column}
 use Rattle.mt_defs.specs.Metadata.{no_column}
 use Rattle.mt_defs.specs.Granules.{granule_rows}
 use Rattle.mt_defs.specs.Rows.{Row, cell, column_values}
+use Rattle.mt_defs.proofs.RowLemmas.{row_length}
 use Rattle.mt_granules.specs.ColumnRows.{all_values, row_at, rows_of}
-use Rattle.mt_granules.proofs.RowLemmas.{length-rows_of, sum-cons}
+use Rattle.mt_granules.proofs.RowLemmas.{length-rows_of}
 
 pub by_index : {X : Type 0} (xs : List X) (n : ℕ) (d : X) → length xs ≡ n → map (λ k. get_or xs k d) (range_with_len 0 n) ≡ xs
 by_index xs n d long =
@@ -29,30 +31,13 @@ pub numbered_each : {X : Type 0} (P : ℕ × X → Type 0) (xs : List X) (d : X)
 numbered_each P xs d k all h =
     subst P (get_or-enumerate_from 0 xs k (0, d) h ∙ ap (λ n. (n, get_or xs k d)) (let z : 0 + k ≡ k = omega arith in z)) (all k (0, d) (omega (arith, h, length-enumerate_from 0 xs)))
 
-pub pointwise_at : {A B : Type 0} (R : A → B → Type 0) (xs : List A) (ys : List B) (k : ℕ) (a : A) (b : B) → Pointwise R xs ys → k < length xs → R (get_or xs k a) (get_or ys k b)
-pointwise_at R [] ys k a b p h = absurd (omega arith)
-pointwise_at R (x ∷ xs) [] k a b p h = absurd p
-pointwise_at R (x ∷ xs) (y ∷ ys) zero a b p h = p.0
-pointwise_at R (x ∷ xs) (y ∷ ys) (suc k) a b p h = pointwise_at R xs ys k a b p.1 (omega arith)
-
 pub pointwise_of : {A B : Type 0} (R : A → B → Type 0) (xs : List A) (ys : List B) → length xs ≡ length ys → ((k : ℕ) (a : A) (b : B) → k < length xs → R (get_or xs k a) (get_or ys k b)) → Pointwise R xs ys
 pointwise_of R [] [] long each = tt
 pointwise_of R [] (y ∷ ys) long each = absurd (omega (arith, long))
 pointwise_of R (x ∷ xs) [] long each = absurd (omega (arith, long))
 pointwise_of R (x ∷ xs) (y ∷ ys) long each = (each 0 x y (omega arith), pointwise_of R xs ys (omega (arith, long)) (λ k a b h. each (suc k) a b (omega (arith, h))))
 
-pub pointwise_long : {A B : Type 0} (R : A → B → Type 0) (xs : List A) (ys : List B) → Pointwise R xs ys → length xs ≡ length ys
-pointwise_long R [] [] p = refl
-pointwise_long R [] (y ∷ ys) p = absurd p
-pointwise_long R (x ∷ xs) [] p = absurd p
-pointwise_long R (x ∷ xs) (y ∷ ys) p = ap suc (pointwise_long R xs ys p.1)
-
 -- ---- values that fit
-
-pub list_all_at : {X : Type 0} (p : X → Bool) (xs : List X) (k : ℕ) (d : X) → list_all p xs ≡ true → k < length xs → p (get_or xs k d) ≡ true
-list_all_at p [] k d e h = absurd (omega arith)
-list_all_at p (x ∷ xs) zero d e h = (and_parts (p x) (list_all p xs) e).0
-list_all_at p (x ∷ xs) (suc k) d e h = list_all_at p xs k d (and_parts (p x) (list_all p xs) e).1 (omega arith)
 
 pub list_all_more : {X : Type 0} (p : X → Bool) (xs ys : List X) → list_all p xs ≡ true → list_all p ys ≡ true → list_all p (xs ++ ys) ≡ true
 list_all_more p [] ys e f = f
@@ -81,14 +66,11 @@ pub cut_joined : (i : ℕ) (granules : List ℕ) (rows : List Row) → sum granu
 cut_joined i [] [] e = refl
 cut_joined i [] (row ∷ rows) e = absurd (omega (arith, e))
 cut_joined i (count ∷ granules) rows e =
-    let both = sum-cons count granules in
+    let both = sum_cons count granules in
     ap (λ (l : List Value). column_values i (take count rows) ++ l) (cut_joined i granules (drop count rows) (omega (arith, both, e, length-drop count rows)))
     ∙ ap (λ (l : List Value). l ++ column_values i (drop count rows)) (values_take i count rows) ∙ ap (λ (l : List Value). take count (column_values i rows) ++ l) (values_drop i count rows) ∙ take-append-drop count (column_values i rows)
 
 -- ---- rows and columns
-
-pub row_long : (columns : List Column) (row : Row) → RowFits columns row → length row ≡ length columns
-row_long columns row fits = sym (pointwise_long _ columns row fits)
 
 -- a column of the rows that are made of columns
 pub column_of_rows : (count i : ℕ) (cols : List (List Value)) → i < length cols → length (get_or cols i []) ≡ count → column_values i (rows_of count cols) ≡ get_or cols i []
@@ -108,7 +90,7 @@ rows_of_columns columns rows count long fit =
     (λ r inside.
     let within : r < length rows = omega (arith, inside, length-rows_of count cols, long) in
     let row : Row = get_or rows r [] in
-    let width : length row ≡ length columns = row_long columns row (fit r [] within) in
+    let width : length row ≡ length columns = row_length columns row (fit r [] within) in
     get_or-map-range_with_len (row_at cols) 0 count r r [] (omega (arith, within, long)) (omega arith)
     ∙ ext_get_or Null (row_at cols r) row (length-map cols (λ values. slice_index_or values r Null) ∙ length-map (enumerate_from 0 columns) (λ (i, column). column_values i rows) ∙ length-enumerate_from 0 columns ∙ sym width)
     (λ i below.

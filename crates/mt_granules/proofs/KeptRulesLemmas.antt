@@ -5,21 +5,17 @@ use Rattle.std.specs.List.{sum}
 use Rattle.std.specs.List.Sorted.{IsNonDecreasingBy}
 use Rattle.std.proofs.lemmas.Bool.{le-leb, lt-ltb, eq-eqb, and_from}
 use Rattle.std.proofs.lemmas.List.Elements.{All-nil, All-cons, All-head, All-tail}
+use Rattle.mt_facts.proofs.Numbers.{sum_cons}
 use Rattle.mt_table.specs.Rows.{Pointwise}
 use Rattle.mt_defs.specs.declared.mark.Mark.{Mark}
 use Rattle.mt_frame.specs.declared.frames.Frames.{Frames}
 use Rattle.mt_marks.specs.Entries.{Entry}
 use Rattle.mt_marks.specs.declared.rules.Former.{Former}
 use Rattle.mt_marks.specs.MarkReading.{offset_before, position_before, is_placed, payload_len}
-use Rattle.mt_marks.specs.Positions.{position_of}
 use Rattle.mt_marks.proofs.RawLemmas.{all_marks, all_rows}
-use Rattle.mt_granules.proofs.RowLemmas.{sum-cons}
 use Rattle.mt_granules.proofs.MarksBytesLemmas.{entry_lists}
 use Rattle.mt_granules.proofs.MarksFileLemmas.{HaveMarks}
-use Rattle.mt_granules.proofs.RuleLemmas.{as_former, AreRuled, AreEntries, Rises, joined}
-
-abbrev Denote : Frames → List Mark → List ℕ → Type 0
-Denote frames = Pointwise (λ m n. position_of frames m ≡ Some n)
+use Rattle.mt_granules.proofs.RuleLemmas.{as_former, AreRuled, AreEntries, Rises, joined, Denote}
 
 -- the first mark of all is at the start
 abbrev pub Begins : Option Former → List ℕ → Type 0
@@ -116,9 +112,9 @@ build_entries frames per total former (x ∷ y ∷ es) (ns ∷ os ∷ ps) top fo
 
 pub rows_fit : (total : ℕ) (granules : List ℕ) → All (λ n. 1 ≤ n) granules → total + sum granules < 2 ^ 64 → RowsFit total (granules ++ 0 ∷ [])
 rows_fit total [] are small = refl
-rows_fit total (n ∷ []) are small = let both = sum-cons n [] in (All-head (λ n. 1 ≤ n) n [] are, omega (arith, small, both), refl)
+rows_fit total (n ∷ []) are small = let both = sum_cons n [] in (All-head (λ n. 1 ≤ n) n [] are, omega (arith, small, both), refl)
 rows_fit total (n ∷ m ∷ granules) are small =
-    let both = sum-cons n (m ∷ granules) in
+    let both = sum_cons n (m ∷ granules) in
     (All-head (λ n. 1 ≤ n) n (m ∷ granules) are, omega (arith, small, both), rows_fit (total + n) (m ∷ granules) (All-tail (λ n. 1 ≤ n) n (m ∷ granules) are) (omega (arith, small, both)))
 
 pub at_end : (end : ℕ) (front : List (List ℕ)) (last : List ℕ) → All (λ n. n ≡ end) last → AtEnd end (front ++ last ∷ [])

@@ -21,3 +21,4 @@ pub mod PayloadsHeldLemmas
 pub mod KeptRulesLemmas
 pub mod PayloadsReadLemmas
 pub mod IndexLemmas
+pub mod LayoutLemmas

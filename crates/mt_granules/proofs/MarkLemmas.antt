@@ -1,7 +1,7 @@
 -- Where the payload of a mark stands in its data file.
 use Rattle.std.proofs.Common.{◌≡◌, ℕ, zero, suc, ◌+◌, ◌-◌, ◌*◌, ◌<◌, ◌≤◌, Bool, true, false, List, [], ◌∷◌, ◌++◌, length, map, take, drop, get_or, refl, ap, sym, ◌∙◌, subst, arith, length-append, Option, Some, None, ◌⊎◌, inl, inr}
 use Rattle.std.specs.Prelude.{Result, Ok, unwrap_or}
-use Rattle.std.proofs.lemmas.List.{length-take-le, length-drop, take-append-drop, drop_at, drop-drop}
+use Rattle.std.proofs.lemmas.List.{length-take-le, length-drop, drop_at, drop-drop}
 use Rattle.std.proofs.lemmas.List.Concat.{flat_map-append}
 use Rattle.std.proofs.lemmas.List.Elements.{All-tail}
 use Rattle.std.specs.Prelude.{All}
@@ -22,12 +22,12 @@ use Rattle.mt_frame.specs.FrameReading.{frames_reading, layout}
 use Rattle.mt_frame.specs.Results.{AreFramesOf}
 use Rattle.mt_frame.proofs.LawLemmas.{one_file, read_exactly}
 use Rattle.mt_marks.specs.declared.marks.Marks.{Marks}
-use Rattle.mt_marks.specs.Entries.{AreMarks, entries_in, entries_of}
+use Rattle.mt_marks.specs.Entries.{AreMarks, entries_of}
 use Rattle.mt_marks.specs.MarkReading.{rules_reading}
 use Rattle.mt_marks.specs.Positions.{position_of}
 use Rattle.mt_marks.proofs.DenotedLemmas.{position_denotes}
-use Rattle.mt_marks.proofs.RawLemmas.{all_marks}
 use Rattle.mt_marks.proofs.RecutLemmas.{marked_within}
+use Rattle.mt_marks.proofs.WrittenLemmas.{joined_marks}
 use Rattle.mt_granules.specs.PayloadReading.{frames_in, frames_where, mark_count, payload_in, payload_read, payloads_of, pieces, positions_of}
 use Rattle.mt_granules.specs.Walking.{HasPayload}
 use Rattle.mt_granules.proofs.RuleLemmas.{Climb, Rises, all_entries, climb_all, joined}
@@ -77,12 +77,6 @@ pub file_is : (file : List ℕ) (blocks : List Block) → AreBytes file → fram
 file_is file blocks are e = (read_exactly file blocks are).0 e
 
 -- ---- positions
-
-pub joined_marks : (per : ℕ) (places : List Mark) (rows : List ℕ) → length places ≡ length rows * per → all_marks (entries_in per places rows) ≡ places
-joined_marks per [] [] long = refl
-joined_marks per (m ∷ ms) [] long = absurd (omega (arith, long))
-joined_marks per places (r ∷ rows) long =
-    ap (λ (ms : List Mark). take per places ++ ms) (joined_marks per (drop per places) rows (length-drop per places ∙ omega (arith, long))) ∙ take-append-drop per places
 
 pub positions_are : (frames : Frames) (ms : List Mark) (ns : List ℕ) → Pointwise (λ m n. position_of frames m ≡ Some n) ms ns → map (λ m. unwrap_or (position_of frames m) 0) ms ≡ ns
 positions_are frames [] [] p = refl

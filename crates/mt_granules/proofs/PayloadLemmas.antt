@@ -3,7 +3,7 @@ use Rattle.std.proofs.Common.{◌≡◌, ℕ, ◌+◌, ◌-◌, ◌<◌, ◌≤�
 use Rattle.std.specs.Prelude.{All, Ok, None}
 use Rattle.std.specs.List.{sum}
 use Rattle.std.proofs.lemmas.List.{get_or_default}
-use Rattle.std.proofs.lemmas.List.Elements.{All-head, All-tail}
+use Rattle.mt_facts.proofs.Numbers.{length_within_sum}
 use Rattle.mt_frame.specs.declared.frames.Frames.{Frames}
 use Rattle.mt_marks.specs.declared.marks.Marks.{Marks}
 use Rattle.mt_marks.specs.Entries.{entries_in, entries_of}
@@ -15,7 +15,6 @@ use Rattle.mt_granules.specs.declared.payloads.Payloads.{Payloads}
 use Rattle.mt_granules.specs.PayloadReading.{granules_of, mark_count, positions_of}
 use Rattle.mt_granules.specs.PayloadView.{payloads_in}
 use Rattle.mt_granules.specs.Walking.{HasPayload}
-use Rattle.mt_granules.proofs.RowLemmas.{sum-cons}
 use Rattle.mt_granules.proofs.RuleLemmas.{all_entries, entries_rows}
 use Rattle.mt_granules.proofs.MarkLemmas.{StandsAt, index_there, payload_stands}
 
@@ -74,9 +73,5 @@ granules_some frames marks rules =
     subst (λ (rows : List ℕ). All (λ n. 1 ≤ n) (take (length marks.rows - 1) rows)) same.0
     (subst (λ (n : ℕ). All (λ n. 1 ≤ n) (take (n - 1) (all_rows (entries_of marks)))) same.1 (entries_rows frames 0 None (entries_of marks) entries.0 entries.1))
 
-some_sum : (ns : List ℕ) → All (λ n. 1 ≤ n) ns → length ns ≤ sum ns
-some_sum [] are = omega arith
-some_sum (n ∷ ns) are = omega (arith, All-head (λ n. 1 ≤ n) n ns are, some_sum ns (All-tail (λ n. 1 ≤ n) n ns are), sum-cons n ns)
-
 pub granules_few : (payloads : Payloads) → length (granules_of payloads.marks) ≤ sum (granules_of payloads.marks)
-granules_few payloads = some_sum (granules_of payloads.marks) (granules_some payloads.frames payloads.marks payloads.ruled)
+granules_few payloads = length_within_sum (granules_of payloads.marks) (granules_some payloads.frames payloads.marks payloads.ruled)

@@ -28,16 +28,16 @@ use Rattle.mt_fault.specs.Faults.{blame}
 use Rattle.mt_granules.specs.FileFaults.{file_reading, frame_fault, marks_fault}
 use Rattle.mt_granules.specs.PayloadReading.{GranulePayloads, frames_in, granules_of, mark_count, payloads_of, payloads_reading, pieces, positions_of}
 use Rattle.std.specs.List.Sorted.{IsNonDecreasingBy}
+use Rattle.mt_facts.proofs.Numbers.{each_below_sum, sum_cons}
 use Rattle.mt_fault.proofs.FaultLemmas.{blame_ok}
 use Rattle.mt_granules.proofs.DataFileLemmas.{length-offsets}
-use Rattle.mt_granules.proofs.RowLemmas.{sum-cons}
 use Rattle.mt_granules.proofs.RuleLemmas.{Rises, all_entries, climb_all, entries_rows, joined}
 use Rattle.mt_granules.proofs.MarkLemmas.{file_is, frames_are, payload_is, positions_are}
 use Rattle.mt_granules.proofs.MarksFileLemmas.{marks_read}
 use Rattle.mt_granules.proofs.MarksBytesLemmas.{entry_lists, file_encodes}
 use Rattle.mt_granules.proofs.FileByteLemmas.{file_was_read}
 use Rattle.mt_granules.proofs.CutLemmas.{AreRuns, RisesTo, concat_flat, flat, length-flat, length-runs, pieces_joined, pieces_start, runs, runs_are, runs_back, runs_joined, sizes_of, sizes_runs, starts_runs, sum_grouped}
-use Rattle.mt_granules.proofs.EntriesLemmas.{begins_at, each_below, ends_at, entries_denote, joined_last, never_fall, rises_to, rows_end, rows_small}
+use Rattle.mt_granules.proofs.EntriesLemmas.{begins_at, ends_at, entries_denote, joined_last, never_fall, rises_to, rows_end, rows_small}
 
 -- the folder's data file and marks file hold these payloads, so many in each granule
 pub record HoldsPayloads (folder : Folder) (data_name marks_name : List ℕ) (per : ℕ) (grouped : List (List (List ℕ))) (granules : List ℕ) : Type 0 where
@@ -62,7 +62,7 @@ lengths_paid : (offset : ℕ) (cs : List Block) → sum (map (λ (f : Frame). f.
 lengths_paid offset [] = ap (λ (fs : List Frame). sum (map (λ (f : Frame). f.payload) fs)) (layout_none offset)
 lengths_paid offset (c ∷ cs) =
     ap (λ (fs : List Frame). sum (map (λ (f : Frame). f.payload) fs)) (layout_next offset c cs)
-    ∙ sum-cons (length c.payload) (map (λ (f : Frame). f.payload) (layout_from (offset + (25 + length c.payload)) cs))
+    ∙ sum_cons (length c.payload) (map (λ (f : Frame). f.payload) (layout_from (offset + (25 + length c.payload)) cs))
     ∙ omega (arith, lengths_paid (offset + (25 + length c.payload)) cs, length-append c.payload (payload_of cs))
 
 pub len_is : (frames : Frames) (blocks : List Block) → frames.list ≡ layout blocks → payload_len frames.list ≡ length (payload_of blocks)
@@ -206,7 +206,7 @@ held folder data_name marks_name per file bytes frames marks file_bytes marks_by
         marks = record {
           marks = entry_lists es;
           encoded = encoded;
-          few_rows = each_below (2 ^ 64) (granules_of marks) small;
+          few_rows = each_below_sum (2 ^ 64) (granules_of marks) small;
           few_offsets = subst (All (λ (m : Mark). m.offset < 2 ^ 64)) (sym (lists_flat es)) (λ k d inside. (words k d inside).offset);
           positions = subst (Pointwise (Pointwise (MarksPosition file)) (entry_lists es)) positions (all_positions frames file are_frames (entry_lists es) ps (entries_denote frames 0 None es ps entries.1));
           order = subst (IsNonDecreasingBy (λ (mark : Mark). mark.offset)) (sym (lists_flat es)) (never_fall 0 climb.foot (all_marks es) climb.offsets);

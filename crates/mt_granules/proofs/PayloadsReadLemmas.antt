@@ -6,11 +6,13 @@ use Rattle.std.proofs.lemmas.Bool.{le-leb, eq-eqb, and_from}
 use Rattle.std.proofs.lemmas.List.{length-map, take_at}
 use Rattle.std.proofs.lemmas.Nat.{mul-le}
 use Rattle.std.proofs.lemmas.List.Elements.{All-nil, All-cons, All-head, All-tail, All-append}
+use Rattle.mt_facts.proofs.Numbers.{sum_cons}
 use Rattle.mt_types.specs.Steps.{◌>>=◌, require, ok_or}
 use Rattle.mt_types.proofs.StepLemmas.{passed, then_of}
 use Rattle.mt_fault.specs.declared.fault.Why.{Why}
 use Rattle.mt_fault.specs.declared.fault.Why.TheVariants as why
 use Rattle.mt_table.specs.Rows.{Pointwise}
+use Rattle.mt_table.proofs.PointwiseLemmas.{Pointwise-length}
 use Rattle.mt_defs.specs.declared.frame.Frame.{Frame}
 use Rattle.mt_defs.specs.declared.frame.TheConstants.{MAX_PAYLOAD}
 use Rattle.mt_defs.specs.declared.mark.Mark.{Mark}
@@ -35,7 +37,6 @@ use Rattle.mt_fault.specs.Faults.{blame}
 use Rattle.mt_granules.specs.FileFaults.{file_reading, frame_fault, marks_fault}
 use Rattle.mt_granules.specs.PayloadReading.{GranulePayloads, frames_in, granules_of, mark_count, payload_in, payloads_of, payloads_reading, pieces, positions_of}
 use Rattle.mt_granules.proofs.DataFileLemmas.{length-offsets}
-use Rattle.mt_granules.proofs.RowLemmas.{sum-cons}
 use Rattle.mt_granules.proofs.RuleLemmas.{Rises, entries_read, joined}
 use Rattle.mt_granules.proofs.MarkLemmas.{frames_found, payload_is, positions_are}
 use Rattle.mt_granules.proofs.MarksFileLemmas.{HaveMarks, entries_are, read_have}
@@ -65,7 +66,7 @@ frames_for file blocks is =
 
 -- ---- marks are numbers of 64 bits
 
-here_block : (before after blocks : List Block) (here : Block) → blocks ≡ before ++ here ∷ after → All IsBlock blocks → IsBlock here
+pub here_block : (before after blocks : List Block) (here : Block) → blocks ≡ before ++ here ∷ after → All IsBlock blocks → IsBlock here
 here_block before after blocks here e are = second before (subst (All IsBlock) e are)
   where
     second : (xs : List Block) → All IsBlock (xs ++ here ∷ after) → IsBlock here
@@ -88,17 +89,11 @@ inners_all file (m ∷ ms) (n ∷ ns) p = All-append (λ (m : Mark). m.inner < 2
 
 -- ---- lists of equal lengths
 
-pointwise_long : {A B : Type 0} (R : A → B → Type 0) (xs : List A) (ys : List B) → Pointwise R xs ys → length xs ≡ length ys
-pointwise_long R [] [] p = refl
-pointwise_long R [] (y ∷ ys) p = absurd p
-pointwise_long R (x ∷ xs) [] p = absurd p
-pointwise_long R (x ∷ xs) (y ∷ ys) p = ap suc (pointwise_long R xs ys p.1)
-
 pub runs_alike : {A B : Type 0} (R : A → B → Type 0) (per : ℕ) (xs : List (List A)) (ys : List (List B)) → Pointwise (Pointwise R) xs ys → AreRuns per ys → AreRuns per xs
 runs_alike R per [] [] p are = tt
 runs_alike R per [] (y ∷ ys) p are = absurd p
 runs_alike R per (x ∷ xs) [] p are = absurd p
-runs_alike R per (x ∷ xs) (y ∷ ys) p are = (pointwise_long R x y p.0 ∙ are.0, runs_alike R per xs ys p.1 are.1)
+runs_alike R per (x ∷ xs) (y ∷ ys) p are = (Pointwise-length R x y p.0 ∙ are.0, runs_alike R per xs ys p.1 are.1)
 
 runs_more : {X : Type 0} (per : ℕ) (xs : List (List X)) (last : List X) → AreRuns per xs → length last ≡ per → AreRuns per (xs ++ last ∷ [])
 runs_more per [] last are long = (long, tt)
@@ -146,7 +141,7 @@ joined_found frames (m ∷ ms) (n ∷ ns) p = both m n p.0 (joined_found frames 
 
 starts_rise : (a top : ℕ) (sizes rest : List ℕ) → a + sum sizes ≡ top → Rises top rest top → Rises a (offsets_from a sizes ++ rest) top
 starts_rise a top [] rest e up = subst (λ (k : ℕ). Rises k rest top) (omega (arith, e)) up
-starts_rise a top (s ∷ sizes) rest e up = (omega arith, below a (a + s) (offsets_from (a + s) sizes ++ rest) top (omega arith) (starts_rise (a + s) top sizes rest (omega (arith, e, sum-cons s sizes)) up))
+starts_rise a top (s ∷ sizes) rest e up = (omega arith, below a (a + s) (offsets_from (a + s) sizes ++ rest) top (omega arith) (starts_rise (a + s) top sizes rest (omega (arith, e, sum_cons s sizes)) up))
   where
     below : (a b : ℕ) (ns : List ℕ) (top : ℕ) → a ≤ b → Rises b ns top → Rises a ns top
     below a b [] top le r = omega (arith, le, r)
@@ -221,7 +216,7 @@ module _ (file bytes : List ℕ) (per : ℕ) (grouped : List (List (List ℕ))) 
   ms_are = runs_alike (MarksPosition file) per mk.marks ps (positions) (runs_more per front (replicate per total) (runs_are per n P (P_long)) (length-copies per total))
 
   ms_many : length mk.marks ≡ length rows
-  ms_many = omega (arith, pointwise_long (Pointwise (MarksPosition file)) mk.marks ps (positions), length-append front (replicate per total ∷ []), length-runs per n P, many, rows_long)
+  ms_many = omega (arith, Pointwise-length (Pointwise (MarksPosition file)) mk.marks ps (positions), length-append front (replicate per total ∷ []), length-runs per n P, many, rows_long)
 
   are_marks : AreMarks marks
   are_marks = record { some = some; few = few; complete = length-flat per mk.marks (ms_are) ∙ ap (λ (k : ℕ). k * per) (ms_many) }

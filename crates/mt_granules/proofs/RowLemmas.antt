@@ -1,11 +1,12 @@
 -- Rows that gain a column.
 use Rattle.std.proofs.Common.{◌≡◌, ℕ, zero, suc, ◌+◌, ◌-◌, ◌<◌, ◌≤◌, List, [], ◌∷◌, ◌++◌, length, map, take, drop, get_or, set, refl, ap, sym, ◌∙◌, arith, length-append, append-nil, append_assoc}
 use Rattle.std.specs.Prelude.{replicate, slice_index_or}
-use Rattle.std.specs.List.{fold, sum}
+use Rattle.std.specs.List.{sum}
 use Rattle.std.specs.List.{range_with_len}
 use Rattle.std.proofs.lemmas.List.{map-append, length-map, drop_more, take_all, length-take-le, length-drop, get_or-append_right, set-append_right, take-append-drop}
 use Rattle.std.proofs.lemmas.List.Concat.{flat_map-append}
 use Rattle.std.proofs.lemmas.List.FromFn.{length-range_with_len}
+use Rattle.mt_facts.proofs.Numbers.{sum_cons}
 use Rattle.mt_types.specs.declared.value.Value.{Value}
 use Rattle.mt_types.specs.declared.value.Value.TheVariants.{Null}
 use Rattle.mt_defs.specs.Rows.{Row}
@@ -128,14 +129,7 @@ left_over {X} all before x old left is next = is ∙ ap (λ (l : List X). before
 pub length-rows_of : (count : ℕ) (columns : List (List Value)) → length (rows_of count columns) ≡ count
 length-rows_of count columns = length-map (range_with_len 0 count) (row_at columns) ∙ length-range_with_len 0 count
 
-fold_plus : (a : ℕ) (ns : List ℕ) → fold ◌+◌ a ns ≡ a + fold ◌+◌ 0 ns
-fold_plus a [] = omega arith
-fold_plus a (n ∷ ns) = let more = fold_plus (a + n) ns in let first = fold_plus (0 + n) ns in omega (arith, more, first)
-
-pub sum-cons : (n : ℕ) (ns : List ℕ) → sum (n ∷ ns) ≡ n + sum ns
-sum-cons n ns = let e = fold_plus (0 + n) ns in omega (arith, e)
-
 -- a column's values are as many as the rows of its granules
 pub length-all_values : (values : List (List Value)) → length (all_values values) ≡ sum (map (λ here. length here) values)
 length-all_values [] = refl
-length-all_values (here ∷ values) = length-append here (all_values values) ∙ omega (arith, length-all_values values, sum-cons (length here) (map (λ (h : List Value). length h) values))
+length-all_values (here ∷ values) = length-append here (all_values values) ∙ omega (arith, length-all_values values, sum_cons (length here) (map (λ (h : List Value). length h) values))

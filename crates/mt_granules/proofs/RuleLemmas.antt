@@ -1,5 +1,5 @@
 -- What the rules of marks fix: each mark's position; positions and offsets that never fall, from the start to the end.
-use Rattle.std.proofs.Common.{◌≡◌, ℕ, suc, ◌+◌, ◌-◌, ◌^◌, ◌≤◌, List, [], ◌∷◌, ◌++◌, length, map, take, refl, ap, sym, ◌∙◌, subst, Option, Some, None, Bool, true, false, arith}
+use Rattle.std.proofs.Common.{◌≡◌, ℕ, suc, ◌+◌, ◌-◌, ◌^◌, ◌≤◌, List, [], ◌∷◌, ◌++◌, length, map, take, refl, ap, sym, ◌∙◌, subst, Option, Some, Bool, true, false, arith}
 use Rattle.std.specs.Prelude.{Result, Ok, nat_le, nat_lt, All}
 use Rattle.std.proofs.lemmas.Bool.{leb-true, le-leb, and_parts}
 use Rattle.std.proofs.lemmas.List.Elements.{All-nil, All-cons}
@@ -15,6 +15,8 @@ use Rattle.mt_marks.specs.Entries.{Entry}
 use Rattle.mt_marks.specs.MarkReading.{offset_before, position_before, is_placed, payload_len, mark_reading, last_reading, rules_reading, are_rows, is_last}
 use Rattle.mt_marks.specs.Positions.{position_of}
 use Rattle.mt_marks.proofs.RawLemmas.{all_marks, all_rows}
+use Rattle.mt_granules.proofs.MarksFileLemmas.{found}
+use Rattle.mt_marks.proofs.EntryLemmas.{last_next, last_none, rules_none}
 
 -- a mark that keeps the rules, and its position
 pub record IsRuled (frames : Frames) (last : Bool) (former : Option Former) (mark : Mark) (position : ℕ) : Type 0 where
@@ -26,10 +28,6 @@ pub record IsRuled (frames : Frames) (last : Bool) (former : Option Former) (mar
 -- a mark as the one before the next
 abbrev pub as_former : Mark → ℕ → Former
 as_former mark position = record { offset = mark.offset; position = position }
-
-found : {A E : Type 0} (o : Option A) (w : E) (x : A) → ok_or w o ≡ Ok x → o ≡ Some x
-found {A} (Some y) w x e = ap (λ (b : A). Some b) (sym (ok_one _ _ e))
-found None w x e = cc
 
 found_ok : {A E : Type 0} (o : Option A) (w : E) (x : A) → o ≡ Some x → ok_or w o ≡ Ok x
 found_ok {A} {E} o w x e = ap (λ (p : Option A). ok_or w p) e
@@ -64,15 +62,6 @@ AreRuled frames last former [] (n ∷ ns) after = ⊥
 AreRuled frames last former (m ∷ ms) [] after = ⊥
 AreRuled frames last former (m ∷ ms) (n ∷ ns) after = IsRuled frames last former m n × AreRuled frames last (Some (as_former m n)) ms ns after
 
-last_none : (frames : Frames) (last : Bool) (former : Option Former) → last_reading frames last former [] ≡ Ok former
-unfolding last_reading
-last_none frames last former = refl
-
-last_next : (frames : Frames) (last : Bool) (former : Option Former) (m : Mark) (ms : List Mark) →
-    last_reading frames last former (m ∷ ms) ≡ (mark_reading frames.end frames.list last former m >>= λ here. last_reading frames last (Some here) ms)
-unfolding last_reading
-last_next frames last former m ms = refl
-
 pub all_ruled : (frames : Frames) (last : Bool) (former : Option Former) (ms : List Mark) (after : Option Former) → last_reading frames last former ms ≡ Ok after → (ns : List ℕ) × AreRuled frames last former ms ns after
 all_ruled frames last former [] after e = ([], ok_one _ _ (sym (last_none frames last former) ∙ e))
 all_ruled frames last former (m ∷ ms) after e =
@@ -99,10 +88,6 @@ AreEntries frames total former (e ∷ es) [] = ⊥
 AreEntries frames total former (e ∷ es) (ns ∷ ps) =
     (are_rows (is_last es) e.rows (total + e.rows) ≡ true)
     × ((after : Option Former) × AreRuled frames (is_last es) former e.marks ns after × AreEntries frames (total + e.rows) after es ps)
-
-rules_none : (frames : Frames) (granule total : ℕ) (former : Option Former) → rules_reading frames granule total former [] ≡ Ok tt
-unfolding rules_reading
-rules_none frames granule total former = refl
 
 rules_next : (frames : Frames) (granule total : ℕ) (former : Option Former) (e : Entry) (es : List Entry) → rules_reading frames granule total former (e ∷ es)
     ≡ (at granule (require (are_rows (is_last es) e.rows (total + e.rows)) why.Rows) >>= λ _. (at granule (last_reading frames (is_last es) former e.marks) >>= λ here. rules_reading frames (granule + 1) (total + e.rows) here es))
@@ -143,7 +128,7 @@ abbrev pub joined : List (List ℕ) → List ℕ
 joined [] = []
 joined (ns ∷ ps) = ns ++ joined ps
 
-abbrev Denote : Frames → List Mark → List ℕ → Type 0
+abbrev pub Denote : Frames → List Mark → List ℕ → Type 0
 Denote frames = Pointwise (λ m n. position_of frames m ≡ Some n)
 
 -- marks one after another, with the numbers before and after them

@@ -7,8 +7,8 @@ use Rattle.std.specs.declared.cmp.Ordering.{Ordering}
 use Rattle.mt_fault.specs.declared.file.FileBytes.{FileBytes}
 
 -- the files that some references point to
-abbrev pub files_in : List (Bor FileBytes) → List FileBytes
-files_in files = map (λ file. file.now) files
+abbrev pub referenced_files : List (Bor FileBytes) → List FileBytes
+referenced_files files = map (λ file. file.now) files
 
 -- files compare by the bytes of their names
 abbrev pub name_cmp : FileBytes → FileBytes → Ordering

@@ -10,6 +10,6 @@ abbrev pub payloads_in : Payloads → GranulePayloads
 payloads_in payloads = payloads_of payloads.file.now payloads.frames payloads.marks
 
 -- the bytes of a payload
-abbrev pub bytes_of : Payload → List ℕ
-bytes_of (InFile bytes) = bytes.now
-bytes_of (Joined bytes) = bytes
+abbrev pub bytes_of_payload : Payload → List ℕ
+bytes_of_payload (InFile bytes) = bytes.now
+bytes_of_payload (Joined bytes) = bytes

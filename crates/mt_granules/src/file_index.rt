@@ -1,7 +1,7 @@
 //! An index of files by their names.
 
 ghost use Rattle.std.specs.Prelude.{IsSorted};
-ghost use Rattle.mt_granules.specs.FileOrder.{files_in, name_cmp};
+ghost use Rattle.mt_granules.specs.FileOrder.{referenced_files, name_cmp};
 
 use mt_fault::FileBytes;
 
@@ -10,5 +10,5 @@ use mt_fault::FileBytes;
 pub struct FileIndex<'a> {
     /// In the byte order of their names, files of one name in the order that they had.
     pub(crate) sorted: Vec<&'a FileBytes>,
-    ghost rising: { IsSorted name_cmp (files_in sorted.items) },
+    ghost rising: { IsSorted name_cmp (referenced_files sorted.items) },
 }

@@ -6,8 +6,8 @@ ghost use Rattle.std.specs.Cmp.Lexicographic.{slice_cmp};
 ghost use Rattle.mt_fault.specs.declared.file.FileBytes.{FileBytes as Entry};
 ghost use Rattle.mt_defs.specs.Folder.{folder_of};
 ghost use Rattle.mt_granules.specs.FileFaults.{file_reading};
-ghost use Rattle.mt_granules.specs.FileFolder.{folder_in};
-ghost use Rattle.mt_granules.specs.FileOrder.{IsLowerBound, files_in};
+ghost use Rattle.mt_granules.specs.FileFolder.{indexed_folder};
+ghost use Rattle.mt_granules.specs.FileOrder.{IsLowerBound, referenced_files};
 ghost use Rattle.mt_fault.specs.Results.{Shows};
 
 use crate::file_index::FileIndex;
@@ -20,7 +20,7 @@ use std::cmp::Ordering;
 impl<'a> FileIndex<'a> {
     /// The index of some files. No file is copied.
     pub fn of(alloc: Global, files: &'a [FileBytes]) -> Result<FileIndex<'a>, NoMemory>
-        ensures { IfOk result (λ index. folder_in index ≡ folder_of files.now) }
+        ensures { IfOk result (λ index. indexed_folder index ≡ folder_of files.now) }
     {
         let mut sorted = Vec::with_capacity(alloc, files.len())?;
         for file in files {
@@ -32,7 +32,7 @@ impl<'a> FileIndex<'a> {
 
     /// The bytes of the file of a name, or that it is missing.
     pub fn bytes_of(&self, alloc: Global, name: &[u8]) -> Result<&'a [u8], FileError>
-        ensures { Shows (λ bytes. bytes.now) result (file_reading (folder_in self.now) name.now) }
+        ensures { Shows (λ bytes. bytes.now) result (file_reading (indexed_folder self.now) name.now) }
     {
         match self.get(name) {
             Some(bytes) => {
@@ -45,7 +45,7 @@ impl<'a> FileIndex<'a> {
 
     /// The bytes of the file of a name, if there is one.
     pub fn get(&self, name: &[u8]) -> Option<&'a [u8]>
-        ensures { option_copied result ≡ folder_in self.now name.now }
+        ensures { option_copied result ≡ indexed_folder self.now name.now }
     {
         let index = self.count_below(name);
         let file = *self.sorted.as_slice().get(index)?;
@@ -57,7 +57,7 @@ impl<'a> FileIndex<'a> {
 
     /// How many files have a lesser name: a search by halves.
     fn count_below(&self, name: &[u8]) -> usize
-        ensures { IsLowerBound name.now (files_in self.now.sorted.items) result }
+        ensures { IsLowerBound name.now (referenced_files self.now.sorted.items) result }
     {
         let mut low = 0;
         let mut high = self.sorted.len();
@@ -76,7 +76,7 @@ impl<'a> FileIndex<'a> {
     fn compare_at(&self, index: usize, name: &[u8]) -> Ordering
         requires { index < vec_len self.now.sorted }
         ensures { (d : Entry) → result ≡ slice_cmp nat_cmp
-            (slice_index_or (files_in self.now.sorted.items) index d).name name.now }
+            (slice_index_or (referenced_files self.now.sorted.items) index d).name name.now }
     {
         self.sorted[index].name.as_slice().cmp(name)
     }

@@ -4,7 +4,7 @@ ghost use Rattle.std.specs.Prelude.{◌≡◌, [], ◌+◌, ◌<◌, ◌≤◌, 
 ghost use Rattle.std.specs.Int.{w32, to_le_bytes};
 ghost use Rattle.mt_defs.specs.Frames.{Block, IsBlock, IsFileOf, block_bytes, payload_of};
 ghost use Rattle.mt_granules.specs.PayloadReading.{granules_of, mark_count, positions_of};
-ghost use Rattle.mt_granules.specs.PayloadView.{bytes_of, payloads_in};
+ghost use Rattle.mt_granules.specs.PayloadView.{bytes_of_payload, payloads_in};
 ghost use Rattle.mt_granules.specs.Walking.{HasPayload, StartsWithFrame};
 
 use crate::payloads::{Payload, Payloads};
@@ -43,7 +43,7 @@ impl<'a> Payloads<'a> {
     pub fn payload(&self, alloc: Global, index: usize) -> Result<Payload<'a>, NoMemory>
         requires { index < mark_count self.now.marks }
         ensures { IfOk result (λ payload.
-            bytes_of payload ≡ slice_index_or (payloads_in self.now).payloads index []) }
+            bytes_of_payload payload ≡ slice_index_or (payloads_in self.now).payloads index []) }
     {
         let mark = self.marks.places.as_slice()[index];
         let size = self.position(index + 1) - self.position(index);
@@ -64,7 +64,7 @@ impl<'a> Payloads<'a> {
 impl<'a> Payload<'a> {
     /// The bytes.
     pub fn as_slice(&self) -> &[u8]
-        ensures { result.now ≡ bytes_of self.now }
+        ensures { result.now ≡ bytes_of_payload self.now }
     {
         match self {
             Payload::InFile(bytes) => bytes,
@@ -90,7 +90,7 @@ fn payload_from<'a>(
 ) -> Result<Payload<'a>, NoMemory>
     requires { HasPayload frames.now inner size }
     ensures { IfOk result (λ payload. (blocks : Seq Block) → IsFileOf blocks frames.now
-        → bytes_of payload ≡ take size (drop inner (payload_of blocks))) }
+        → bytes_of_payload payload ≡ take size (drop inner (payload_of blocks))) }
 {
     if size == 0 {
         return Ok(Payload::InFile(&[]));

@@ -7,7 +7,7 @@ ghost use Rattle.mt_marks.specs.Entries.{AreMarks};
 ghost use Rattle.mt_marks.specs.MarkReading.{marks_reading};
 ghost use Rattle.mt_fault.specs.Faults.{blame};
 ghost use Rattle.mt_granules.specs.FileFaults.{frame_fault, frame_why, marks_fault};
-ghost use Rattle.mt_granules.specs.FileFolder.{folder_in};
+ghost use Rattle.mt_granules.specs.FileFolder.{indexed_folder};
 ghost use Rattle.mt_granules.specs.PayloadReading.{frames_in, granules_of, granules_reading, payloads_reading};
 ghost use Rattle.mt_granules.specs.PayloadView.{payloads_in};
 ghost use Rattle.mt_fault.specs.Results.{Gives, Shows};
@@ -32,7 +32,7 @@ pub fn read_payloads<'a>(
     requires some { 1 ≤ per_granule }
     requires few { per_granule ≤ MAX_PER_GRANULE }
     ensures reads { Shows payloads_in result
-        (payloads_reading (folder_in folder.now) data_name.now marks_name.now per_granule) }
+        (payloads_reading (indexed_folder folder.now) data_name.now marks_name.now per_granule) }
     ensures marked { IfOk result (λ payloads. payloads.marks.per_granule ≡ per_granule) }
 {
     let file = folder.bytes_of(alloc, data_name)?;
@@ -58,7 +58,7 @@ pub fn read_granules<'a>(
     requires some { 1 ≤ per_granule }
     requires few { per_granule ≤ MAX_PER_GRANULE }
     ensures reads { Shows payloads_in result
-        (granules_reading (folder_in folder.now) count data_name.now marks_name.now per_granule) }
+        (granules_reading (indexed_folder folder.now) count data_name.now marks_name.now per_granule) }
     ensures marked { IfOk result (λ payloads. payloads.marks.per_granule ≡ per_granule) }
 {
     let payloads = read_payloads(alloc, folder, data_name, marks_name, per_granule)?;

@@ -16,7 +16,7 @@ use Rattle.mt_defs.specs.Folder.{Folder}
 use Rattle.mt_definition.specs.declared.accepted.Accepted.{Accepted}
 use Rattle.mt_check.specs.FolderChecks.{folder_checks}
 use Rattle.mt_command.specs.Outcomes.{Outcomes, ◌>>=◌, gives, refused_by}
-use Rattle.mt_command.specs.Parts.{folder_at, listed_names, part_files, part_steps}
+use Rattle.mt_command.specs.Parts.{folder_at, listed_names, listed_part, part_steps}
 use Rattle.mt_command.specs.declared.status.Status.TheVariants.{AtFault}
 use Rattle.mt_law_written.proofs.LookupLemmas.{other_name}
 use Rattle.mt_headline.proofs.GainedLemmas.{at_or_below, not_both}
@@ -79,7 +79,7 @@ listing_stays target other (file ∷ draft) files one two =
 
 -- the steps of a part with this folder and this listing
 abbrev steps_by : Table → List ℕ → Folder → List Entry → Outcomes Accepted
-steps_by table part folder listing = gives (part_files part (listing_of listing)) >>= λ _. refused_by (AtFault part) (λ answer. folder_checks table folder (listed_names listing) ≡ answer)
+steps_by table part folder listing = gives (listed_part part (listing_of listing)) >>= λ _. refused_by (AtFault part) (λ answer. folder_checks table folder (listed_names listing) ≡ answer)
 
 pub steps_stay : (table : Table) (target other : List ℕ) (draft : Draft) (files : Files) → is_at_or_below target other ≡ false → is_at_or_below other target ≡ false → part_steps table other (gained_files target draft files) ≡ part_steps table other files
 steps_stay table target other draft files one two =

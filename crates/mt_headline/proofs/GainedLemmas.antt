@@ -12,14 +12,13 @@ use Rattle.mt_fault.specs.declared.file.FileBytes.{FileBytes}
 use Rattle.mt_shelf.specs.Paths.{is_at_or_below, joined_path}
 use Rattle.mt_shelf.specs.Files.{Files, gained_files, stands}
 use Rattle.mt_shelf.specs.Held.{pair_of}
-use Rattle.mt_defs.specs.Folder.{folder_of, is_name}
+use Rattle.mt_shelf.proofs.Listings.{Pair}
+use Rattle.mt_defs.specs.Folder.{folder_of, names_agree}
+use Rattle.mt_defs.proofs.NameLemmas.{name_is, same_name}
 use Rattle.mt_law_written.proofs.ApartLemmas.{EachLater, apart_each}
-use Rattle.mt_law_written.proofs.LookupLemmas.{Apart, AreApart, name_is, other_name, same_name}
+use Rattle.mt_law_written.proofs.LookupLemmas.{Apart, AreApart, other_name}
 use Rattle.mt_law_written.proofs.OrderLemmas.{Differently}
 use Rattle.mt_command.specs.Parts.{folder_at}
-
-abbrev Pair : Type 0
-Pair = List ℕ × List ℕ
 
 -- ---- a free target
 
@@ -35,7 +34,7 @@ nothing_found : (part name : List ℕ) (files : List Pair) → list_any (is_at_o
 nothing_found part name [] free = refl
 nothing_found part name (file ∷ files) free =
     let both = or_parts (is_at_or_below part file.0) (list_any (is_at_or_below part) (map (λ (file : Pair). file.0) files)) free in
-    let other : is_name (joined_path part name) file.0 ≡ false =
+    let other : names_agree (joined_path part name) file.0 ≡ false =
     other_name (joined_path part name) file.0 (λ same. not_both (is_at_or_below part file.0) (ap (is_at_or_below part) (sym same) ∙ at_or_below part name) both.0) in
     ap (λ (b : Bool). cond b (Some file.1) (find (slice_cmp nat_cmp) (joined_path part name) files)) other ∙ nothing_found part name files both.1
 
@@ -55,7 +54,7 @@ all_apart files pairs = apart_each files (later_of files pairs)
 none_of : (file : FileBytes) (files : List FileBytes) (name : List ℕ) → Apart file files → file.name ≡ name → folder_of files name ≡ None
 none_of file [] name apart same = refl
 none_of file (other ∷ files) name apart same =
-    let differ : is_name other.name name ≡ false = other_name other.name name (λ e. not_both (is_name file.name other.name) (same_name file.name other.name (same ∙ sym e)) apart.0) in
+    let differ : names_agree other.name name ≡ false = other_name other.name name (λ e. not_both (names_agree file.name other.name) (same_name file.name other.name (same ∙ sym e)) apart.0) in
     ap (λ (b : Bool). if b then Some other.bytes else folder_of files name) differ ∙ none_of file files name apart.1 same
 
 -- ---- the folder
@@ -72,18 +71,18 @@ with_one here file later = if here then Some file.bytes else later
 
 -- one file before others of a draft
 one_more : (part name : List ℕ) (file : FileBytes) (draft : List FileBytes) (before : Option (List ℕ)) → Apart file draft
-    → or_else (folder_of draft name) (with_one (is_name (joined_path part name) (joined_path part file.name)) file before) ≡ or_else (folder_of (file ∷ draft) name) before
+    → or_else (folder_of draft name) (with_one (names_agree (joined_path part name) (joined_path part file.name)) file before) ≡ or_else (folder_of (file ∷ draft) name) before
 one_more part name file draft before apart =
-    elim (cases_Bool (is_name file.name name)) [
+    elim (cases_Bool (names_agree file.name name)) [
       | inl same ↦
           let is : file.name ≡ name = name_is file.name name same in
-          let here : is_name (joined_path part name) (joined_path part file.name) ≡ true = same_name (joined_path part name) (joined_path part file.name) (ap (joined_path part) (sym is)) in
-          ap (λ (o : Option (List ℕ)). or_else o (with_one (is_name (joined_path part name) (joined_path part file.name)) file before)) (none_of file draft name apart is)
+          let here : names_agree (joined_path part name) (joined_path part file.name) ≡ true = same_name (joined_path part name) (joined_path part file.name) (ap (joined_path part) (sym is)) in
+          ap (λ (o : Option (List ℕ)). or_else o (with_one (names_agree (joined_path part name) (joined_path part file.name)) file before)) (none_of file draft name apart is)
           ∙ ap (λ (b : Bool). with_one b file before) here
           ∙ ap (λ (b : Bool). or_else (with_one b file (folder_of draft name)) before) (sym same)
       | inr other ↦
-          let differ : is_name (joined_path part name) (joined_path part file.name) ≡ false =
-          other_name (joined_path part name) (joined_path part file.name) (λ e. not_both (is_name file.name name) (same_name file.name name (sym (joined_name part name file.name e))) other) in
+          let differ : names_agree (joined_path part name) (joined_path part file.name) ≡ false =
+          other_name (joined_path part name) (joined_path part file.name) (λ e. not_both (names_agree file.name name) (same_name file.name name (sym (joined_name part name file.name e))) other) in
           ap (λ (b : Bool). or_else (folder_of draft name) (with_one b file before)) differ
           ∙ ap (λ (b : Bool). or_else (with_one b file (folder_of draft name)) before) (sym other)
     ]

@@ -16,16 +16,13 @@ use Rattle.mt_shelf.specs.Paths.{is_at_or_below, joined_path, name_below}
 use Rattle.mt_shelf.specs.Files.{Files, entries_below, entry_of, gained_files, listing_of, stands}
 use Rattle.mt_shelf.specs.Held.{by_order, pair_of, with_entry, with_entry_if}
 use Rattle.mt_shelf.proofs.Puts.{below_joined, joined_below}
-use Rattle.mt_shelf.proofs.Listings.{shown-put}
+use Rattle.mt_shelf.proofs.Listings.{shown-put, Pair}
 use Rattle.mt_files.specs.Listings.{size_in}
-use Rattle.mt_command.specs.Parts.{folder_at, listed_bytes, listing_in, part_files}
+use Rattle.mt_command.specs.Parts.{folder_at, listed_bytes, listing_in, listed_part}
 use Rattle.mt_command.specs.Targets.{folder_bytes, within_limit}
 use Rattle.mt_command.specs.declared.limits.TheConstants.{MAX_FOLDER}
 use Rattle.mt_headline.proofs.GainedLemmas.{at_or_below, not_both}
 use Rattle.mt_headline.proofs.NameLemmas.{is_sized}
-
-abbrev Pair : Type 0
-Pair = List ℕ × List ℕ
 
 abbrev size_of : Entry → ℕ
 size_of entry = entry.size
@@ -121,6 +118,6 @@ few_of folder within = let few = ltb-false MAX_FOLDER (folder_bytes folder) (ok_
 pub listed_within : (part name bytes : List ℕ) (files : Files) → folder_at part files name ≡ Some bytes → listed_bytes (entries_below part files) ≤ MAX_FOLDER → listing_in part files ≡ Ok (entries_below part files)
 listed_within part name bytes files there few = by (entries_below part files) (is_sized part files name ∙ ap is_some there) few
   where
-    by : (listing : List Entry) → IsSome (size_in listing name) → listed_bytes listing ≤ MAX_FOLDER → part_files part (listing_of listing) ≡ Ok listing
+    by : (listing : List Entry) → IsSome (size_in listing name) → listed_bytes listing ≤ MAX_FOLDER → listed_part part (listing_of listing) ≡ Ok listing
     by [] sized few = cc
     by (entry ∷ listing) sized few = ok_from (nat_lt MAX_FOLDER (listed_bytes (entry ∷ listing))) _ (entry ∷ listing) (above_not MAX_FOLDER (listed_bytes (entry ∷ listing)) few)

@@ -1,34 +1,23 @@
 -- Storable rows are writable in key order.
-use Rattle.std.proofs.Common.{◌≡◌, ◌≤◌, false, List, [], ◌∷◌, get_or, sym, ◌∙◌, arith}
+use Rattle.std.proofs.Common.{◌≡◌, ◌≤◌, false, List, get_or, arith}
 use Rattle.std.specs.Prelude.{All}
 use Rattle.std.specs.List.{list_any}
-use Rattle.std.proofs.lemmas.List.Elements.{All-contains, Contains-get_or}
+use Rattle.mt_facts.proofs.Lists.{none_passes}
 use Rattle.mt_table.specs.declared.definition.Table.{Table}
 use Rattle.mt_table.specs.declared.limits.TheConstants.{MAX_CELLS}
-use Rattle.mt_defs.specs.Partition.{HaveOnePartition, partition_bytes}
 use Rattle.mt_defs.specs.Rows.{Row, RowFits, cell_count}
 use Rattle.mt_defs.specs.Sorting.{sorted_rows}
 use Rattle.mt_defs.specs.Writer.{IsWritable}
 use Rattle.mt_defs.proofs.Sorted.{IsSorted-sorted_rows, All-sorted_rows, cell_count-sorted_rows, length-sorted_rows, some_sorted_rows}
+use Rattle.mt_defs.proofs.PartitionLemmas.{sorted_one}
 use Rattle.mt_law_written.proofs.FolderLemmas.{rules_of}
-use Rattle.mt_law_written.proofs.RuleLemmas.{none_pass}
 use Rattle.mt_command.specs.Targets.{has_many_cells}
 use Rattle.mt_command.proofs.ProjectionParts.{projection_part}
 use Rattle.mt_headline.specs.Storable.{AreStorable}
 use Rattle.mt_headline.proofs.SizeLemmas.{ok_of}
 
--- rows of one partition are of one in any order
-sorted_one : (table : Table) (rows : List Row) → HaveOnePartition table rows → HaveOnePartition table (sorted_rows table.sort rows)
-sorted_one table [] one a b at_a at_b = one a b at_a at_b
-sorted_one table (first ∷ rows) one a b at_a at_b =
-    let P : Row → Type 0 = λ row. partition_bytes table first ≡ partition_bytes table row in
-    let sorted : List Row = sorted_rows table.sort (first ∷ rows) in
-    let all : All P sorted =
-    All-sorted_rows P table.sort (first ∷ rows) (λ k d h. one first (get_or (first ∷ rows) k d) (Contains-get_or (first ∷ rows) 0 first (omega arith)) (Contains-get_or (first ∷ rows) k d h)) in
-    sym (All-contains P sorted a all at_a) ∙ All-contains P sorted b all at_b
-
 few_each : (table : Table) (rows : List Row) → AreStorable table rows → All (λ projection. has_many_cells table rows projection ≡ false) table.projections
-few_each table rows are = none_pass (has_many_cells table rows) table.projections (ok_of (list_any (has_many_cells table rows) table.projections) _ tt are.projection_limit)
+few_each table rows are = none_passes (has_many_cells table rows) table.projections (ok_of (list_any (has_many_cells table rows) table.projections) _ tt are.projection_limit)
 
 pub rows_writable : (table : Table) (rows : List Row) → AreStorable table rows → IsWritable table (sorted_rows table.sort rows)
 rows_writable table rows are =

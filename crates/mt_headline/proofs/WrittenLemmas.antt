@@ -7,15 +7,11 @@ use Rattle.mt_defs.specs.Folder.{folder_of}
 use Rattle.mt_defs.specs.Part.{StandsForIn}
 use Rattle.mt_defs.specs.Rows.{Row}
 use Rattle.mt_defs.specs.Writer.{written_folder}
-use Rattle.mt_defs.specs.WrittenGranules.{written_granules}
 use Rattle.mt_command.specs.Targets.{free_target, within_limit}
 use Rattle.mt_law_written.proofs.OrderLemmas.{Differently}
+use Rattle.mt_law_written.proofs.FolderLemmas.{granules_of}
 use Rattle.mt_headline.proofs.PublishedLemmas.{IsPublished, draft_published, is_free, with_draft}
 use Rattle.mt_headline.proofs.SizeLemmas.{few_of}
-
--- the writer's granules of a table's rows
-abbrev pub granules_of : Table → List Row → List ℕ
-granules_of table rows = written_granules table.settings table.columns rows
 
 -- what is known of it, by the law of the writer's folder
 pub written_published : (table : Table) (rows : List Row) (part : List ℕ) (files : Files) → AllPairs Differently (written_folder table rows) → StandsForIn table (folder_of (written_folder table rows)) rows (granules_of table rows)

@@ -10,7 +10,7 @@ use Rattle.std.specs.Cmp.Lexicographic.{slice_cmp}
 use Rattle.std.specs.declared.cmp.Ordering.TheVariants.{Less}
 use Rattle.mt_shelf.specs.declared.file.Entry.{Entry}
 use Rattle.mt_shelf.proofs.Listings.{keyed, both, first, second, is_less, less_is, true_from_T}
-use Rattle.mt_host.specs.Rising.{is_before}
+use Rattle.mt_host.specs.Rising.{is_before_others}
 
 T_from_true : (b : Bool) → b ≡ true → T b
 T_from_true b is = subst T (sym is) tt
@@ -25,7 +25,7 @@ widened k q less (e ∷ es) all =
     (widened k q less es (second (is_lt (slice_cmp nat_cmp q e.0)) (below_all (slice_cmp nat_cmp) q es) all))
 
 -- a lesser name in front of names that rise
-rising_cons : (e : Entry) (es : List Entry) → is_before e es ≡ true → is_sorted (slice_cmp nat_cmp) (map keyed es) ≡ true → is_sorted (slice_cmp nat_cmp) (map keyed (e ∷ es)) ≡ true
+rising_cons : (e : Entry) (es : List Entry) → is_before_others e es ≡ true → is_sorted (slice_cmp nat_cmp) (map keyed es) ≡ true → is_sorted (slice_cmp nat_cmp) (map keyed (e ∷ es)) ≡ true
 rising_cons e [] less rising = refl
 rising_cons e (f ∷ es) less rising =
     let lt : T (is_lt (slice_cmp nat_cmp e.name f.name)) = T_from_true (is_lt (slice_cmp nat_cmp e.name f.name)) less in
@@ -36,7 +36,7 @@ rising_cons e (f ∷ es) less rising =
     sorted)
 
 -- one entry more, by its index
-pub rising_from : (entries : List Entry) (i j : ℕ) (e : Entry) → i ≡ suc j → j < length entries → e ≡ get_or entries j e → is_before e (drop i entries) ≡ true
+pub rising_from : (entries : List Entry) (i j : ℕ) (e : Entry) → i ≡ suc j → j < length entries → e ≡ get_or entries j e → is_before_others e (drop i entries) ≡ true
     → is_sorted (slice_cmp nat_cmp) (map keyed (drop i entries)) ≡ true → is_sorted (slice_cmp nat_cmp) (map keyed (drop j entries)) ≡ true
 rising_from entries i j e next inside is less rising =
     let P : List Entry → Type 0 = λ es. is_sorted (slice_cmp nat_cmp) (map keyed es) ≡ true in

@@ -5,7 +5,7 @@ ghost use Rattle.std.specs.Ordering.{nat_cmp};
 ghost use Rattle.std.specs.Cmp.Lexicographic.{slice_cmp};
 ghost use Rattle.std.specs.FinMap.{is_sorted};
 ghost use Rattle.mt_shelf.specs.Files.{IsListing, is_file_name};
-ghost use Rattle.mt_host.specs.Rising.{is_before};
+ghost use Rattle.mt_host.specs.Rising.{is_before_others};
 
 use crate::draft::{is_draft_name, path_of};
 use mt_shelf::{Entry, is_file_name};
@@ -181,7 +181,7 @@ fn is_rising(entries: &[Entry]) -> bool
 
 // Whether an entry comes before the first of a listing.
 fn is_before(entry: &Entry, listing: &[Entry]) -> bool
-    ensures { result ≡ is_before entry.now listing.now }
+    ensures { result ≡ is_before_others entry.now listing.now }
 {
     match listing {
         [] => true,

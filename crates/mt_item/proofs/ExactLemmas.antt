@@ -32,10 +32,10 @@ pub record IsExact {A : Type 0} (read : List ℕ → First A) (fits : A → Bool
 
 -- ---- what an exact reader gives is the first item
 
-ok_other : {A Z : Type 0} (x : A) (why : CodecWhy) → (let r : Result A CodecWhy = Ok x in r) ≡ Err why → Z
+pub ok_other : {A Z : Type 0} (x : A) (why : CodecWhy) → (let r : Result A CodecWhy = Ok x in r) ≡ Err why → Z
 ok_other x why e = cc
 
-some_pair : {A : Type 0} (a b : A) (x y : List ℕ) → a ≡ b → x ≡ y → (let o : Option (A × List ℕ) = Some (a, x) in o) ≡ Some (b, y)
+pub some_pair : {A : Type 0} (a b : A) (x y : List ℕ) → a ≡ b → x ≡ y → (let o : Option (A × List ℕ) = Some (a, x) in o) ≡ Some (b, y)
 some_pair a b x y e f = rw (e, f) refl
 
 pub first_item : (t : Ty) (read : List ℕ → First Value) → IsExact read (fits_of t) (item_bytes t) → (bytes : List ℕ) → Small bytes → (result : Result (Value × Bor (List ℕ)) ItemError)
@@ -103,7 +103,7 @@ pub small_back : (front rest : List ℕ) → Small (front ++ rest) → Small res
 small_back [] rest small = small
 small_back (b ∷ front) rest small = small_back front rest (λ k. small (suc k))
 
-small_test : (bytes : List ℕ) → Small bytes → list_all is_byte bytes ≡ true
+pub small_test : (bytes : List ℕ) → Small bytes → list_all is_byte bytes ≡ true
 small_test [] small = refl
 small_test (b ∷ bytes) small = and_from (is_byte b) (list_all is_byte bytes) (lt-ltb b 256 (small 0)) (small_test bytes (λ k. small (suc k)))
 
@@ -250,10 +250,6 @@ held_exact number fits item exact = record { sound = sound; complete = complete 
     complete : (v : Option ℤ) (rest : List ℕ) → held_fits fits v ≡ true → held_front number (held_item item v ++ rest) ≡ Ok (v, rest)
     complete None rest e = held_nothing number rest
     complete (Some n) rest e = held_some number (item n ++ rest) ∙ ap (read_as (λ n. Some n)) (exact.complete n rest e)
-
-pub no_bytes : (bytes : List ℕ) → length bytes ≡ 0 → bytes ≡ []
-no_bytes [] e = refl
-no_bytes (byte ∷ bytes) e = absurd (omega arith)
 
 -- numbers that are bytes
 pub small_of : (bytes : List ℕ) → AreBytes bytes → Small bytes

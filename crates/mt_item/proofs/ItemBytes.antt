@@ -22,8 +22,9 @@ use Rattle.mt_types.specs.declared.value.Value.TheVariants.{Num}
 use Rattle.mt_types.specs.Fits.{fits_of, fits_step, is_count, is_least_of, is_state_of, state_at as passes_state, text_at as passes_text}
 use Rattle.mt_types.specs.Items.{item_bytes, item_step, whole_at, fixed_at, text_at, held, state_bytes, state_at, width}
 use Rattle.mt_defs.specs.Lists.{AreBytes}
+use Rattle.mt_defs.proofs.ListLemmas.{tested_bytes}
 
-abbrev IsByte : ℕ → Type 0
+abbrev pub IsByte : ℕ → Type 0
 IsByte byte = byte < 256
 
 -- ---- numbers
@@ -67,16 +68,10 @@ length_bytes n = leb128_bytes n n (omega arith)
 
 -- ---- one level of a value that fits
 
-pub all_small : (bytes : List ℕ) → list_all is_byte bytes ≡ true → AreBytes bytes
-all_small [] e = All-nil IsByte
-all_small (byte ∷ bytes) e =
-    let both = and_parts (is_byte byte) (list_all is_byte bytes) e in
-    All-cons IsByte byte bytes (ltb-true byte 256 both.0) (all_small bytes both.1)
-
 fixed_bytes : (size : ℕ) (level : Value-F Value) → passes_text (λ bytes. length bytes == size && list_all is_byte bytes) level ≡ true → AreBytes (fixed_at level)
 fixed_bytes size (Value-F.Num n) fits = cc
 fixed_bytes size (Value-F.Huge n) fits = cc
-fixed_bytes size (Value-F.Text bytes) fits = all_small bytes (and_parts (length bytes == size) (list_all is_byte bytes) fits).1
+fixed_bytes size (Value-F.Text bytes) fits = tested_bytes bytes (and_parts (length bytes == size) (list_all is_byte bytes) fits).1
 fixed_bytes size Value-F.Null fits = cc
 fixed_bytes size (Value-F.List items) fits = cc
 fixed_bytes size (Value-F.State s) fits = cc
@@ -85,7 +80,7 @@ text_bytes : (level : Value-F Value) → passes_text (λ bytes. nat_le (length b
 text_bytes (Value-F.Num n) fits = cc
 text_bytes (Value-F.Huge n) fits = cc
 text_bytes (Value-F.Text bytes) fits =
-    All-append IsByte (leb128 (length bytes)) bytes (length_bytes (length bytes)) (all_small bytes (and_parts (nat_le (length bytes) MAX_TEXT) (list_all is_byte bytes) fits).1)
+    All-append IsByte (leb128 (length bytes)) bytes (length_bytes (length bytes)) (tested_bytes bytes (and_parts (nat_le (length bytes) MAX_TEXT) (list_all is_byte bytes) fits).1)
 text_bytes Value-F.Null fits = cc
 text_bytes (Value-F.List items) fits = cc
 text_bytes (Value-F.State s) fits = cc

@@ -172,7 +172,7 @@ counts_exact =
 -- ---- each type
 
 -- the test and the items of a type of this level
-test_at : (t : Ty) (level : Ty-F Ty) (v : Value) → out-Ty t ≡ level → fits_of t v ≡ fits_step (map-Ty Ty (Value → Bool) fits_of level) v
+pub test_at : (t : Ty) (level : Ty-F Ty) (v : Value) → out-Ty t ≡ level → fits_of t v ≡ fits_step (map-Ty Ty (Value → Bool) fits_of level) v
 test_at t level v is = ap (λ f. f v) (fits_at t level is)
 
 -- a reader by the level of its type

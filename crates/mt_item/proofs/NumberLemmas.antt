@@ -1,5 +1,5 @@
 -- Whole numbers, and the types whose values are numbers.
-use Rattle.std.proofs.Common.{◌≡◌, ℕ, ◌-◌, ◌^◌, ◌<◌, ◌≤◌, ℤ, pos, negsuc, Bool, true, false, List, ◌++◌, length, Ok, refl, ap, sym, ◌∙◌, arith, subst, lit≤}
+use Rattle.std.proofs.Common.{◌≡◌, ℕ, ◌-◌, ◌^◌, ◌<◌, ℤ, pos, negsuc, Bool, true, false, List, ◌++◌, length, Ok, refl, ap, sym, ◌∙◌, arith, subst, lit≤}
 use Rattle.std.specs.Prelude.{nat_lt, if◌then◌else◌}
 use Rattle.std.specs.Int.{Width as Bits, w8, w16, w32, w64, w128, byte_len, to_le_bytes, from_le_bytes, cast_unsigned, cast_signed}
 use Rattle.std.specs.Int.RustNames.{FitsSigned}
@@ -19,6 +19,7 @@ use Rattle.mt_types.specs.Numbers.{is_narrow}
 use Rattle.mt_types.specs.Parts.{number_in}
 use Rattle.mt_types.proofs.NumberLemmas.{fits_at, item_at, natural_fits, natural_is, num_is, number_num}
 use Rattle.mt_types.proofs.StepLemmas.{ok_then, ok_pair}
+use Rattle.mt_table.proofs.WidthLemmas.{signed_wide}
 use Rattle.mt_item.specs.ItemReading.{First, read_as, bytes_front, whole_front}
 use Rattle.mt_item.proofs.LengthLemmas.{Small}
 use Rattle.mt_item.proofs.ExactLemmas.{IsExact, as_exact, reads_alike, read_twice, bytes_exact, small_front}
@@ -42,7 +43,7 @@ size_of W32 n = refl
 size_of W64 n = refl
 size_of W128 n = refl
 
-number_back : (w : Width) (n : ℕ) → n < 2 ^ bits w → from_le_bytes (width w) (to_le_bytes (width w) n) ≡ n
+pub number_back : (w : Width) (n : ℕ) → n < 2 ^ bits w → from_le_bytes (width w) (to_le_bytes (width w) n) ≡ n
 number_back W8 n small = sum_back 0 n small
 number_back W16 n small = sum_back 1 n small
 number_back W32 n small = sum_back 3 n small
@@ -136,18 +137,6 @@ bits_again W32 m small = of_z-to_z w32 m small
 bits_again W64 m small = of_z-to_z w64 m small
 bits_again W128 m small = of_z-to_z w128 m small
 
--- a signed number of any width is one of 128 bits
-signed_more : (size : ℕ) (n : ℤ) → 2 ^ (size - 1) ≤ 2 ^ 127 → is_signed size n ≡ true → is_signed 128 n ≡ true
-signed_more size (pos m) most h = lt-ltb m (2 ^ 127) (omega (arith, ltb-true m (2 ^ (size - 1)) h, most))
-signed_more size (negsuc m) most h = lt-ltb m (2 ^ 127) (omega (arith, ltb-true m (2 ^ (size - 1)) h, most))
-
-signed_wide : (w : Width) (n : ℤ) → is_signed (bits w) n ≡ true → is_signed 128 n ≡ true
-signed_wide W8 n h = signed_more 8 n (lit≤ tt) h
-signed_wide W16 n h = signed_more 16 n (lit≤ tt) h
-signed_wide W32 n h = signed_more 32 n (lit≤ tt) h
-signed_wide W64 n h = signed_more 64 n (lit≤ tt) h
-signed_wide W128 n h = h
-
 -- so bits of a signed type are Num
 pub signed_num : (w : Width) (m : ℕ) → m < 2 ^ bits w → number_value (cast_signed (width w) m) ≡ Num (cast_signed (width w) m)
 signed_num w m small = number_num (cast_signed (width w) m) (signed_wide w (cast_signed (width w) m) (fits_signed w (cast_signed (width w) m) (read_fits w m small)))
@@ -184,7 +173,7 @@ number_exact ty w value_of are =
 -- ---- the numbers that min and max gather
 
 -- the same number
-num_same : (m n : ℤ) → Num m ≡ Num n → m ≡ n
+pub num_same : (m n : ℤ) → Num m ≡ Num n → m ≡ n
 num_same m n e = sym (ap number_in (outs-Num m)) ∙ ap (λ (v : Value). number_in (out-Value v)) e ∙ ap number_in (outs-Num n)
 
 -- a number of at most 64 bits is Num

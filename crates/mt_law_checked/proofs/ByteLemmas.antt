@@ -1,5 +1,5 @@
 -- Files that are made of bytes: the marks of an index, and the primary index of rows that fit.
-use Rattle.std.proofs.Common.{◌≡◌, ℕ, ◌+◌, ◌-◌, ◌<◌, List, [], ◌++◌, length, take, drop, get_or, ap, sym, ◌∙◌, subst, arith, inl, inr}
+use Rattle.std.proofs.Common.{◌≡◌, ℕ, ◌+◌, ◌-◌, List, [], ◌++◌, length, take, drop, get_or, ap, sym, ◌∙◌, subst, arith, inl, inr}
 use Rattle.std.specs.Prelude.{All}
 use Rattle.std.specs.List.{flat_map}
 use Rattle.std.specs.Int.{w64}
@@ -22,21 +22,15 @@ use Rattle.mt_defs.specs.PrimaryIndex.{index_rows, key_bytes, primary_index_of}
 use Rattle.mt_defs.specs.Rows.{Row, RowFits, cell}
 use Rattle.mt_defs.specs.SkipIndexes.{SkipMark, skip_mark_bytes}
 use Rattle.mt_types.proofs.NumberLemmas.{item_at}
-use Rattle.mt_definition.proofs.KeyLemmas.{cell_fits}
-use Rattle.mt_item.proofs.ItemBytes.{item_is_bytes, number_bytes}
+use Rattle.mt_defs.proofs.RowLemmas.{cell_fits, row_length}
+use Rattle.mt_defs.proofs.ListLemmas.{flat_bytes}
+use Rattle.mt_item.proofs.ItemBytes.{item_is_bytes, number_bytes, IsByte}
 use Rattle.mt_law_written.proofs.ListLemmas.{All-granules, All-to_flat_map}
-use Rattle.mt_law_checked.proofs.OrderLemmas.{fits_long}
-
-abbrev IsByte : ℕ → Type 0
-IsByte byte = byte < 256
 
 -- ---- lists of bytes
 
 pub joined_bytes : (xs ys : List ℕ) → AreBytes xs → AreBytes ys → AreBytes (xs ++ ys)
 joined_bytes = All-append IsByte
-
-pub flat_bytes : {X : Type 0} (f : X → List ℕ) (xs : List X) → All (λ x. AreBytes (f x)) xs → AreBytes (flat_map f xs)
-flat_bytes = All-to_flat_map IsByte
 
 -- ---- the marks of an index
 
@@ -60,7 +54,7 @@ cell_is_bytes columns row i fits =
     elim (cases_lt i (length columns)) [
       | inl known ↦ item_is_bytes (column_at columns i).ty (cell row i) (cell_fits columns row i no_column fits known)
       | inr past ↦
-          let long = fits_long columns row fits in
+          let long = row_length columns row fits in
           let none : column_at columns i ≡ no_column = get_or_past columns i no_column past in
           let null : cell row i ≡ Null = get_or_past row i Null (omega (arith, past, long)) in
           subst AreBytes (sym (ap (λ (column : Column). item_bytes column.ty (cell row i)) none ∙ ap (item_bytes Str) null ∙ null_item)) (All-nil IsByte)

@@ -2,7 +2,6 @@
 use Rattle.std.proofs.Common.{◌≡◌, ℕ, List, length, map, take, ap, sym, ◌∙◌, subst}
 use Rattle.std.specs.Prelude.{All, ◌↔◌, Some, Result, Ok, Err}
 use Rattle.mt_fault.specs.declared.fault.Fault.{Fault}
-use Rattle.mt_fault.specs.declared.fault.Why.{Why}
 use Rattle.mt_types.specs.Steps.{◌>>=◌}
 use Rattle.mt_types.proofs.StepLemmas.{ok_then, then_of}
 use Rattle.mt_table.specs.declared.column.Column.{Column}
@@ -18,12 +17,13 @@ use Rattle.mt_meta.specs.ColumnsReading.{CanBeListed, Lists, columns_reading}
 use Rattle.mt_meta.specs.CountReading.{Counts, count_reading}
 use Rattle.mt_fault.specs.Faults.{blame, file_fault}
 use Rattle.mt_definition.specs.declared.accepted.Accepted.{Accepted}
-use Rattle.mt_files.specs.PartTexts.{count_why, order_reading, rows_reading}
+use Rattle.mt_files.specs.PartTexts.{count_why, order_reading, row_count_reading}
 use Rattle.mt_definition.specs.DefinitionReading.{index_keys, index_reading}
 use Rattle.mt_granules.specs.FileFaults.{file_reading}
 use Rattle.mt_granules.proofs.FileByteLemmas.{file_is_read, file_was_read}
+use Rattle.mt_files.proofs.TextLemmas.{ListsAre, read_in}
 use Rattle.mt_definition.specs.RowsReading.{keys_reading}
-use Rattle.mt_law_checked.specs.Readable.{IsNamed}
+use Rattle.mt_law_checked.specs.Readable.{HasByteName}
 use Rattle.mt_law_checked.proofs.ByteLemmas.{index_is_bytes}
 use Rattle.mt_law_checked.proofs.IndexLemmas.{keys_read, read_keys}
 use Rattle.mt_law_checked.proofs.TextBytes.{columns_bytes, decimal_bytes}
@@ -42,14 +42,7 @@ read_of folder name reading x e = ok_then (file_reading folder name) reading x e
 of_read : {A : Type 0} (folder : Folder) (name : List ℕ) (reading : List ℕ → Result A Fault) (x : A) (bytes : List ℕ) → folder name ≡ Some bytes → AreBytes bytes → reading bytes ≡ Ok x → (file_reading folder name >>= reading) ≡ Ok x
 of_read folder name reading x bytes is are e = then_of (file_reading folder name) bytes reading (file_is_read folder name bytes is are) ∙ e
 
-read_in : {A : Type 0} (file : List ℕ) (reading : Result A Why) (x : A) → blame (file_fault file) reading ≡ Ok x → reading ≡ Ok x
-read_in file (Ok y) x e = let same : y ≡ x = cc in ap Ok same
-read_in file (Err why) x e = cc
-
 -- ---- columns.txt
-
-abbrev pub OnlyLists : Type 0
-OnlyLists = (columns : List Column) (must order text : List ℕ) → columns_reading columns must text ≡ Ok order → Lists columns must order text
 
 abbrev pub AllLists : Type 0
 AllLists = (columns : List Column) (must order text : List ℕ) → CanBeListed columns → Lists columns must order text → columns_reading columns must text ≡ Ok order
@@ -60,12 +53,12 @@ pub record HasOrder (definition : PartDef) (order : List ℕ) (folder : Folder) 
   pub there : folder columns_name ≡ Some text
   pub lists : Lists definition.columns definition.must order text
 
-pub order_is_read : (definition : PartDef) (folder : Folder) (order : List ℕ) → OnlyLists → order_reading definition folder ≡ Ok order → HasOrder definition order folder
+pub order_is_read : (definition : PartDef) (folder : Folder) (order : List ℕ) → ListsAre → order_reading definition folder ≡ Ok order → HasOrder definition order folder
 order_is_read definition folder order only e =
     let r = read_of folder columns_name (λ text. blame (file_fault columns_name) (columns_reading definition.columns definition.must text)) order e in
     record { text = r.bytes; there = r.there; lists = only definition.columns definition.must order r.bytes (read_in columns_name (columns_reading definition.columns definition.must r.bytes) order r.reads) }
 
-pub read_order : (definition : PartDef) (folder : Folder) (order : List ℕ) → AllLists → CanBeListed definition.columns → All IsNamed (map (column_at definition.columns) order) → HasOrder definition order folder → order_reading definition folder ≡ Ok order
+pub read_order : (definition : PartDef) (folder : Folder) (order : List ℕ) → AllLists → CanBeListed definition.columns → All HasByteName (map (column_at definition.columns) order) → HasOrder definition order folder → order_reading definition folder ≡ Ok order
 read_order definition folder order all can named has =
     of_read folder columns_name (λ text. blame (file_fault columns_name) (columns_reading definition.columns definition.must text)) order has.text has.there
     (subst AreBytes (sym has.lists.listed) (columns_bytes (map (column_at definition.columns) order) named))
@@ -87,13 +80,13 @@ pub record HasCount (columns count : ℕ) (folder : Folder) : Type 0 where
   pub there : folder count_name ≡ Some text
   pub counts : Counts columns count text
 
-pub count_is_read : (definition : PartDef) (folder : Folder) (count : ℕ) → CountsAreRead → rows_reading definition folder ≡ Ok count → HasCount (length definition.columns) count folder
+pub count_is_read : (definition : PartDef) (folder : Folder) (count : ℕ) → CountsAreRead → row_count_reading definition folder ≡ Ok count → HasCount (length definition.columns) count folder
 count_is_read definition folder count are e =
     let columns = length definition.columns in
     let r = read_of folder count_name (λ text. blame (file_fault count_name) (count_why (count_reading columns text))) count e in
     record { text = r.bytes; there = r.there; counts = (are columns count r.bytes).0 (count_is (count_reading columns r.bytes) count r.reads) }
 
-pub read_count : (definition : PartDef) (folder : Folder) (count : ℕ) → CountsAreRead → HasCount (length definition.columns) count folder → rows_reading definition folder ≡ Ok count
+pub read_count : (definition : PartDef) (folder : Folder) (count : ℕ) → CountsAreRead → HasCount (length definition.columns) count folder → row_count_reading definition folder ≡ Ok count
 read_count definition folder count are has =
     let columns = length definition.columns in
     of_read folder count_name (λ text. blame (file_fault count_name) (count_why (count_reading columns text))) count has.text has.there (subst AreBytes (sym has.counts.decimal) (decimal_bytes count))

@@ -3,9 +3,10 @@ use Rattle.std.proofs.Common.{◌≡◌, ℕ, zero, suc, Bool, List, [], ◌∷�
 use Rattle.std.specs.Prelude.{Contains, IsSome, is_some, if◌then◌else◌}
 use Rattle.std.proofs.lemmas.Bool.{cases_Bool}
 use Rattle.mt_fault.specs.declared.file.FileBytes.{FileBytes}
-use Rattle.mt_defs.specs.Folder.{folder_of, is_name}
-use Rattle.mt_law_written.proofs.LookupLemmas.{found_is_listed, same_name}
-use Rattle.mt_law_checked.specs.Listed.{HasNames}
+use Rattle.mt_defs.specs.Folder.{folder_of, names_agree}
+use Rattle.mt_defs.proofs.NameLemmas.{same_name}
+use Rattle.mt_law_written.proofs.LookupLemmas.{found_is_listed}
+use Rattle.mt_law_checked.specs.Listed.{HasFilesAt}
 
 abbrev names_of : List FileBytes → List (List ℕ)
 names_of files = map (λ file. file.name) files
@@ -17,10 +18,10 @@ listed_is_found : (files : List FileBytes) (name : List ℕ) → Contains (names
 listed_is_found [] name (i, inside, at) = absurd (omega (arith, inside))
 listed_is_found (file ∷ files) name (zero, inside, at) = ap (λ (same : Bool). is_some (held_by file files name same)) (same_name file.name name at)
 listed_is_found (file ∷ files) name (suc i, inside, at) =
-    elim (cases_Bool (is_name file.name name)) [
+    elim (cases_Bool (names_agree file.name name)) [
       | inl same ↦ ap (λ (same : Bool). is_some (held_by file files name same)) same
       | inr other ↦ ap (λ (same : Bool). is_some (held_by file files name same)) other ∙ listed_is_found files name (i, omega (arith, inside), at)
     ]
 
-pub have_names : (files : List FileBytes) → HasNames (folder_of files) (names_of files)
+pub have_names : (files : List FileBytes) → HasFilesAt (folder_of files) (names_of files)
 have_names files name = (found_is_listed files name, listed_is_found files name)

@@ -19,6 +19,7 @@ use Rattle.mt_definition.specs.declared.accepted.Accepted.{Accepted}
 use Rattle.mt_definition.specs.DataReading.{data_reading}
 use Rattle.mt_definition.specs.DefinitionReading.{cells_reading, definition_reading, sort_file, sorted_reading, stored_reading}
 use Rattle.mt_fault.specs.Faults.{file_fault, granule_fault}
+use Rattle.mt_defs.proofs.RowLemmas.{all_cells_fit, rows_length}
 use Rattle.mt_files.specs.Faults.{none_found}
 use Rattle.mt_definition.specs.RowsReading.{first_fall, granule_of}
 use Rattle.mt_definition.proofs.RowLemmas.{free_of_falls}
@@ -26,10 +27,9 @@ use Rattle.mt_definition.proofs.StoredLemmas.{definition_read, stored_read}
 use Rattle.mt_definition.proofs.WholeRows.{rows_back}
 use Rattle.mt_files.specs.PartTexts.{order_reading}
 use Rattle.mt_law_written.proofs.ListLemmas.{some_of}
-use Rattle.mt_law_checked.specs.Readable.{IsNamed, IsReadable}
+use Rattle.mt_law_checked.specs.Readable.{HasByteName, IsReadable}
 use Rattle.mt_law_checked.proofs.DataLemmas.{CompactIsExact, WideIsExact, read_data}
 use Rattle.mt_law_checked.proofs.FileLemmas.{AllLists, CountsAreRead, HasCount, HasOrder, read_count, read_index, read_order}
-use Rattle.mt_law_checked.proofs.OrderLemmas.{rows_fit, rows_long}
 use Rattle.mt_law_checked.proofs.ReadLemmas.{can_be_read}
 
 -- ---- rows that a part may hold
@@ -64,7 +64,7 @@ known_held definition folder rows granules held = (listed definition.columns def
 pub order_is_held : AllLists → (definition : PartDef) (folder : Folder) (rows : List Row) (granules : List ℕ) → IsReadable definition → (held : HoldsRows definition folder rows granules) → order_reading definition folder ≡ Ok held.order
 order_is_held all definition folder rows granules readable held =
     let known = known_held definition folder rows granules held in
-    let named : All IsNamed (map (column_at definition.columns) held.order) = All-map IsNamed (column_at definition.columns) held.order (λ k d inside. readable.named (get_or held.order k d) no_column (known k d inside)) in
+    let named : All HasByteName (map (column_at definition.columns) held.order) = All-map HasByteName (column_at definition.columns) held.order (λ k d inside. readable.named (get_or held.order k d) no_column (known k d inside)) in
     read_order definition folder held.order all readable.listed named (orders_held definition folder rows granules held)
 
 -- ---- the rows
@@ -92,11 +92,11 @@ module _ (all : AllLists) (counted : CountsAreRead) (wide_is : WideIsExact) (com
       let can = can_be_read definition folder order (length accepted.rows) readable (orders_held definition folder accepted.rows accepted.granules held) some held.part_rows.few_rows in
       let reads : data_reading folder (length accepted.rows) columns ≡ Ok (rows, accepted.granules) = read_data wide_is compact_is folder (length accepted.rows) columns rows accepted.granules can (record {
         many = length-map accepted.rows (key_of order);
-        fit = rows_fit definition.columns order accepted.rows known held.part_rows.fit;
+        fit = all_cells_fit definition.columns order accepted.rows known held.part_rows.fit;
         layout = held.columns;
       }) in
       stored_read definition folder order (length accepted.rows) columns (rows, accepted.granules) accepted.rows (order_is_held all definition folder accepted.rows accepted.granules readable held) (read_count definition folder (length accepted.rows) counted counts) refl reads
-      (rows_back definition.columns order accepted.rows (rows_long definition.columns accepted.rows held.part_rows.fit) held.defaults)
+      (rows_back definition.columns order accepted.rows (rows_length definition.columns accepted.rows held.part_rows.fit) held.defaults)
 
   pub held_rows_are_read : definition_reading definition folder ≡ Ok accepted
   held_rows_are_read =

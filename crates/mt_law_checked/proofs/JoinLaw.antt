@@ -23,7 +23,7 @@ use Rattle.mt_definition.specs.declared.accepted.Accepted.{Accepted}
 use Rattle.mt_definition.specs.DefinitionReading.{definition_reading}
 use Rattle.mt_check.specs.FolderChecks.{each, files_checks, folder_checks, projection_folders, projections_checks, skip_checks}
 use Rattle.mt_check.specs.PartitionReading.{partition_reading}
-use Rattle.mt_law_checked.specs.Listed.{HasNames}
+use Rattle.mt_law_checked.specs.Listed.{HasFilesAt}
 use Rattle.mt_law_checked.proofs.KeyNames.{no_partition}
 use Rattle.mt_law_checked.proofs.ProjectionLaw as projection
 use Rattle.mt_law_checked.proofs.ProjectionLaw.{IsProjectionRead, IsRead, projections_held, projections_pass}
@@ -68,7 +68,7 @@ abbrev pub IsOrdered : Table → Folder → Type 0
 IsOrdered table folder = (rows : List Row) (granules : List ℕ) (holds : HoldsRows (base_of table) folder rows granules) → order_reading (base_of table) folder ≡ Ok holds.order
 
 module _ (tested : skip.AreTested) (stored_tested : projection.AreTested) (table : Table) (folder : Folder) (base : IsRead (base_of table) folder) (ordered : IsOrdered table folder)
-    (stored : All (IsProjectionRead table folder) table.projections) (partitions : ArePartitions table folder) (names : List (List ℕ)) (listed : HasNames folder names) where
+    (stored : All (IsProjectionRead table folder) table.projections) (partitions : ArePartitions table folder) (names : List (List ℕ)) (listed : HasFilesAt folder names) where
   abbrev folders : List (Option Folder)
   folders = projection_folders table folder names
 

@@ -3,6 +3,7 @@ use Rattle.std.proofs.Common.{◌≡◌, ◌≢◌, ℕ, Bool, true, false, not,
 use Rattle.std.specs.Prelude.{All, codes, Option, Some, None, IsSome, is_some, Contains, ◌==◌, if◌then◌else◌}
 use Rattle.std.specs.List.{flat_map, list_all}
 use Rattle.std.proofs.lemmas.List.Elements.{All-nil, All-append, All-contains, All-weaker}
+use Rattle.mt_facts.proofs.Lists.{each_passes}
 use Rattle.mt_table.specs.declared.column.Column.{Column}
 use Rattle.mt_table.specs.declared.definition.Table.{Table}
 use Rattle.mt_table.specs.declared.partition.PartExpr.{PartExpr}
@@ -12,7 +13,7 @@ use Rattle.mt_defs.specs.Compact.{compact_data_name, compact_marks_name}
 use Rattle.mt_defs.specs.FileNames.{data_name, marks_name, stream_names}
 use Rattle.mt_defs.specs.Folder.{Folder, folder_below}
 use Rattle.mt_defs.specs.Metadata.{column_at, columns_name, count_name}
-use Rattle.mt_defs.specs.Part.{column_names, definition_names, is_compact, known_names, partition_names, projection_names, side_names, skip_names, wide_names}
+use Rattle.mt_defs.specs.Part.{column_names, definition_names, is_compact, known_names, partition_names, projection_names, side_names, skip_file_names, wide_names}
 use Rattle.mt_defs.specs.Partition.{expression_column, minmax_name, partition_name}
 use Rattle.mt_defs.specs.PrimaryIndex.{index_name}
 use Rattle.mt_defs.specs.Projections.{inner_of, projection_prefix}
@@ -20,7 +21,6 @@ use Rattle.mt_law_written.proofs.ListLemmas.{All-mapped, All-to_flat_map, All-tw
 use Rattle.mt_law_written.proofs.LookupLemmas.{last_append, last_of}
 use Rattle.mt_law_written.proofs.NameLemmas.{has_slash}
 use Rattle.mt_law_written.proofs.ProjectionLemmas.{below_slash}
-use Rattle.mt_law_written.proofs.RuleLemmas.{each_passes}
 
 -- a name of another file
 abbrev IsOther : List ℕ → Type 0
@@ -68,8 +68,8 @@ definition_others columns folder =
 
 -- ---- the files of a part
 
-skip_others : (folder : Folder) (skip : Skip) → All IsOther (skip_names folder skip)
-skip_others folder skip = begin_otherwise (skip_names folder skip) refl
+skip_others : (folder : Folder) (skip : Skip) → All IsOther (skip_file_names folder skip)
+skip_others folder skip = begin_otherwise (skip_file_names folder skip) refl
 
 projection_others : (table : Table) (folder : Folder) (projection : Projection) → All IsOther (projection_names table folder projection)
 projection_others table folder projection =
@@ -85,12 +85,12 @@ known_others : (table : Table) (order : List ℕ) (folder : Folder) → table.pa
 known_others table order folder none =
     let columns : List Column = map (column_at table.columns) order in
     let own = definition_names columns folder in
-    let skips = flat_map (skip_names folder) table.skips in
+    let skips = flat_map (skip_file_names folder) table.skips in
     let stored = flat_map (projection_names table folder) table.projections in
     All-append IsOther (own ++ partition_names table ++ skips) stored
     (All-append IsOther (own ++ partition_names table) skips
     (All-append IsOther own (partition_names table) (definition_others columns folder) (subst (All IsOther) (sym (no_names table none)) (All-nil IsOther)))
-    (All-to_flat_map IsOther (skip_names folder) table.skips (λ k d inside. skip_others folder (get_or table.skips k d))))
+    (All-to_flat_map IsOther (skip_file_names folder) table.skips (λ k d inside. skip_others folder (get_or table.skips k d))))
     (All-to_flat_map IsOther (projection_names table folder) table.projections (λ k d inside. projection_others table folder (get_or table.projections k d)))
 
 -- a folder of known names has no partition.dat

@@ -1,5 +1,4 @@
 pub mod IndexLemmas
-pub mod OrderLemmas
 pub mod ByteLemmas
 pub mod TextBytes
 pub mod FileLemmas

@@ -11,18 +11,10 @@ use Rattle.mt_defs.specs.Rows.{Row}
 use Rattle.mt_definition.specs.declared.accepted.Accepted.{Accepted}
 use Rattle.mt_definition.specs.DataReading.{data_reading}
 use Rattle.mt_definition.specs.DefinitionReading.{cells_reading, definition_reading, in_definition_order, index_reading, sorted_reading, stored_reading}
-use Rattle.mt_files.specs.PartTexts.{order_reading, rows_reading}
+use Rattle.mt_files.specs.PartTexts.{order_reading, row_count_reading}
+use Rattle.mt_definition.proofs.StoredLemmas.{behind_cells, behind_index, behind_sorted}
 
 -- ---- the checks of a definition's folder
-
-abbrev behind_index : Accepted → Unit {0} → Result Accepted Fault
-behind_index accepted _ = Ok accepted
-
-abbrev behind_sorted : PartDef → Folder → Accepted → Unit {0} → Result Accepted Fault
-behind_sorted definition folder accepted _ = index_reading definition folder accepted >>= behind_index accepted
-
-abbrev behind_cells : PartDef → Folder → Accepted → Unit {0} → Result Accepted Fault
-behind_cells definition folder accepted _ = sorted_reading definition folder accepted >>= behind_sorted definition folder accepted
 
 abbrev behind_stored : PartDef → Folder → Accepted → Result Accepted Fault
 behind_stored definition folder accepted = cells_reading definition accepted >>= behind_cells definition folder accepted
@@ -55,7 +47,7 @@ abbrev behind_count : PartDef → Folder → List ℕ → ℕ → Result Accepte
 behind_count definition folder order count = data_reading folder count (map (column_at definition.columns) order) >>= behind_data definition order
 
 abbrev behind_order : PartDef → Folder → List ℕ → Result Accepted Fault
-behind_order definition folder order = rows_reading definition folder >>= behind_count definition folder order
+behind_order definition folder order = row_count_reading definition folder >>= behind_count definition folder order
 
 stored_is : (definition : PartDef) (folder : Folder) → stored_reading definition folder ≡ (order_reading definition folder >>= behind_order definition folder)
 unfolding stored_reading
@@ -68,13 +60,13 @@ pub record ReadsStored (definition : PartDef) (folder : Folder) (accepted : Acce
   pub rows : List Row
   pub granules : List ℕ
   pub orders : order_reading definition folder ≡ Ok order
-  pub counts : rows_reading definition folder ≡ Ok count
+  pub counts : row_count_reading definition folder ≡ Ok count
   pub reads : data_reading folder count (map (column_at definition.columns) order) ≡ Ok (rows, granules)
   pub is : accepted ≡ in_definition_order definition.columns order (rows, granules)
 
 pub stored_of : (definition : PartDef) (folder : Folder) (accepted : Accepted) → stored_reading definition folder ≡ Ok accepted → ReadsStored definition folder accepted
 stored_of definition folder accepted e =
     ok_then (order_reading definition folder) (behind_order definition folder) accepted (sym (stored_is definition folder) ∙ e) (λ order orders e.
-    ok_then (rows_reading definition folder) (behind_count definition folder order) accepted e (λ count counts e.
+    ok_then (row_count_reading definition folder) (behind_count definition folder order) accepted e (λ count counts e.
     ok_then (data_reading folder count (map (column_at definition.columns) order)) (behind_data definition order) accepted e (λ (rows, granules) reads e.
     record { order = order; count = count; rows = rows; granules = granules; orders = orders; counts = counts; reads = reads; is = ok_one (in_definition_order definition.columns order (rows, granules)) accepted e })))

@@ -22,9 +22,9 @@ use Rattle.mt_names.specs.ProjectionFolders.{projection_folder}
 use Rattle.mt_definition.specs.declared.accepted.Accepted.{Accepted}
 use Rattle.mt_definition.specs.DefinitionReading.{definition_reading}
 use Rattle.mt_files.specs.Listings.{has_below}
+use Rattle.mt_definition.proofs.DefinitionLaw.{required_true}
 use Rattle.mt_check.specs.FolderChecks.{projection_checks, projection_folder_in, projections_checks, stored_checks}
-use Rattle.mt_law_checked.specs.Listed.{HasNames}
-use Rattle.mt_law_checked.proofs.IndexLemmas.{required_true}
+use Rattle.mt_law_checked.specs.Listed.{HasFilesAt}
 use Rattle.mt_law_checked.proofs.ThereLaw.{lacks_none_below, projection_lacks, some_below}
 
 -- what is read of the folder is what it holds
@@ -73,7 +73,7 @@ module _ (tested : AreTested) (table : Table) (folder : Folder) (accepted : Acce
 
   -- ---- and whether it is there
 
-  module _ (names : List (List ℕ)) (listed : HasNames folder names) where
+  module _ (names : List (List ℕ)) (listed : HasFilesAt folder names) where
     abbrev MayBe : Type 0
     MayBe = MayHaveProjection table folder accepted.rows projection
 
@@ -94,7 +94,7 @@ module _ (tested : AreTested) (table : Table) (folder : Folder) (accepted : Acce
 
 -- ---- all of them
 
-module _ (tested : AreTested) (table : Table) (folder : Folder) (accepted : Accepted) (names : List (List ℕ)) (listed : HasNames folder names) where
+module _ (tested : AreTested) (table : Table) (folder : Folder) (accepted : Accepted) (names : List (List ℕ)) (listed : HasFilesAt folder names) where
   abbrev May : Projection → Type 0
   May = MayHaveProjection table folder accepted.rows
 

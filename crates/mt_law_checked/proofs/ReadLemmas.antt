@@ -2,7 +2,7 @@
 use Rattle.std.proofs.Common.{◌≡◌, ◌≢◌, ℕ, ◌≤◌, true, List, [], ◌∷◌, length, map, sym, ap, subst, ◌∙◌, arith}
 use Rattle.std.specs.Prelude.{All, IsTrue, Ok, Some}
 use Rattle.std.specs.List.{list_all}
-use Rattle.std.proofs.lemmas.List.{length-map}
+use Rattle.std.proofs.lemmas.List.{length-map, get_or_default}
 use Rattle.mt_types.specs.Profile.{is_profile}
 use Rattle.mt_table.specs.declared.column.Column.{Column}
 use Rattle.mt_table.specs.declared.definition.PartDef.{PartDef}
@@ -19,15 +19,15 @@ use Rattle.mt_definition.specs.RowsReading.{whole_row}
 use Rattle.mt_definition.proofs.DefinitionLaw.{part_rows}
 use Rattle.mt_definition.proofs.StoredLemmas.{rows_long}
 use Rattle.mt_definition.proofs.WholeRows.{rows_fit, rows_lack_none, rows_there}
-use Rattle.mt_files.proofs.LoopLemmas.{same_default}
+use Rattle.mt_files.proofs.TextLemmas.{ListsAre}
+use Rattle.mt_files.proofs.PlaceLemmas.{listed_profile}
 use Rattle.mt_law_checked.specs.Readable.{IsReadable}
 use Rattle.mt_law_checked.proofs.DataLemmas.{CanBeRead, CompactIsExact, WideIsExact, data_is_read}
-use Rattle.mt_law_checked.proofs.FileLemmas.{CountsAreRead, HasCount, HasOrder, OnlyLists, count_is_read, index_is_read, order_is_read}
-use Rattle.mt_law_checked.proofs.OrderLemmas.{listed_profile}
+use Rattle.mt_law_checked.proofs.FileLemmas.{CountsAreRead, HasCount, HasOrder, count_is_read, index_is_read, order_is_read}
 use Rattle.mt_law_checked.proofs.PassedLemmas.{Passed, ReadsStored, passed_of, stored_of}
 
 types_of : (definition : PartDef) → IsReadable definition → All (λ column. IsTrue (is_profile column.ty)) definition.columns
-types_of definition readable k d inside = ap (λ (column : Column). is_profile column.ty) (same_default definition.columns k d no_column inside) ∙ readable.listed.types k inside
+types_of definition readable k d inside = ap (λ (column : Column). is_profile column.ty) (get_or_default definition.columns k d no_column inside) ∙ readable.listed.types k inside
 
 -- some column is listed, where one must be
 some_listed : (must order : List ℕ) → 1 ≤ length must → list_all (is_one_of order) must ≡ true → 1 ≤ length order
@@ -51,7 +51,7 @@ can_be_read definition folder order count readable has some few =
       few_rows = few;
     }
 
-module _ (only : OnlyLists) (counted : CountsAreRead) (wide_is : WideIsExact) (compact_is : CompactIsExact) (definition : PartDef) (folder : Folder) (readable : IsReadable definition) where
+module _ (only : ListsAre) (counted : CountsAreRead) (wide_is : WideIsExact) (compact_is : CompactIsExact) (definition : PartDef) (folder : Folder) (readable : IsReadable definition) where
   -- what the files say of the accepted rows
   record Stored (accepted : Accepted) : Type 0 where
     order : List ℕ

@@ -1,9 +1,8 @@
 -- What each folder of a table stores can be read.
 use Rattle.std.proofs.Common.{◌≡◌, ◌≢◌, ℕ, ◌<◌, true, false, not, List, [], ◌∷◌, ◌++◌, length, map, get_or, refl, sym, ap, ◌∙◌, inl, inr, eqb}
-use Rattle.std.specs.Prelude.{All, codes, ◌==◌}
+use Rattle.std.specs.Prelude.{All, codes}
 use Rattle.std.specs.List.{list_all}
 use Rattle.std.proofs.lemmas.Bool.{and_parts, cases_order, ne_eqb}
-use Rattle.std.proofs.lemmas.List.Folds.{list_all-append}
 use Rattle.std.proofs.lemmas.List.Elements.{All-append, All-map, All-weaker}
 use Rattle.mt_types.specs.declared.ty.Agg.{Agg}
 use Rattle.mt_types.specs.declared.ty.Agg.TheVariants.{Sum, Min, Max}
@@ -22,6 +21,7 @@ use Rattle.mt_table.proofs.KeptLemmas.{each_of}
 use Rattle.mt_defs.specs.Lists.{AreBytes}
 use Rattle.mt_defs.specs.Metadata.{column_at, no_column}
 use Rattle.mt_defs.specs.Projections.{aggregate_word, base_of, inner_of, state_column, stored_columns}
+use Rattle.mt_defs.proofs.ListLemmas.{tested_bytes}
 use Rattle.mt_meta.specs.declared.ascii.TheConstants.{LINE_END, BACKQUOTE}
 use Rattle.mt_meta.specs.ColumnsReading.{lacks}
 use Rattle.mt_meta.specs.Definitions.{IsDefinition}
@@ -30,7 +30,7 @@ use Rattle.mt_meta.proofs.DefinitionLemmas.{base_is}
 use Rattle.mt_meta.proofs.InnerLemmas.{projections_are}
 use Rattle.mt_law_written.specs.Stored.{IsStored}
 use Rattle.mt_law_written.proofs.AggregateLemmas.{IsOver, is_over}
-use Rattle.mt_item.proofs.ItemBytes.{all_small}
+use Rattle.mt_meta.proofs.PlainLemmas.{lacks_append}
 use Rattle.mt_law_written.proofs.PlainLemmas.{word_bytes}
 use Rattle.mt_law_written.proofs.RuleLemmas.{name_bytes}
 use Rattle.mt_law_written.proofs.StoredLemmas.{grouped_rules, names_are_words}
@@ -65,17 +65,14 @@ word_listed name e =
     let bytes = name_bytes name e in
     record { some = word_some name e; one_line = word_lacks LINE_END refl name bytes; unquoted = word_lacks BACKQUOTE refl name bytes; bytes = word_bytes name bytes }
 
-lacks_append : (separator : ℕ) (xs ys : List ℕ) → lacks separator xs ≡ true → lacks separator ys ≡ true → lacks separator (xs ++ ys) ≡ true
-lacks_append separator xs ys e f = list_all-append (λ byte. not (byte == separator)) xs ys ∙ both_of (lacks separator xs) (lacks separator ys) e f
-
 -- the name of an aggregate's states
 bytes_of : (agg : Agg) (name : List ℕ) → AreBytes name → AreBytes (aggregate_word agg ++ codes "(" ++ name ++ codes ")")
-bytes_of agg name are = joined_bytes (aggregate_word agg ++ codes "(" ++ name) (codes ")") (joined_bytes (aggregate_word agg ++ codes "(") name (opening agg) are) (all_small (codes ")") refl)
+bytes_of agg name are = joined_bytes (aggregate_word agg ++ codes "(" ++ name) (codes ")") (joined_bytes (aggregate_word agg ++ codes "(") name (opening agg) are) (tested_bytes (codes ")") refl)
   where
     opening : (agg : Agg) → AreBytes (aggregate_word agg ++ codes "(")
-    opening Sum = all_small (codes "sum(") refl
-    opening Min = all_small (codes "min(") refl
-    opening Max = all_small (codes "max(") refl
+    opening Sum = tested_bytes (codes "sum(") refl
+    opening Min = tested_bytes (codes "min(") refl
+    opening Max = tested_bytes (codes "max(") refl
 
 state_name : (agg : Agg) (name : List ℕ) → IsListed name → IsListed (aggregate_word agg ++ codes "(" ++ name ++ codes ")")
 state_name Sum name listed = record {
@@ -98,7 +95,7 @@ state_name Max name listed = record {
 }
 
 state_listed : (table : Table) (aggregate : Aggregate) → All HasListedName table.columns → IsOver table.columns aggregate → HasListedName (state_column table aggregate)
-state_listed table Count listed over = record { some = λ none. cc; one_line = refl; unquoted = refl; bytes = all_small (codes "count()") refl }
+state_listed table Count listed over = record { some = λ none. cc; one_line = refl; unquoted = refl; bytes = tested_bytes (codes "count()") refl }
 state_listed table (Of agg i) listed over = state_name agg (column_at table.columns i).name (listed i no_column over)
 
 -- ---- definitions

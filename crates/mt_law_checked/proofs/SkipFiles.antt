@@ -22,7 +22,7 @@ use Rattle.mt_marks.proofs.RawLemmas.{all_marks}
 use Rattle.mt_fault.specs.Faults.{blame, file_fault}
 use Rattle.mt_granules.specs.FileFaults.{file_reading, frame_fault}
 use Rattle.mt_granules.proofs.FileByteLemmas.{file_is_read, file_was_read, frames_are_bytes}
-use Rattle.mt_files.specs.SkipMarks.{blocks_reading, marks_reading}
+use Rattle.mt_files.specs.SkipMarks.{blocks_reading, skip_marks_reading}
 use Rattle.mt_files.proofs.FrameLemmas.{read_of_file}
 use Rattle.mt_law_checked.proofs.SkipBytes.{AreRead, mark_of}
 
@@ -65,7 +65,7 @@ numbers_of : (fault : Fault) (found : Option (List Entry)) (marks : Marks) → o
 numbers_of fault (Some entries) marks e = (entries, refl, ok_one _ _ e)
 numbers_of fault None marks e = cc
 
-pub marks_held : (file : List ℕ) (count : ℕ) (bytes : List ℕ) (marks : List Mark) → marks_reading file count bytes ≡ Ok marks → HasEntries bytes count marks
+pub marks_held : (file : List ℕ) (count : ℕ) (bytes : List ℕ) (marks : List Mark) → skip_marks_reading file count bytes ≡ Ok marks → HasEntries bytes count marks
 marks_held file count bytes marks e =
     ok_then (ok_or (file_fault file why.Length) (option_map (marks_of 1) (entries_reading 1 bytes))) (after_numbers file count) marks e (λ numbers found e.
     required (length numbers.places == count) (file_fault file why.Length) (after_count numbers) marks e (λ many e.
@@ -73,7 +73,7 @@ marks_held file count bytes marks e =
     let same : marks ≡ numbers.places = ok_one _ _ e in
     record { entries = entries; reads = reads; are = same ∙ ap (λ (m : Marks). m.places) are; many = ap (λ (ms : List Mark). length ms) same ∙ eqb-true (length numbers.places) count many }))
 
-pub marks_there : (file : List ℕ) (count : ℕ) (marks : List SkipMark) → AreRead marks → length marks ≡ count → marks_reading file count (flat_map skip_mark_bytes marks) ≡ Ok (map mark_of marks)
+pub marks_there : (file : List ℕ) (count : ℕ) (marks : List SkipMark) → AreRead marks → length marks ≡ count → skip_marks_reading file count (flat_map skip_mark_bytes marks) ≡ Ok (map mark_of marks)
 marks_there file count marks read many =
     let bytes : List ℕ = flat_map skip_mark_bytes marks in
     let numbers : Marks = marks_of 1 read.entries in

@@ -9,6 +9,7 @@ use Rattle.mt_types.specs.Steps.{◌>>=◌}
 use Rattle.mt_types.proofs.StepLemmas.{ok_one, ok_then}
 use Rattle.mt_table.specs.Rows.{Pointwise}
 use Rattle.mt_table.specs.declared.skip.Skip.{Skip}
+use Rattle.mt_table.proofs.PointwiseLemmas.{Pointwise-length}
 use Rattle.mt_defs.specs.declared.mark.Mark.{Mark}
 use Rattle.mt_defs.specs.Folder.{Folder}
 use Rattle.mt_defs.specs.Frames.{Block, IsFramed, file_of, payload_of}
@@ -22,10 +23,11 @@ use Rattle.mt_marks.proofs.RecutLemmas.{marked_within}
 use Rattle.mt_granules.proofs.EntriesLemmas.{never_fall}
 use Rattle.mt_granules.specs.FileFaults.{file_reading}
 use Rattle.mt_granules.proofs.FileByteLemmas.{file_was_read}
-use Rattle.mt_files.specs.SkipMarks.{blocks_reading, index_entries, marks_reading, pieces_at, positions_reading}
+use Rattle.mt_files.specs.SkipMarks.{blocks_reading, index_entries, skip_marks_reading, pieces_at}
+use Rattle.mt_files.proofs.EntryLemmas.{positions_of}
 use Rattle.mt_law_checked.proofs.SkipBytes.{AreSkipMarks, mark_of, skip_marks_are}
 use Rattle.mt_law_checked.proofs.SkipFiles.{HasBlocks, blocks_held, marks_held}
-use Rattle.mt_law_checked.proofs.SkipLists.{all_seconds, order_unmapped, pointwise_long, pointwise_to, pointwise_unmapped}
+use Rattle.mt_law_checked.proofs.SkipLists.{all_seconds, order_unmapped, pointwise_to, pointwise_unmapped}
 use Rattle.mt_law_checked.proofs.SkipPieces.{entries_joined, entries_start, length-pieces_at}
 use Rattle.mt_law_checked.proofs.SkipPositions.{Climbs, positions_climb}
 
@@ -39,9 +41,6 @@ pub record HoldsEntries (folder : Folder) (ending : List ℕ) (skip : Skip) (ent
   pub few_offsets : All (λ skip_mark. skip_mark.mark.offset < 2 ^ 64) marks
   pub positions : Pointwise (λ skip_mark position. MarksPosition data_file skip_mark.mark position) marks (offsets_from 0 (map length entries))
   pub order : IsNonDecreasingBy (λ skip_mark. skip_mark.mark.offset) marks
-
-abbrev pub positions_of : List ℕ → ℕ → List Block → List Mark → Result (List ℕ) Fault
-positions_of file per blocks marks = positions_reading file per (length (file_of blocks)) (layout blocks) 0 None marks
 
 -- ---- what is read is held
 
@@ -84,7 +83,7 @@ abbrev pub after_marks : List ℕ → ℕ → List Block → List Mark → Resul
 after_marks file per blocks marks = positions_of file per blocks marks >>= after_positions blocks
 
 abbrev pub after_bytes : List ℕ → ℕ → ℕ → List Block → List ℕ → Result (List (List ℕ)) Fault
-after_bytes file per count blocks bytes = marks_reading file count bytes >>= after_marks file per blocks
+after_bytes file per count blocks bytes = skip_marks_reading file count bytes >>= after_marks file per blocks
 
 abbrev pub after_blocks : Folder → List ℕ → ℕ → ℕ → List Block → Result (List (List ℕ)) Fault
 after_blocks folder file per count blocks = file_reading folder file >>= after_bytes file per count blocks
@@ -99,7 +98,7 @@ unfolding index_entries
 index_held folder ending skip count entries some e =
     ok_then (blocks_reading folder (skip_data_name skip)) (after_blocks folder file per count) entries e (λ blocks framed e.
     ok_then (file_reading folder file) (after_bytes file per count blocks) entries e (λ bytes marked e.
-    ok_then (marks_reading file count bytes) (after_marks file per blocks) entries e (λ marks read e.
+    ok_then (skip_marks_reading file count bytes) (after_marks file per blocks) entries e (λ marks read e.
     ok_then (positions_of file per blocks marks) (after_positions blocks) entries e (λ positions climb e.
     let own = blocks_held folder (skip_data_name skip) blocks framed in
     let has = file_was_read folder file bytes marked in
@@ -107,7 +106,7 @@ index_held folder ending skip count entries some e =
     let are : AreSkipMarks bytes marks = subst (AreSkipMarks bytes) (sym numbers.are) (skip_marks_are bytes numbers.entries has.bytes numbers.reads) in
     let climbs = positions_climb file per (length (file_of blocks)) (layout blocks) 0 None marks positions climb in
     subst (AreHeld folder ending skip count) (sym (ok_one _ _ e))
-    (by blocks own bytes marks positions has.has are climbs (pointwise_long _ marks positions climbs.denote) numbers.many)))))
+    (by blocks own bytes marks positions has.has are climbs (Pointwise-length _ marks positions climbs.denote) numbers.many)))))
   where
     file : List ℕ
     file = skip_marks_name skip ending

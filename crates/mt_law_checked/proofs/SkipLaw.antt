@@ -13,6 +13,7 @@ use Rattle.mt_table.specs.Rows.{Pointwise}
 use Rattle.mt_table.specs.declared.definition.Table.{Table}
 use Rattle.mt_table.specs.declared.skip.Skip.{Skip}
 use Rattle.mt_table.specs.declared.skip.SkipKind.{SkipKind}
+use Rattle.mt_table.proofs.PointwiseLemmas.{Pointwise-length}
 use Rattle.mt_defs.specs.Folder.{Folder}
 use Rattle.mt_defs.specs.Metadata.{column_at}
 use Rattle.mt_defs.specs.Part.{is_compact, marks_ending}
@@ -25,7 +26,6 @@ use Rattle.mt_files.specs.SkipMarks.{has_files, index_entries}
 use Rattle.mt_law_checked.proofs.EachLaw.{each_passed, each_passes}
 use Rattle.mt_law_checked.proofs.SkipHeldLaw.{AreHeld, index_held}
 use Rattle.mt_law_checked.proofs.SkipReadLaw.{index_read}
-use Rattle.mt_law_checked.proofs.SkipLists.{pointwise_long}
 use Rattle.mt_law_checked.proofs.ThereLaw.{data_there, index_lacks, lacks_files}
 
 -- what is said of the test of entries: `summaries_are_tested`
@@ -103,7 +103,7 @@ module _ (tested : AreTested) (table : Table) (folder : Folder) (accepted : Acce
       let held : AreHeld folder ending skip (length (groups_of skip)) has.entries =
       record {
         holds = record { data_file = has.data_file; marks = has.marks; has_data = has.has_data; has_marks = has.has_marks; framed = has.framed; few_offsets = has.few_offsets; positions = has.positions; order = has.order };
-        many = sym (pointwise_long _ (groups_of skip) has.entries has.summaries);
+        many = sym (Pointwise-length _ (groups_of skip) has.entries has.summaries);
       } in
       then_of (index_entries folder ending skip (length (groups_of skip))) has.entries (entries_after skip) (index_read folder ending skip (length (groups_of skip)) has.entries held)
       ∙ entries_pass tested skip (ty_of skip) 0 (groups_of skip) has.entries has.summaries

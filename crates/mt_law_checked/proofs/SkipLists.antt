@@ -1,5 +1,5 @@
 -- Lists that belong together element by element.
-use Rattle.std.proofs.Common.{◌≡◌, suc, List, [], ◌∷◌, length, map, get_or, refl, ap, arith}
+use Rattle.std.proofs.Common.{◌≡◌, List, [], ◌∷◌, map, get_or, ap, arith}
 use Rattle.std.specs.Prelude.{All}
 use Rattle.std.specs.List.Sorted.{IsNonDecreasingBy}
 use Rattle.std.proofs.lemmas.List.{length-map, get_or-map}
@@ -26,12 +26,6 @@ pointwise_mapped R f [] [] p = tt
 pointwise_mapped R f [] (y ∷ ys) p = absurd p
 pointwise_mapped R f (x ∷ xs) [] p = absurd p
 pointwise_mapped R f (x ∷ xs) (y ∷ ys) p = (p.0, pointwise_mapped R f xs ys p.1)
-
-pub pointwise_long : {A B : Type 0} (R : A → B → Type 0) (xs : List A) (ys : List B) → Pointwise R xs ys → length xs ≡ length ys
-pointwise_long R [] [] p = refl
-pointwise_long R [] (y ∷ ys) p = absurd p
-pointwise_long R (x ∷ xs) [] p = absurd p
-pointwise_long R (x ∷ xs) (y ∷ ys) p = ap suc (pointwise_long R xs ys p.1)
 
 pub all_seconds : {A B : Type 0} (R : A → B → Type 0) (P : B → Type 0) → ((x : A) (y : B) → R x y → P y) → (xs : List A) (ys : List B) → Pointwise R xs ys → All P ys
 all_seconds R P f [] [] p = All-nil P

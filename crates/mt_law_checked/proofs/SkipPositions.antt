@@ -2,7 +2,6 @@
 use Rattle.std.proofs.Common.{◌≡◌, ℕ, ◌+◌, ◌≤◌, true, false, List, [], ◌∷◌, map, refl, sym, ap, ◌∙◌, subst, arith, Option, Some, None}
 use Rattle.std.specs.Prelude.{Result, Ok, Err, nat_le, ◌==◌}
 use Rattle.std.proofs.lemmas.Bool.{and_from, and_parts, leb-true, le-leb, eqb-true, eq-eqb}
-use Rattle.mt_fault.specs.declared.fault.Fault.{Fault}
 use Rattle.mt_fault.specs.declared.fault.Why.{Why}
 use Rattle.mt_fault.specs.declared.fault.Why.TheVariants as why
 use Rattle.mt_types.specs.Steps.{◌>>=◌, ok_or, onto, require}
@@ -15,7 +14,9 @@ use Rattle.mt_marks.specs.declared.rules.Former.{Former}
 use Rattle.mt_marks.specs.MarkReading.{is_placed, mark_reading, offset_before, payload_len, position_before}
 use Rattle.mt_fault.specs.Faults.{blame, granule_fault}
 use Rattle.mt_granules.proofs.RuleLemmas.{Rises}
+use Rattle.mt_granules.proofs.MarksFileLemmas.{found as some_found}
 use Rattle.mt_files.specs.SkipMarks.{positions_reading}
+use Rattle.mt_files.proofs.PositionLemmas.{later_of}
 
 -- the marks' positions
 abbrev pub Denote : ℕ → List Frame → List Mark → List ℕ → Type 0
@@ -44,10 +45,6 @@ record IsRuled (end : ℕ) (frames : List Frame) (before : Option Former) (mark 
   placed : is_placed before false (payload_len frames) here.position ≡ true
   climbs : position_before before ≤ here.position
   offset_is : here.offset ≡ mark.offset
-
-some_found : {A E : Type 0} (found : Option A) (w : E) (x : A) → ok_or w found ≡ Ok x → found ≡ Some x
-some_found {A} (Some y) w x e = ap (λ (a : A). Some a) (sym (ok_one _ _ e))
-some_found None w x e = cc
 
 granule_ok : {A : Type 0} (file : List ℕ) (granule : ℕ) (reading : Result A Why) (x : A) → blame (granule_fault file granule) reading ≡ Ok x → reading ≡ Ok x
 granule_ok {A} file granule (Ok y) x e = ap (λ (a : A). let r : Result A Why = Ok a in r) (sym (ok_one y x e))
@@ -99,9 +96,6 @@ place_there None end position positions begins = and_from (position == 0) true (
 place_there (Some before) end position positions begins = refl
 
 -- ---- all marks
-
-abbrev later_of : List ℕ → ℕ → ℕ → List Frame → ℕ → List Mark → Former → Result (List ℕ) Fault
-later_of file per end frames granule marks here = onto here.position (positions_reading file per end frames (granule + per) (Some here) marks)
 
 pub positions_climb : (file : List ℕ) (per end : ℕ) (frames : List Frame) (granule : ℕ) (before : Option Former) (marks : List Mark) (positions : List ℕ) → positions_reading file per end frames granule before marks ≡ Ok positions
     → Climbs end frames before marks positions

@@ -1,5 +1,5 @@
 -- columns.txt and count.txt are bytes where the names of the columns are.
-use Rattle.std.proofs.Common.{◌≡◌, ℕ, zero, suc, ◌+◌, ◌<◌, ◌/◌, ◌%◌, Bool, true, false, List, [], ◌∷◌, ◌++◌, length, refl, sym, subst, arith, lit<}
+use Rattle.std.proofs.Common.{ℕ, zero, suc, ◌+◌, ◌<◌, ◌/◌, ◌%◌, Bool, true, false, List, [], ◌∷◌, ◌++◌, length, refl, sym, subst, arith, lit<}
 use Rattle.std.proofs.Math.Nat.{mod-lt}
 use Rattle.std.specs.Prelude.{All, codes, nat_lt, ◌==◌, if◌then◌else◌}
 use Rattle.std.specs.List.{flat_map}
@@ -16,12 +16,10 @@ use Rattle.mt_types.specs.Names.{name_step, state_opening, type_name, width_text
 use Rattle.mt_table.specs.declared.column.Column.{Column}
 use Rattle.mt_defs.specs.Lists.{AreBytes}
 use Rattle.mt_defs.specs.Metadata.{column_line, columns_text}
-use Rattle.mt_item.proofs.ItemBytes.{all_small}
-use Rattle.mt_law_checked.specs.Readable.{IsNamed}
-use Rattle.mt_law_checked.proofs.ByteLemmas.{flat_bytes, joined_bytes}
-
-abbrev IsByte : ℕ → Type 0
-IsByte byte = byte < 256
+use Rattle.mt_defs.proofs.ListLemmas.{tested_bytes, flat_bytes}
+use Rattle.mt_item.proofs.ItemBytes.{IsByte}
+use Rattle.mt_law_checked.specs.Readable.{HasByteName}
+use Rattle.mt_law_checked.proofs.ByteLemmas.{joined_bytes}
 
 -- ---- numbers
 
@@ -56,31 +54,31 @@ abbrev Below : Type 0
 Below = (ty : Ty) × NameIs ty
 
 round : (opening name : List ℕ) → AreBytes opening → AreBytes name → AreBytes (opening ++ name ++ codes ")")
-round opening name one two = joined_bytes (opening ++ name) (codes ")") (joined_bytes opening name one two) (all_small (codes ")") refl)
+round opening name one two = joined_bytes (opening ++ name) (codes ")") (joined_bytes opening name one two) (tested_bytes (codes ")") refl)
 
 width_bytes : (sign : List ℕ) (width : Width) → AreBytes sign → AreBytes (sign ++ width_text width)
-width_bytes sign W8 are = joined_bytes sign (codes "8") are (all_small (codes "8") refl)
-width_bytes sign W16 are = joined_bytes sign (codes "16") are (all_small (codes "16") refl)
-width_bytes sign W32 are = joined_bytes sign (codes "32") are (all_small (codes "32") refl)
-width_bytes sign W64 are = joined_bytes sign (codes "64") are (all_small (codes "64") refl)
-width_bytes sign W128 are = joined_bytes sign (codes "128") are (all_small (codes "128") refl)
+width_bytes sign W8 are = joined_bytes sign (codes "8") are (tested_bytes (codes "8") refl)
+width_bytes sign W16 are = joined_bytes sign (codes "16") are (tested_bytes (codes "16") refl)
+width_bytes sign W32 are = joined_bytes sign (codes "32") are (tested_bytes (codes "32") refl)
+width_bytes sign W64 are = joined_bytes sign (codes "64") are (tested_bytes (codes "64") refl)
+width_bytes sign W128 are = joined_bytes sign (codes "128") are (tested_bytes (codes "128") refl)
 
 opening_bytes : (agg : Agg) → AreBytes (state_opening agg)
-opening_bytes Sum = all_small (state_opening Sum) refl
-opening_bytes Min = all_small (state_opening Min) refl
-opening_bytes Max = all_small (state_opening Max) refl
+opening_bytes Sum = tested_bytes (state_opening Sum) refl
+opening_bytes Min = tested_bytes (state_opening Min) refl
+opening_bytes Max = tested_bytes (state_opening Max) refl
 
 level_bytes : (y : Ty-F Below) → AreBytes (name_step (map-Ty Ty (List ℕ) type_name (map-Ty Below Ty (λ e. e.0) y)))
-level_bytes (Ty-F.UInt width) = width_bytes (codes "UInt") width (all_small (codes "UInt") refl)
-level_bytes (Ty-F.Int width) = width_bytes (codes "Int") width (all_small (codes "Int") refl)
-level_bytes (Ty-F.FixedString size) = round (codes "FixedString(") (decimal size) (all_small (codes "FixedString(") refl) (decimal_bytes size)
-level_bytes Ty-F.Str = all_small (codes "String") refl
-level_bytes Ty-F.Date = all_small (codes "Date") refl
-level_bytes Ty-F.Moment = all_small (codes "DateTime('UTC')") refl
-level_bytes (Ty-F.Nullable t) = round (codes "Nullable(") (type_name t.0) (all_small (codes "Nullable(") refl) t.1
-level_bytes (Ty-F.Array t) = round (codes "Array(") (type_name t.0) (all_small (codes "Array(") refl) t.1
+level_bytes (Ty-F.UInt width) = width_bytes (codes "UInt") width (tested_bytes (codes "UInt") refl)
+level_bytes (Ty-F.Int width) = width_bytes (codes "Int") width (tested_bytes (codes "Int") refl)
+level_bytes (Ty-F.FixedString size) = round (codes "FixedString(") (decimal size) (tested_bytes (codes "FixedString(") refl) (decimal_bytes size)
+level_bytes Ty-F.Str = tested_bytes (codes "String") refl
+level_bytes Ty-F.Date = tested_bytes (codes "Date") refl
+level_bytes Ty-F.Moment = tested_bytes (codes "DateTime('UTC')") refl
+level_bytes (Ty-F.Nullable t) = round (codes "Nullable(") (type_name t.0) (tested_bytes (codes "Nullable(") refl) t.1
+level_bytes (Ty-F.Array t) = round (codes "Array(") (type_name t.0) (tested_bytes (codes "Array(") refl) t.1
 level_bytes (Ty-F.State agg t) = round (state_opening agg) (type_name t.0) (opening_bytes agg) t.1
-level_bytes Ty-F.CountState = all_small (codes "AggregateFunction(count)") refl
+level_bytes Ty-F.CountState = tested_bytes (codes "AggregateFunction(count)") refl
 
 type_bytes : (ty : Ty) → NameIs ty
 type_bytes = ind-Ty NameIs (λ x y is.
@@ -88,16 +86,16 @@ type_bytes = ind-Ty NameIs (λ x y is.
 
 -- ---- columns
 
-line_bytes : (column : Column) → IsNamed column → AreBytes (column_line column)
+line_bytes : (column : Column) → HasByteName column → AreBytes (column_line column)
 line_bytes column named =
     joined_bytes (codes "`" ++ column.name ++ codes "` " ++ type_name column.ty) (codes "\n")
     (joined_bytes (codes "`" ++ column.name ++ codes "` ") (type_name column.ty)
-    (joined_bytes (codes "`" ++ column.name) (codes "` ") (joined_bytes (codes "`") column.name (all_small (codes "`") refl) named) (all_small (codes "` ") refl)) (type_bytes column.ty))
-    (all_small (codes "\n") refl)
+    (joined_bytes (codes "`" ++ column.name) (codes "` ") (joined_bytes (codes "`") column.name (tested_bytes (codes "`") refl) named) (tested_bytes (codes "` ") refl)) (type_bytes column.ty))
+    (tested_bytes (codes "\n") refl)
 
-pub columns_bytes : (columns : List Column) → All IsNamed columns → AreBytes (columns_text columns)
+pub columns_bytes : (columns : List Column) → All HasByteName columns → AreBytes (columns_text columns)
 columns_bytes columns named =
     joined_bytes (codes "columns format version: 1\n" ++ decimal (length columns) ++ codes " columns:\n") (flat_map column_line columns)
     (joined_bytes (codes "columns format version: 1\n" ++ decimal (length columns)) (codes " columns:\n")
-    (joined_bytes (codes "columns format version: 1\n") (decimal (length columns)) (all_small (codes "columns format version: 1\n") refl) (decimal_bytes (length columns))) (all_small (codes " columns:\n") refl))
-    (flat_bytes column_line columns (All-weaker IsNamed (λ column. AreBytes (column_line column)) line_bytes columns named))
+    (joined_bytes (codes "columns format version: 1\n") (decimal (length columns)) (tested_bytes (codes "columns format version: 1\n") refl) (decimal_bytes (length columns))) (tested_bytes (codes " columns:\n") refl))
+    (flat_bytes column_line columns (All-weaker HasByteName (λ column. AreBytes (column_line column)) line_bytes columns named))

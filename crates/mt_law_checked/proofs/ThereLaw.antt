@@ -12,7 +12,7 @@ use Rattle.mt_defs.specs.Projections.{projection_prefix}
 use Rattle.mt_defs.specs.SkipIndexes.{LacksSkipIndex, skip_data_name, skip_marks_name}
 use Rattle.mt_files.specs.Listings.{has_below}
 use Rattle.mt_files.specs.SkipMarks.{has_files}
-use Rattle.mt_law_checked.specs.Listed.{HasNames}
+use Rattle.mt_law_checked.specs.Listed.{HasFilesAt}
 
 -- ---- names below a prefix
 
@@ -41,7 +41,7 @@ none_or_some : (held : Option (List ℕ)) → (held ≡ None) ⊎ IsSome held
 none_or_some None = inl refl
 none_or_some (Some bytes) = inr refl
 
-module _ (folder : Folder) (names : List (List ℕ)) (listed : HasNames folder names) (projection : Projection) where
+module _ (folder : Folder) (names : List (List ℕ)) (listed : HasFilesAt folder names) (projection : Projection) where
   abbrev prefix : List ℕ
   prefix = projection_prefix projection
 

@@ -6,11 +6,11 @@ use Rattle.mt_defs.specs.Lists.{AreBytes}
 use Rattle.mt_meta.specs.ColumnsReading.{CanBeListed}
 
 -- a column whose name is bytes
-abbrev pub IsNamed : Column → Type 0
-IsNamed column = AreBytes column.name
+abbrev pub HasByteName : Column → Type 0
+HasByteName column = AreBytes column.name
 
 -- there is a column that each folder has, and a columns.txt can list all
 pub record IsReadable (definition : PartDef) : Type 0 where
   pub some : 1 ≤ length definition.must
   pub listed : CanBeListed definition.columns
-  pub named : All IsNamed definition.columns
+  pub named : All HasByteName definition.columns

@@ -12,7 +12,7 @@ ghost use Rattle.mt_defs.specs.Rows.{Row};
 ghost use Rattle.mt_definition.specs.declared.accepted.Accepted.{Accepted};
 ghost use Rattle.mt_definition.specs.DefinitionReading.{definition_reading};
 ghost use Rattle.mt_check.specs.FolderChecks.{folder_checks};
-ghost use Rattle.mt_law_checked.specs.Listed.{HasNames};
+ghost use Rattle.mt_law_checked.specs.Listed.{HasFilesAt};
 ghost use Rattle.mt_law_checked.specs.Readable.{IsReadable};
 
 use mt_check::partitions_are_checked;
@@ -49,11 +49,11 @@ pub fn definitions_are_read_exactly()
 /// has a fault.
 pub fn folders_are_checked_exactly()
     ensures accepted { (table : Table) (folder : Folder) (names : List (List ℕ)) (accepted : Accepted)
-        → HasNames folder names
+        → HasFilesAt folder names
         → (folder_checks table folder names ≡ Ok accepted)
         ↔ StandsForIn table folder accepted.rows accepted.granules }
     ensures fault { (table : Table) (folder : Folder) (names : List (List ℕ))
-        → HasNames folder names → ((rows : List Row) → StandsFor table folder rows → ⊥)
+        → HasFilesAt folder names → ((rows : List Row) → StandsFor table folder rows → ⊥)
         → (fault : Fault) × (folder_checks table folder names ≡ Err fault) }
 {
     definitions_are_readable();
@@ -77,5 +77,5 @@ pub fn folders_stand_for_one_list_of_rows()
 
 /// Of such folders are those of files in memory, whose names are the files' own.
 pub fn listed_files_make_a_folder()
-    ensures { (files : List FileBytes) → HasNames (folder_of files) (map (λ file. file.name) files) }
+    ensures { (files : List FileBytes) → HasFilesAt (folder_of files) (map (λ file. file.name) files) }
 {}

@@ -1,7 +1,6 @@
 -- Where a merge is possible, its steps give a folder.
 use Rattle.std.proofs.Common.{◌≡◌, inl, ℕ, ◌≤◌, true, List, [], ◌∷◌, ◌++◌, length, Option, Some, None, Result, Ok, All, refl, ap, sym, ◌∙◌, subst, arith}
 use Rattle.std.specs.Prelude.{Contains}
-use Rattle.std.proofs.lemmas.Bool.{le-ltb}
 use Rattle.std.proofs.lemmas.List.{append-nil, append_assoc, length-append}
 use Rattle.std.proofs.lemmas.List.Concat.{flat_map-append}
 use Rattle.std.proofs.lemmas.List.Elements.{All-head, All-tail, Contains-append_left, Contains-append_right, Contains-get_or}
@@ -17,24 +16,22 @@ use Rattle.mt_defs.specs.Rows.{Row, cell_count}
 use Rattle.mt_defs.specs.Sorting.{merged_rows}
 use Rattle.mt_defs.specs.Writer.{written_folder}
 use Rattle.mt_definition.specs.declared.accepted.Accepted.{Accepted}
-use Rattle.mt_command.specs.Parts.{folder_at, listed_bytes, listing_in, part_files, part_steps}
+use Rattle.mt_command.specs.Parts.{folder_at, listed_bytes, listing_in, listed_part, part_steps}
 use Rattle.mt_command.specs.Status.{◌>>=◌}
 use Rattle.mt_command.specs.Targets.{free_target}
 use Rattle.mt_command.specs.declared.limits.TheConstants.{MAX_FOLDER}
 use Rattle.mt_command.specs.declared.status.Status.{Status}
-use Rattle.mt_merging.specs.Inputs.{all_rows, are_ready, are_there, are_together, folder_of, one_partition, some_files, with_input}
+use Rattle.mt_merging.specs.Inputs.{all_rows, are_ready, are_there, are_together, folder_of_rows, one_partition, some_files, with_input}
 use Rattle.mt_merging.specs.Merge.{inputs_steps, merge_steps}
-use Rattle.mt_merging.specs.Rooms.{have_room, within_limits}
+use Rattle.mt_merging.specs.Rooms.{within_limits}
 use Rattle.mt_merging.proofs.RoomLemmas.{cells_after}
 use Rattle.mt_law_run.specs.Published.{CanMerge, StandEach}
 use Rattle.mt_headline.proofs.SizeLemmas.{listed_within}
+use Rattle.mt_trial.proofs.MergeOnly.{few_left}
 use Rattle.mt_law_run.proofs.CanWriteLemmas.{within_given}
 use Rattle.mt_law_run.proofs.ReadLemmas.{AcceptsExactly}
 
 -- ---- an input joins those before it
-
-few_left : (rows cells row_room cell_room : ℕ) → rows ≤ row_room → cells ≤ cell_room → have_room rows cells row_room cell_room ≡ Ok tt
-few_left rows cells row_room cell_room few less = rw (le-ltb row_room rows few, le-ltb cell_room cells less) refl
 
 -- the limits on all inputs, some of which were read
 record Within (table : Table) (all : List Row) : Type 0 where
@@ -113,7 +110,7 @@ module _ (accepts : AcceptsExactly) (table : Table) (files : Files) where
       let here : some_files part (listing_of (entries_below part files)) ≡ Ok tt = by (listing_of (entries_below part files)) (is_listed part rows each.0 (All-head P part parts small)) in
       ap (λ (r : Result Unit Status). r >>= λ _. are_there parts files) here ∙ there_given parts inputs each.1 (All-tail P part parts small)
     where
-      by : (o : Option (List Entry)) → part_files part o ≡ Ok (entries_below part files) → some_files part o ≡ Ok tt
+      by : (o : Option (List Entry)) → listed_part part o ≡ Ok (entries_below part files) → some_files part o ≡ Ok tt
       by None e = cc
       by (Some listing) e = refl
 
@@ -125,5 +122,5 @@ module _ (accepts : AcceptsExactly) (table : Table) (files : Files) where
       let read = all_given [] parts inputs can.stand can.small_parts (record { one = can.one_partition; rows = can.few_rows; cells = can.cells }) in
       let few = can.projections in
       let within = within_given (written_folder table (merged_rows table.sort inputs)) can.small in
-      let made : folder_of table (merged_rows table.sort inputs) ≡ Ok (written_folder table (merged_rows table.sort inputs)) = rw (few, within) refl in
+      let made : folder_of_rows table (merged_rows table.sort inputs) ≡ Ok (written_folder table (merged_rows table.sort inputs)) = rw (few, within) refl in
       inl (table, sym can.table_is, inl (tt, sym ready, inl (inputs, read, sym made)))

@@ -1,7 +1,7 @@
 -- Where a write is possible, its steps give a folder.
-use Rattle.std.proofs.Common.{◌≡◌, ◌≢◌, ℕ, ◌+◌, ◌≤◌, true, false, List, [], ◌∷◌, length, get_or, None, Result, Ok, refl, ap, ◌∙◌, arith}
+use Rattle.std.proofs.Common.{◌≡◌, ◌≢◌, ℕ, ◌+◌, ◌≤◌, true, false, List, [], ◌∷◌, length, None, Result, Ok, refl, ap, ◌∙◌}
 use Rattle.std.proofs.lemmas.Bool.{le-ltb}
-use Rattle.std.proofs.lemmas.List.Elements.{All-head, All-tail, Contains-get_or}
+use Rattle.std.proofs.lemmas.List.Elements.{All-head, All-tail}
 use Rattle.std.proofs.lemmas.Slice.Eq.{bytes_eq-Decides}
 use Rattle.std.specs.Prelude.{All}
 use Rattle.mt_fault.specs.declared.file.FileBytes.{FileBytes}
@@ -12,6 +12,7 @@ use Rattle.mt_defs.specs.Partition.{HaveOnePartition, partition_bytes}
 use Rattle.mt_defs.specs.Rows.{Row}
 use Rattle.mt_defs.specs.Sorting.{sorted_rows}
 use Rattle.mt_defs.specs.Writer.{written_folder}
+use Rattle.mt_defs.proofs.PartitionLemmas.{as_first}
 use Rattle.mt_command.specs.Status.{◌>>=◌, refused_by, status_of_rows}
 use Rattle.mt_command.specs.Tables.{table_in}
 use Rattle.mt_command.specs.Targets.{few_cells, folder_bytes, within_limit}
@@ -30,12 +31,6 @@ none_other table first line (row ∷ rows) all =
     let P : Row → Type 0 = λ row. partition_bytes table first ≡ partition_bytes table row in
     let here : are_together table first row ≡ true = (bytes_eq-Decides (partition_bytes table first) (partition_bytes table row)).1 (All-head P row rows all) in
     rw here (none_other table first (line + 1) rows (All-tail P row rows all))
-
--- each of rows of one partition has the first row's value
-as_first : (table : Table) (first : Row) (rows : List Row) → HaveOnePartition table (first ∷ rows)
-    → All (λ row. partition_bytes table first ≡ partition_bytes table row) (first ∷ rows)
-as_first table first rows one =
-    λ k d h. one first (get_or (first ∷ rows) k d) (Contains-get_or (first ∷ rows) 0 first (omega arith)) (Contains-get_or (first ∷ rows) k d h)
 
 is_one : (table : Table) (rows : List Row) → HaveOnePartition table rows → one_partition table rows ≡ Ok tt
 is_one table [] one = refl

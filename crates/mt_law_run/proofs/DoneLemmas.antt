@@ -11,18 +11,18 @@ use Rattle.mt_command.specs.Outcomes.{Outcomes, ◌>>=◌, gives}
 use Rattle.mt_command.specs.Parts.{part_steps}
 use Rattle.mt_command.specs.Plans.{World, Performs, or_else, refusal_of, status_of}
 use Rattle.mt_command.specs.Status as steps
-use Rattle.mt_command.specs.Status.{is_outside}
+use Rattle.mt_command.specs.Status.{is_outside_fault}
 use Rattle.mt_command.specs.Tables.{table_in}
 use Rattle.mt_command.specs.declared.status.Status.{Status}
 use Rattle.mt_command.specs.declared.status.Status.TheVariants.{Done}
-use Rattle.mt_merging.specs.Inputs.{are_ready, folder_of, with_input}
+use Rattle.mt_merging.specs.Inputs.{are_ready, folder_of_rows, with_input}
 use Rattle.mt_merging.specs.Merge.{input_steps, inputs_steps, merge_steps, merge_table_steps}
 use Rattle.mt_trial.specs.Trial.{PrintsTrial, trial_text}
+use Rattle.mt_trial.proofs.PartLemmas.{HaveOneOutcome}
+use Rattle.mt_trial.proofs.OnlyLemmas.{no_value, same_value}
 use Rattle.mt_writing.specs.Write.{folder_for, folder_in, table_for, write_plan}
 use Rattle.mt_law_run.specs.Endings.{FellShort}
 use Rattle.mt_law_run.proofs.KnownLemmas.{at_some, outside_fell, plan_comes}
-use Rattle.mt_law_run.proofs.OnlyLemmas.{no_value, same_value}
-use Rattle.mt_law_run.proofs.ReadLemmas.{HasOneOutcome}
 
 -- ---- write
 
@@ -60,23 +60,23 @@ one_then {A} {B} first next one other a b (inr (s, bad, same)) (inr (t, worse, t
     both : (let r : Result A Status = Err s in r) ≡ Err t → s ≡ t
     both e = cc
 
-one_input : HasOneOutcome → (table : Table) (files : Files) (read : List (List Row)) (part : List ℕ) → HasOne (input_steps table files read part)
+one_input : HaveOneOutcome → (table : Table) (files : Files) (read : List (List Row)) (part : List ℕ) → HasOne (input_steps table files read part)
 one_input one table files read part =
     one_then (part_steps table part files) (λ accepted. gives (with_input table read accepted.rows)) (one table part files) (λ accepted. one_given (with_input table read accepted.rows))
 
-one_inputs : HasOneOutcome → (table : Table) (files : Files) (read : List (List Row)) (parts : List (List ℕ)) → HasOne (inputs_steps table files read parts)
+one_inputs : HaveOneOutcome → (table : Table) (files : Files) (read : List (List Row)) (parts : List (List ℕ)) → HasOne (inputs_steps table files read parts)
 unfolding inputs_steps
 one_inputs one table files read [] = one_given (Ok read)
 one_inputs one table files read (part ∷ parts) =
     one_then (input_steps table files read part) (λ more. inputs_steps table files more parts) (one_input one table files read part) (λ more. one_inputs one table files more parts)
 
-one_merge : HasOneOutcome → (path target : List ℕ) (parts : List (List ℕ)) (files : Files) → HasOne (merge_steps path target parts files)
+one_merge : HaveOneOutcome → (path target : List ℕ) (parts : List (List ℕ)) (files : Files) → HasOne (merge_steps path target parts files)
 one_merge one path target parts files =
     one_then (gives (table_in path files)) (λ table. merge_table_steps table target parts files) (one_given (table_in path files)) (λ table.
-    one_then (gives (are_ready target parts files)) (λ _. inputs_steps table files [] parts >>= λ read. gives (folder_of table (merged_rows table.sort read))) (one_given (are_ready target parts files)) (λ _.
-    one_then (inputs_steps table files [] parts) (λ read. gives (folder_of table (merged_rows table.sort read))) (one_inputs one table files [] parts) (λ read. one_given (folder_of table (merged_rows table.sort read)))))
+    one_then (gives (are_ready target parts files)) (λ _. inputs_steps table files [] parts >>= λ read. gives (folder_of_rows table (merged_rows table.sort read))) (one_given (are_ready target parts files)) (λ _.
+    one_then (inputs_steps table files [] parts) (λ read. gives (folder_of_rows table (merged_rows table.sort read))) (one_inputs one table files [] parts) (λ read. one_given (folder_of_rows table (merged_rows table.sort read)))))
 
-pub merge_done : HasOneOutcome → (path target : List ℕ) (parts : List (List ℕ)) (files : Files) (folder : List FileBytes) (old new : World) (status : Status)
+pub merge_done : HaveOneOutcome → (path target : List ℕ) (parts : List (List ℕ)) (files : Files) (folder : List FileBytes) (old new : World) (status : Status)
     → old.files ≡ Some files → merge_steps path target parts files (Ok folder)
     → PublishesFolderOf target (merge_steps path target parts) old new status → FellShort old new status ⊎ (status ≡ Done)
 merge_done one path target parts files folder old new status known can (outcome, inr early, performs) =
@@ -92,7 +92,7 @@ pub trial_done : (number rows : ℕ) (old new : World) (status : Status) → Pri
     → FellShort old new status ⊎ ((status ≡ Done) × (new.written ≡ append_known old.written (trial_text number rows)))
 trial_done number rows old new status runs = by runs.unrefused
   where
-    by : (status ≡ Done) ⊎ (is_outside status ≡ true)
+    by : (status ≡ Done) ⊎ (is_outside_fault status ≡ true)
         → FellShort old new status ⊎ ((status ≡ Done) × (new.written ≡ append_known old.written (trial_text number rows)))
     by (inl done) = inr (done, runs.printed done)
     by (inr outside) = inl (outside_fell (printing_plan runs.performed.0) old new status outside runs.performed.2.1)

@@ -1,5 +1,5 @@
 -- The writer's folder of some rows, published at a free target.
-use Rattle.std.proofs.Common.{◌≡◌, ℕ, Bool, true, false, List, map, Some, Ok, Err, refl, ap, sym, ◌∙◌}
+use Rattle.std.proofs.Common.{◌≡◌, ℕ, List, map, Some, Ok, refl, ap, ◌∙◌}
 use Rattle.std.specs.Prelude.{AllPairs, nat_lt}
 use Rattle.mt_fault.specs.declared.file.FileBytes.{FileBytes}
 use Rattle.mt_shelf.specs.Files.{Files, gained_files}
@@ -11,16 +11,17 @@ use Rattle.mt_defs.specs.Rows.{Row}
 use Rattle.mt_defs.specs.Sorting.{sorted_rows}
 use Rattle.mt_defs.specs.Writer.{IsWritable, written_folder}
 use Rattle.mt_law_written.proofs.OrderLemmas.{Differently}
+use Rattle.mt_law_written.proofs.FolderLemmas.{granules_of}
 use Rattle.mt_headline.specs.Storable.{AreStorable}
 use Rattle.mt_headline.proofs.PublishedLemmas.{is_free}
 use Rattle.mt_headline.proofs.SizeLemmas.{few_gained, few_of}
-use Rattle.mt_headline.proofs.WrittenLemmas.{granules_of, written_published}
+use Rattle.mt_headline.proofs.WrittenLemmas.{written_published}
 use Rattle.mt_command.specs.Plans.{World}
 use Rattle.mt_command.specs.Tables.{table_in}
 use Rattle.mt_command.specs.Targets.{folder_bytes, free_target, within_limit}
 use Rattle.mt_command.specs.declared.limits.TheConstants.{MAX_FOLDER}
-use Rattle.mt_command.specs.declared.status.Status.TheVariants.{TooMuch}
 use Rattle.mt_command.specs.declared.status.What.TheVariants as what
+use Rattle.mt_writing.proofs.WrittenParts.{within}
 use Rattle.mt_law_run.specs.Published.{HasGained}
 use Rattle.mt_law_run.proofs.KeptLemmas.{table_stays}
 
@@ -30,11 +31,6 @@ pub record WriterLaws : Type 0 where
   pub stand : (table : Table) (rows : List Row) → IsWritable table rows
       → StandsForIn table (folders.folder_of (written_folder table rows)) rows (granules_of table rows)
   pub differ : (table : Table) (rows : List Row) → AllPairs Differently (written_folder table rows)
-
--- a folder within the limit is the one that was made
-within : (folder files : List FileBytes) (much : Bool) → nat_lt MAX_FOLDER (folder_bytes folder) ≡ much → within_limit folder ≡ Ok files → files ≡ folder
-within folder files true is e = let never : within_limit folder ≡ Err (TooMuch what.Part MAX_FOLDER) = rw is refl in cc
-within folder files false is e = let made : within_limit folder ≡ Ok folder = rw is refl in let same : folder ≡ files = cc in sym same
 
 pub gained : WriterLaws → (path part : List ℕ) (table : Table) (rows : List Row) (files : Files) (new : World) (folder : List FileBytes)
     → IsWritable table rows → table_in path files ≡ Ok table → free_target part files ≡ Ok tt

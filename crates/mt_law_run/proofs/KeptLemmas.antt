@@ -9,9 +9,9 @@ use Rattle.mt_fault.specs.declared.file.FileBytes.{FileBytes}
 use Rattle.mt_shelf.specs.Files.{Draft, Files, entries_below, gained_files, stands}
 use Rattle.mt_shelf.specs.Held.{pair_of}
 use Rattle.mt_shelf.specs.Paths.{is_at_or_below}
-use Rattle.mt_defs.specs.Folder.{is_name}
+use Rattle.mt_defs.specs.Folder.{names_agree}
 use Rattle.mt_table.specs.declared.definition.Table.{Table}
-use Rattle.mt_law_written.proofs.LookupLemmas.{name_is}
+use Rattle.mt_defs.proofs.NameLemmas.{name_is}
 use Rattle.mt_headline.proofs.ApartLemmas.{file_stays}
 use Rattle.mt_command.specs.Parts.{folder_at}
 use Rattle.mt_command.specs.Plans.{Plan, World, Gains, Performs, input_of}
@@ -75,7 +75,7 @@ found_apart : (part path bytes : List ℕ) (files : List (List ℕ × List ℕ))
 found_apart part path bytes [] free e = cc
 found_apart part path bytes (file ∷ files) free e =
     let both = or_parts (is_at_or_below part file.0) (list_any (is_at_or_below part) (map (λ (file : List ℕ × List ℕ). file.0) files)) free in
-    elim (cases_Bool (is_name path file.0)) [
+    elim (cases_Bool (names_agree path file.0)) [
       | inl same ↦ ap (is_at_or_below part) (name_is path file.0 same) ∙ both.0
       | inr other ↦ found_apart part path bytes files both.1 (sym (ap (λ (b : Bool). cond b (Some file.1) (find (slice_cmp nat_cmp) path files)) other) ∙ e)
     ]

@@ -7,7 +7,7 @@ use Rattle.mt_shelf.specs.Held.{pair_of}
 use Rattle.mt_command.specs.Outcomes.{Outcomes}
 use Rattle.mt_command.specs.Commands.{PrintsTextOf, PublishesFolderOf, printing_plan, publishing_plan}
 use Rattle.mt_command.specs.Plans.{Plan, World, Answers, CausedBy, Gains, Leaves, NoneRose, Performs, Unchanged, WhereKnown, input_of, refusal_of, status_of}
-use Rattle.mt_command.specs.Status.{is_outside}
+use Rattle.mt_command.specs.Status.{is_outside_fault}
 use Rattle.mt_command.specs.declared.status.Status.{Status}
 use Rattle.mt_command.specs.declared.status.Status.TheVariants.{Done, SourceFault, ShelfFault, SinkFault, NoMemory}
 use Rattle.mt_run.specs.Commands.{Command, Runs, Write, Check, Rows, Show, Select, Merge, Trial}
@@ -29,7 +29,7 @@ fell_or plan old new refused ShelfFault answers cause = inl cause.0
 fell_or plan old new refused NoMemory answers cause = inl tt
 fell_or plan old new refused status answers cause = inr (answers refl)
 
-pub outside_fell : (plan : Plan) (old new : World) (status : Status) → is_outside status ≡ true → CausedBy plan old new status → FellShort old new status
+pub outside_fell : (plan : Plan) (old new : World) (status : Status) → is_outside_fault status ≡ true → CausedBy plan old new status → FellShort old new status
 outside_fell plan old new SourceFault outside cause = cause.1
 outside_fell plan old new SinkFault outside cause = cause.1
 outside_fell plan old new ShelfFault outside cause = cause.0
@@ -109,7 +109,7 @@ performs_of (Merge table target inputs) old new status (outcome, is, performs) =
 performs_of (Trial number rows) old new status runs = (printing_plan runs.performed.0, runs.performed.2)
 
 pub fell_or_none : (plan : Plan) (old new : World) (status : Status) → CausedBy plan old new status
-    → FellShort old new status ⊎ ((is_outside status ≡ false) × NoneRose old new)
+    → FellShort old new status ⊎ ((is_outside_fault status ≡ false) × NoneRose old new)
 fell_or_none plan old new SourceFault cause = inl cause.1
 fell_or_none plan old new SinkFault cause = inl cause.1
 fell_or_none plan old new ShelfFault cause = inl cause.0
@@ -134,7 +134,7 @@ files_after plan old new NoMemory (inr same, printed) = inr same
 files_after plan old new status left = inr left.0
 
 -- and a refusal leaves all as it was
-pub refused_leaves : (plan : Plan) (old new : World) (status : Status) → is_outside status ≡ false → ¬ (status ≡ Done) → Leaves plan old new status
+pub refused_leaves : (plan : Plan) (old new : World) (status : Status) → is_outside_fault status ≡ false → ¬ (status ≡ Done) → Leaves plan old new status
     → Unchanged old new
 refused_leaves plan old new Done inside other left = absurd (other refl)
 refused_leaves plan old new ShelfFault inside other left = cc

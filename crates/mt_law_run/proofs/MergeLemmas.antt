@@ -30,17 +30,18 @@ use Rattle.mt_command.specs.Targets.{few_cells, free_target, within_limit}
 use Rattle.mt_command.specs.declared.status.Status.{Status}
 use Rattle.mt_command.specs.declared.status.Status.TheVariants.{Done, TooMuch}
 use Rattle.mt_command.specs.declared.status.What.TheVariants as what
-use Rattle.mt_merging.specs.Inputs.{AreInputs, all_rows, are_ready, are_there, folder_of, one_partition, with_input}
+use Rattle.mt_merging.specs.Inputs.{AreInputs, all_rows, are_ready, are_there, folder_of_rows, one_partition, with_input}
 use Rattle.mt_merging.specs.Merge.{inputs_steps, merge_steps, merge_table_steps}
 use Rattle.mt_merging.specs.Rooms.{have_room, within_limits}
 use Rattle.mt_merging.proofs.InputLemmas.{no_inputs}
 use Rattle.mt_merging.proofs.RowLemmas.{all_rows_push, joined_one, merged_cells, merged_fit, merged_one, merged_some}
+use Rattle.mt_trial.proofs.OnlyLemmas.{same_value}
 use Rattle.mt_run.specs.Words.{are_inputs}
 use Rattle.mt_law_run.specs.Published.{Merged, StandEach}
 use Rattle.mt_law_run.proofs.GainedLemmas.{WriterLaws, gained}
 use Rattle.mt_law_run.proofs.KnownLemmas.{published}
 use Rattle.mt_law_run.proofs.NeverLemmas.{merge_ends}
-use Rattle.mt_law_run.proofs.OnlyLemmas.{came_by, passed, same_value}
+use Rattle.mt_law_run.proofs.OnlyLemmas.{came_by, passed}
 use Rattle.mt_law_run.proofs.ReadLemmas.{AcceptsExactly}
 
 -- ---- an input
@@ -141,15 +142,15 @@ record Steps (path target : List ℕ) (parts : List (List ℕ)) (files : Files) 
   free : free_target target files ≡ Ok tt
   read : List (List Row)
   given : inputs_steps table files [] parts (Ok read)
-  made : folder_of table (merged_rows table.sort read) ≡ Ok folder
+  made : folder_of_rows table (merged_rows table.sort read) ≡ Ok folder
 
 steps_of : (path target : List ℕ) (parts : List (List ℕ)) (files : Files) (folder : List FileBytes) → merge_steps path target parts files (Ok folder)
     → Steps path target parts files folder
 steps_of path target parts files folder came =
     let first = came_by (gives (table_in path files)) (λ table. merge_table_steps table target parts files) folder came in
     let table = first.0 in
-    let second = came_by (gives (are_ready target parts files)) (λ _. steps.◌>>=◌ (inputs_steps table files [] parts) (λ read. gives (folder_of table (merged_rows table.sort read)))) folder first.2 in
-    let third = came_by (inputs_steps table files [] parts) (λ read. gives (folder_of table (merged_rows table.sort read))) folder second.2 in
+    let second = came_by (gives (are_ready target parts files)) (λ _. steps.◌>>=◌ (inputs_steps table files [] parts) (λ read. gives (folder_of_rows table (merged_rows table.sort read)))) folder first.2 in
+    let third = came_by (inputs_steps table files [] parts) (λ read. gives (folder_of_rows table (merged_rows table.sort read))) folder second.2 in
     let free = passed (are_there parts files) (λ _. free_target target files) tt (sym second.1) in
     record { table = table; known = sym first.1; free = free.later; read = third.0; given = third.1; made = sym third.2 }
 

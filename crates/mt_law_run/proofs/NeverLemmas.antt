@@ -19,7 +19,7 @@ use Rattle.mt_defs.specs.Sorting.{merged_rows, sorted_rows}
 use Rattle.mt_defs.specs.Writer.{written_folder}
 use Rattle.mt_definition.specs.declared.accepted.Accepted.{Accepted}
 use Rattle.mt_command.specs.Outcomes as steps
-use Rattle.mt_command.specs.Parts.{listed_bytes, listing_in, part_checks, part_files, part_steps, table_part_steps}
+use Rattle.mt_command.specs.Parts.{listed_bytes, listing_in, part_checks, listed_part, part_steps, table_part_steps}
 use Rattle.mt_command.specs.Plans.{or_else, status_of}
 use Rattle.mt_command.specs.Status.{◌>>=◌, refusal, refused_by, status_of_rows}
 use Rattle.mt_command.specs.Tables.{table_in, table_of, table_text}
@@ -34,7 +34,7 @@ use Rattle.mt_merging.specs.Rooms.{within_limits}
 use Rattle.mt_writing.specs.Partitions.{no_other, one_partition, other_partition}
 use Rattle.mt_writing.specs.Write.{folder_for, folder_in, folder_of, input_text, rows_of, some_input, table_for}
 use Rattle.mt_reading.specs.Reading.{check_steps, rows_steps}
-use Rattle.mt_select.specs.Select.{answer_steps, query_of, select_steps}
+use Rattle.mt_select.specs.Select.{answer_steps, query_asked, select_steps}
 use Rattle.mt_show.specs.Show.{part_text, show_steps}
 
 -- no refusal of this kind
@@ -208,7 +208,7 @@ bad_write path part input files why is = by_table (table_in path files) refl is
 listing_late : (part : List ℕ) (files : Files) → Late (listing_in part files)
 listing_late part files = by (listing_of (entries_below part files))
   where
-    by : (o : Option (List Entry)) → Late (part_files part o)
+    by : (o : Option (List Entry)) → Late (listed_part part o)
     by None = λ e. e
     by (Some listing) = so_if IsEarly (nat_lt MAX_FOLDER (listed_bytes listing)) (Err (TooMuch what.Part MAX_FOLDER)) (Ok listing) (λ e. e) tt
 
@@ -230,14 +230,14 @@ text_late table part files =
     so_ends IsEarly (steps.gives (listing_in part files)) _ (so_given IsEarly (listing_in part files) (listing_late part files)) (λ listing.
     so_ends IsEarly (steps.refused_by (AtFault part) (part_checks table part files)) _ (checks_late part (part_checks table part files)) (λ accepted. so_value IsEarly _))
 
-query_late : (text : List ℕ) (table : Table) → LateEnds (query_of table text)
+query_late : (text : List ℕ) (table : Table) → LateEnds (query_asked table text)
 query_late text table (Ok query) asked = tt
 query_late text table (Err status) (why, asked, same) = λ e. subst IsEarly same e
 
 asked_late : (text : List ℕ) (table : Table) (part : List ℕ) (files : Files)
-    → LateEnds (steps.◌>>=◌ (query_of table text) (λ query. answer_steps table query part files))
+    → LateEnds (steps.◌>>=◌ (query_asked table text) (λ query. answer_steps table query part files))
 asked_late text table part files =
-    so_ends IsEarly (query_of table text) _ (query_late text table)
+    so_ends IsEarly (query_asked table text) _ (query_late text table)
     (λ query. so_ends IsEarly (part_steps table part files) _ (part_late table part files) (λ accepted. so_value IsEarly _))
 
 module _ (path part : List ℕ) (files : Files) where
@@ -307,9 +307,9 @@ merge_late table target parts files =
     so_ends IsEarly (steps.gives (merging.are_ready target parts files)) _
     (so_given IsEarly (merging.are_ready target parts files) (so_then IsEarly (merging.are_there parts files) _ (there_late parts files) (λ _. free_late target files)))
     (λ _. so_ends IsEarly (inputs_steps table files [] parts) _ (inputs_late table files [] parts)
-    (λ read. so_given IsEarly (merging.folder_of table (merged_rows table.sort read)) (merged_late table (merged_rows table.sort read))))
+    (λ read. so_given IsEarly (merging.folder_of_rows table (merged_rows table.sort read)) (merged_late table (merged_rows table.sort read))))
   where
-    merged_late : (table : Table) (rows : List Row) → Late (merging.folder_of table rows)
+    merged_late : (table : Table) (rows : List Row) → Late (merging.folder_of_rows table rows)
     merged_late table rows = so_then IsEarly (few_cells table rows) _ (few_late table rows) (λ _. within_late (written_folder table rows))
 
 pub merge_ends : (path target : List ℕ) (parts : List (List ℕ)) (files : Files) → NeverEnds (merge_steps path target parts files)

@@ -3,16 +3,11 @@ use Rattle.std.proofs.Common.{◌≡◌, ◌⊎◌, inl, inr, refl, ◌∙◌, s
 use Rattle.mt_command.specs.Outcomes.{Outcomes, ◌>>=◌, gives}
 use Rattle.mt_command.specs.Status as readings
 use Rattle.mt_command.specs.declared.status.Status.{Status}
+use Rattle.mt_trial.proofs.OnlyLemmas.{no_value, same_value}
 
 -- any outcome of the steps is this value
 abbrev pub IsOnly : {A : Type 0} → Outcomes A → A → Type 0
 IsOnly {A} steps x = (outcome : Result A Status) → steps outcome → outcome ≡ Ok x
-
-pub same_value : {A : Type 0} (x y : A) → (let r : Result A Status = Ok x in r) ≡ Ok y → x ≡ y
-same_value x y e = cc
-
-pub no_value : {A : Type 0} (status : Status) (x : A) → (let r : Result A Status = Err status in r) ≡ Ok x → ⊥
-no_value status x e = cc
 
 pub given_only : {A : Type 0} (r : Result A Status) (x : A) → r ≡ Ok x → IsOnly (gives r) x
 given_only r x is outcome same = same ∙ is

@@ -20,8 +20,9 @@ use Rattle.mt_command.specs.Plans.{World}
 use Rattle.mt_command.specs.Tables.{table_in}
 use Rattle.mt_command.specs.declared.status.Status.{Status}
 use Rattle.mt_command.specs.declared.status.Status.TheVariants.{AtFault}
-use Rattle.mt_select.specs.Select.{query_of, select_steps}
+use Rattle.mt_select.specs.Select.{query_asked, select_steps}
 use Rattle.mt_show.specs.Show.{show_steps}
+use Rattle.mt_trial.proofs.PartLemmas.{HaveOneOutcome}
 use Rattle.mt_reading.specs.Reading.{accepted_line, check_steps, rows_steps}
 use Rattle.mt_law_run.specs.Endings.{FellShort, Printed}
 use Rattle.mt_law_run.specs.Parts.{HasPart, shown_text}
@@ -34,11 +35,6 @@ use Rattle.mt_law_run.proofs.OnlyLemmas.{IsOnly, given_only, then_only}
 abbrev pub AcceptsExactly : Type 0
 AcceptsExactly =
     (table : Table) (part : List ℕ) (files : Files) (held : Accepted) → part_checks table part files (Ok held) ↔ StandsForIn table (folder_at part files) held.rows held.granules
-
--- the steps of a part have one outcome
-abbrev pub HasOneOutcome : Type 0
-HasOneOutcome =
-    (table : Table) (part : List ℕ) (files : Files) (one other : Result Accepted Status) → part_steps table part files one → part_steps table part files other → one ≡ other
 
 -- a text asks one thing of a table
 abbrev pub AsksOneThing : Type 0
@@ -60,7 +56,7 @@ pub record IsRead (path part : List ℕ) (files : Files) (table : Table) (held :
   pub listed : listing_in part files ≡ Ok listing
   pub only : IsOnly (part_steps table part files) held
 
-pub is_read : AcceptsExactly → HasOneOutcome → (files : Files) (path part : List ℕ) (table : Table) (held : Accepted) → HasPart files path part table held
+pub is_read : AcceptsExactly → HaveOneOutcome → (files : Files) (path part : List ℕ) (table : Table) (held : Accepted) → HasPart files path part table held
     → IsRead path part files table held
 is_read accepts one files path part table held has =
     let checks = (accepts table part files held).1 has.stands in
@@ -103,7 +99,7 @@ module _ (path part : List ℕ) (table : Table) (held : Accepted) (files : Files
       (then_only (refused_by (AtFault part) (part_checks table part files)) _ held text checks_only (given_only (Ok text) text refl)))
 
   module _ (asks_one : AsksOneThing) (text : List ℕ) (query : Query) (asks : Asks text table (Ok query)) where
-    query_only : IsOnly (query_of table text) query
+    query_only : IsOnly (query_asked table text) query
     query_only (Ok other) asked = same (asks_one text table (Ok other) (Ok query) asked asks)
       where
         same : (let r : Result Query QueryWhy = Ok other in r) ≡ Ok query → (let r : Result Query Status = Ok other in r) ≡ Ok query
@@ -116,7 +112,7 @@ module _ (path part : List ℕ) (table : Table) (held : Accepted) (files : Files
     pub select_only : IsOnly (select_steps path part text files) (answer_text table query held.rows)
     select_only =
         then_only (gives (table_in path files)) _ table (answer_text table query held.rows) table_only
-        (then_only (query_of table text) _ query (answer_text table query held.rows) query_only
+        (then_only (query_asked table text) _ query (answer_text table query held.rows) query_only
         (then_only (part_steps table part files) _ held (answer_text table query held.rows) read.only
         (given_only (Ok (answer_text table query held.rows)) (answer_text table query held.rows) refl)))
 

@@ -19,31 +19,32 @@ use Rattle.mt_fold.specs.Answer.{answer_text}
 use Rattle.mt_headline.proofs.PublishedLemmas.{not_both}
 use Rattle.mt_command.specs.Commands.{PrintsTextOf}
 use Rattle.mt_command.specs.Outcomes.{Outcomes, ◌>>=◌, gives, refused_by}
-use Rattle.mt_command.specs.Parts.{folder_at, listed_bytes, listing_in, part_checks, part_files, part_steps, table_part_steps}
+use Rattle.mt_command.specs.Parts.{folder_at, listed_bytes, listing_in, part_checks, listed_part, part_steps, table_part_steps}
 use Rattle.mt_command.specs.Plans.{World}
 use Rattle.mt_command.specs.Tables.{table_in, table_of, table_text}
 use Rattle.mt_command.specs.declared.limits.TheConstants.{MAX_FOLDER, MAX_TABLE_TEXT}
 use Rattle.mt_command.specs.declared.status.Status.{Status}
 use Rattle.mt_command.specs.declared.status.Status.TheVariants.{AtFault, BadQuery, BadTable, Done, TooMuch}
 use Rattle.mt_command.specs.declared.status.What.TheVariants as what
-use Rattle.mt_select.specs.Select.{answer_steps, query_of, select_steps}
+use Rattle.mt_select.specs.Select.{answer_steps, query_asked, select_steps}
 use Rattle.mt_show.specs.Show.{listed_text, part_text, show_steps}
+use Rattle.mt_trial.proofs.OnlyLemmas.{same_value}
 use Rattle.mt_reading.specs.Reading.{accepted_line, check_steps, rows_steps}
 use Rattle.mt_law_run.specs.Endings.{FellShort, Printed}
 use Rattle.mt_law_run.specs.Parts.{FirstFault, HasFiles, HasPart, IsAtFault, Read, StandsForNone, shown_text}
 use Rattle.mt_law_run.proofs.KnownLemmas.{CameTo, came_to}
 use Rattle.mt_law_run.proofs.NeverLemmas.{Never, NeverEnds, so_if, so_read, so_then}
-use Rattle.mt_law_run.proofs.OnlyLemmas.{came_by, came_to_refuse, no_refusal, same_value}
+use Rattle.mt_law_run.proofs.OnlyLemmas.{came_by, came_to_refuse, no_refusal}
 use Rattle.mt_law_run.proofs.ReadLemmas.{AcceptsExactly, AsksOneThing}
 
 -- ---- the listing
 
-few_listed : (part : List ℕ) (listing given : List Entry) → part_files part (listing_of listing) ≡ Ok given → listed_bytes listing ≤ MAX_FOLDER
+few_listed : (part : List ℕ) (listing given : List Entry) → listed_part part (listing_of listing) ≡ Ok given → listed_bytes listing ≤ MAX_FOLDER
 few_listed part [] given is = cc
 few_listed part (entry ∷ listing) given is = by (nat_lt MAX_FOLDER (listed_bytes (entry ∷ listing))) refl
   where
     by : (much : Bool) → nat_lt MAX_FOLDER (listed_bytes (entry ∷ listing)) ≡ much → listed_bytes (entry ∷ listing) ≤ MAX_FOLDER
-    by true much = let never : part_files part (Some (entry ∷ listing)) ≡ Err (TooMuch what.Part MAX_FOLDER) = rw much refl in cc
+    by true much = let never : listed_part part (Some (entry ∷ listing)) ≡ Err (TooMuch what.Part MAX_FOLDER) = rw much refl in cc
     by false few = let less = ltb-false MAX_FOLDER (listed_bytes (entry ∷ listing)) few in omega (arith, less)
 
 -- a part of which some file is there, within the limit, is listed
@@ -51,7 +52,7 @@ pub some_listed : (part : List ℕ) (files : Files) → entries_below part files
     → listing_in part files ≡ Ok (entries_below part files)
 some_listed part files some few = by (entries_below part files) some few
   where
-    by : (listing : List Entry) → listing ≢ [] → listed_bytes listing ≤ MAX_FOLDER → part_files part (listing_of listing) ≡ Ok listing
+    by : (listing : List Entry) → listing ≢ [] → listed_bytes listing ≤ MAX_FOLDER → listed_part part (listing_of listing) ≡ Ok listing
     by [] some few = absurd (some refl)
     by (entry ∷ listing) some few = let test = le-ltb MAX_FOLDER (listed_bytes (entry ∷ listing)) few in rw test refl
 
@@ -96,7 +97,7 @@ module _ (path part : List ℕ) (files : Files) where
   answer_of table query accepted = gives (Ok (answer_text table query accepted.rows))
 
   abbrev asked_of : List ℕ → Table → Outcomes (List ℕ)
-  asked_of query_text table = query_of table query_text >>= λ query. answer_steps table query part files
+  asked_of query_text table = query_asked table query_text >>= λ query. answer_steps table query part files
 
   both_gave : (table : Table) (accepted : Accepted) → table_part_steps path part files (Ok (table, accepted))
       → (table_in path files ≡ Ok table) × part_steps table part files (Ok accepted)
@@ -147,7 +148,7 @@ module _ (path part : List ℕ) (files : Files) where
       → (query : Query) × (g : Gave path part files text (λ table accepted. answer_text table query accepted.rows)) × Asks query_text g.0 (Ok query)
   select_gave query_text text came =
       let (table, known, later) = came_by (gives (table_in path files)) (asked_of query_text) text came in
-      let (query, asked, last) = came_by (query_of table query_text) (λ query. answer_steps table query part files) text later in
+      let (query, asked, last) = came_by (query_asked table query_text) (λ query. answer_steps table query part files) text later in
       let (accepted, steps, is) = came_by (part_steps table part files) (answer_of table query) text last in
       (query, (table, accepted, sym known, steps, same_value text _ is), asked)
 
@@ -199,7 +200,7 @@ module _ (path part : List ℕ) (files : Files) where
       at_last table query (inr (accepted, is, bad)) = absurd (no_refusal status (answer_text table query accepted.rows) bad)
 
       after : (table : Table) → table_in path files ≡ Ok table
-          → query_of table query_text (Err status) ⊎ ((query : Query) × query_of table query_text (Ok query) × answer_steps table query part files (Err status))
+          → query_asked table query_text (Err status) ⊎ ((query : Query) × query_asked table query_text (Ok query) × answer_steps table query part files (Err status))
           → Refused path part files status ⊎ ((table : Table) × (why : QueryWhy) × (table_in path files ≡ Ok table) × Asks query_text table (Err why) × (status ≡ BadQuery why))
       after table known (inl (why, asked, same)) = inr (table, why, known, asked, same)
       after table known (inr (query, asked, next)) =
@@ -209,7 +210,7 @@ module _ (path part : List ℕ) (files : Files) where
           → Refused path part files status ⊎ ((table : Table) × (why : QueryWhy) × (table_in path files ≡ Ok table) × Asks query_text table (Err why) × (status ≡ BadQuery why))
       by (inl refused) = inl (inl (sym refused))
       by (inr (table, known, next)) =
-          after table (sym known) (came_to_refuse (query_of table query_text) (λ query. answer_steps table query part files) status next)
+          after table (sym known) (came_to_refuse (query_asked table query_text) (λ query. answer_steps table query part files) status next)
 
   pub select_at_fault : (query_text word : List ℕ) (fault : Fault) → select_steps path part query_text files (Err (AtFault word fault))
       → Refused path part files (AtFault word fault)
@@ -269,7 +270,7 @@ table_plain path word fault files =
 listing_plain : (part word : List ℕ) (fault : Fault) (files : Files) → Never (IsFault word fault) (listing_in part files)
 listing_plain part word fault files = by (listing_of (entries_below part files))
   where
-    by : (o : Option (List Entry)) → Never (IsFault word fault) (part_files part o)
+    by : (o : Option (List Entry)) → Never (IsFault word fault) (listed_part part o)
     by None = λ e. cc
     by (Some listing) = so_if (IsFault word fault) (nat_lt MAX_FOLDER (listed_bytes listing)) (Err (TooMuch what.Part MAX_FOLDER)) (Ok listing) (λ e. cc) tt
 

@@ -15,7 +15,7 @@ use Rattle.mt_command.specs.Outcomes as steps
 use Rattle.mt_command.specs.Outcomes.{Outcomes, gives}
 use Rattle.mt_command.specs.Parts.{table_part_steps}
 use Rattle.mt_command.specs.Plans.{World, Answers, Performs, refusal_of, status_of}
-use Rattle.mt_command.specs.Status.{◌>>=◌, is_outside, refusal, refused_by}
+use Rattle.mt_command.specs.Status.{◌>>=◌, is_outside_fault, refusal, refused_by}
 use Rattle.mt_command.specs.Targets.{free_target}
 use Rattle.mt_command.specs.Tables.{table_in, table_of, table_text}
 use Rattle.mt_command.specs.declared.limits.TheConstants.{MAX_TABLE_TEXT}
@@ -27,6 +27,7 @@ use Rattle.mt_tsv.specs.Printing.{rows_text}
 use Rattle.mt_merging.specs.Merge.{merge_steps, merge_table_steps}
 use Rattle.mt_select.specs.Select.{select_steps}
 use Rattle.mt_show.specs.Show.{show_steps}
+use Rattle.mt_trial.proofs.OnlyLemmas.{no_value}
 use Rattle.mt_run.specs.Commands.{Command, Runs, Write, Check, Rows, Show, Select, Merge, Trial}
 use Rattle.mt_reading.specs.Reading.{accepted_line, check_steps, rows_steps}
 use Rattle.mt_writing.specs.Write.{write_plan}
@@ -34,7 +35,7 @@ use Rattle.mt_law_run.specs.Endings.{FellShort, ReadsInput}
 use Rattle.mt_law_run.specs.Tables.{FileDefines, ReadsTable}
 use Rattle.mt_law_run.proofs.KnownLemmas.{CameTo, at_some, came_to, fell_or, outside_fell, plan_comes}
 use Rattle.mt_law_run.proofs.NeverLemmas.{bad_merge, bad_part, bad_select, bad_show, bad_write}
-use Rattle.mt_law_run.proofs.OnlyLemmas.{came_to_refuse, no_refusal, no_value}
+use Rattle.mt_law_run.proofs.OnlyLemmas.{came_to_refuse, no_refusal}
 
 -- a text defines one thing
 abbrev pub DefinesOneThing : Type 0
@@ -235,6 +236,6 @@ module _ (why : TableWhy) (files : Files) (old new : World) (known : old.files �
   runs_found (Merge path target parts) shown runs = (path, refl, merge_found path target parts runs)
   runs_found (Trial number rows) shown runs = by runs.unrefused
     where
-      by : (BadTable why ≡ Done) ⊎ (is_outside (BadTable why) ≡ true) → (path : List ℕ) × ReadsTable (Trial number rows) path × (table_in path files ≡ Err (BadTable why))
+      by : (BadTable why ≡ Done) ⊎ (is_outside_fault (BadTable why) ≡ true) → (path : List ℕ) × ReadsTable (Trial number rows) path × (table_in path files ≡ Err (BadTable why))
       by (inl never) = cc
       by (inr never) = cc

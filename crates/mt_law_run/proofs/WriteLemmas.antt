@@ -6,7 +6,6 @@ use Rattle.mt_types.specs.Bytes.{is_byte}
 use Rattle.mt_fault.specs.declared.file.FileBytes.{FileBytes}
 use Rattle.mt_shelf.specs.Files.{Files}
 use Rattle.mt_table.specs.declared.definition.Table.{Table}
-use Rattle.mt_tsv.specs.declared.fault.RowError.{RowError}
 use Rattle.mt_tsv.specs.Reading.{rows_reading}
 use Rattle.mt_tsv.proofs.RowLimits as limits
 use Rattle.mt_tsv.proofs.RowsFit.{rows_fit}
@@ -15,21 +14,23 @@ use Rattle.mt_defs.specs.Sorting.{sorted_rows}
 use Rattle.mt_defs.specs.Writer.{written_folder}
 use Rattle.mt_headline.specs.Storable.{AreStorable}
 use Rattle.mt_command.specs.Plans.{World, Answers, Performs, refusal_of}
-use Rattle.mt_command.specs.Status.{◌>>=◌, refused_by, status_of_rows}
+use Rattle.mt_command.specs.Status.{◌>>=◌}
 use Rattle.mt_command.specs.Tables.{table_in}
 use Rattle.mt_command.specs.Targets.{few_cells, free_target, with_folder, within_limit}
 use Rattle.mt_command.specs.declared.limits.TheConstants.{MAX_INPUT}
 use Rattle.mt_command.specs.declared.status.Status.{Status}
 use Rattle.mt_command.specs.declared.status.Status.TheVariants.{Done, TooMuch}
 use Rattle.mt_command.specs.declared.status.What.TheVariants as what
+use Rattle.mt_trial.proofs.OnlyLemmas.{same_value}
 use Rattle.mt_writing.specs.Partitions.{one_partition}
 use Rattle.mt_writing.specs.Write.{folder_for, folder_in, folder_of, input_text, rows_of, some_input, table_for, write_plan}
 use Rattle.mt_writing.proofs.PartitionLemmas.{have_one}
+use Rattle.mt_writing.proofs.WrittenParts.{rows_read}
 use Rattle.mt_law_run.specs.Published.{Wrote}
 use Rattle.mt_law_run.proofs.GainedLemmas.{WriterLaws, gained}
 use Rattle.mt_law_run.proofs.KnownLemmas.{both}
 use Rattle.mt_law_run.proofs.NeverLemmas.{all_never, both_passed, for_never}
-use Rattle.mt_law_run.proofs.OnlyLemmas.{passed, same_value}
+use Rattle.mt_law_run.proofs.OnlyLemmas.{passed}
 
 -- ---- what was made
 
@@ -52,14 +53,6 @@ text_is input text false is e = let here : input_text input ≡ some_input input
     by : (bytes : List ℕ) → some_input bytes ≡ Ok text → (text ≡ bytes) × (bytes ≢ [])
     by [] e = cc
     by (byte ∷ more) e = (sym (same_value (byte ∷ more) text e), λ none. cc)
-
-rows_read : (table : Table) (text : List ℕ) (rows : List Row) → rows_of table text ≡ Ok rows → rows_reading table.columns text ≡ Ok rows
-unfolding rows_of
-rows_read table text rows e = by (rows_reading table.columns text) e
-  where
-    by : (r : Result (List Row) RowError) → refused_by status_of_rows r ≡ Ok rows → r ≡ Ok rows
-    by (Ok x) e = let same : x ≡ rows = cc in ap Ok same
-    by (Err error) e = cc
 
 pub was_made : (path part input : List ℕ) (files : Files) (folder : List FileBytes) → folder_in path part files input ≡ Ok folder
     → Made path part input files folder

@@ -29,13 +29,13 @@ abbrev pub in_granules : Table → List Row → Accepted
 in_granules table rows = record { rows = rows; granules = written_granules table.settings table.columns rows }
 
 -- the files with the writer's folder of these rows below a part, and no other change
-abbrev pub with_part : Table → (part : List ℕ) → List Row → Files → Files
-with_part table part rows files = with_folder part (Ok (written_folder table rows)) files
+abbrev pub with_written_part : Table → (part : List ℕ) → List Row → Files → Files
+with_written_part table part rows files = with_folder part (Ok (written_folder table rows)) files
 
 -- the writer's folder of these rows was added below a part, where it stands for them in the writer's granules; the file of the table is as it was
 pub record HasGained (path part : List ℕ) (table : Table) (rows : List Row) (files : Files) (new : World) : Type 0 where
-  pub files_are : new.files ≡ Some (with_part table part rows files)
-  pub part_is : HasPart (with_part table part rows files) path part table (in_granules table rows)
+  pub files_are : new.files ≡ Some (with_written_part table part rows files)
+  pub part_is : HasPart (with_written_part table part rows files) path part table (in_granules table rows)
 
 -- ---- write
 

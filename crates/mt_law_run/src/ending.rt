@@ -6,7 +6,7 @@ ghost use Rattle.mt_table.specs.declared.definition.Table.{Table};
 ghost use Rattle.mt_shelf.specs.Files.{Files};
 ghost use Rattle.mt_defs.specs.Rows.{Row};
 ghost use Rattle.mt_command.specs.Plans.{NoneRose, Unchanged, World};
-ghost use Rattle.mt_command.specs.Status.{is_outside};
+ghost use Rattle.mt_command.specs.Status.{is_outside_fault};
 ghost use Rattle.mt_command.specs.declared.status.Status.{Status};
 ghost use Rattle.mt_command.specs.declared.status.Status.TheVariants.{BadWords, Done, NoMemory, ShelfFault, SinkFault, SourceFault};
 ghost use Rattle.mt_run.specs.Commands.{Command, Runs, Merge, Trial, Write};
@@ -44,7 +44,7 @@ pub fn nothing_else_stops_a_run()
 pub fn failures_are_reported()
     ensures failures { (command : Command) (old new : World) (status : Status)
         → Runs (Some command) old new status
-        → FellShort old new status ⊎ ((is_outside status ≡ false) × NoneRose old new) }
+        → FellShort old new status ⊎ ((is_outside_fault status ≡ false) × NoneRose old new) }
     ensures words { (old new : World) (status : Status) → Runs None old new status
         → (new ≡ old) × ((status ≡ BadWords) ⊎ (status ≡ NoMemory)) }
     ensures source { (command : Command) (old new : World)
@@ -54,7 +54,7 @@ pub fn failures_are_reported()
     ensures shelf { (command : Command) (old new : World)
         → Runs (Some command) old new ShelfFault → UsesShelf command }
     ensures refusals { (command : Command) (old new : World) (status : Status)
-        → Runs (Some command) old new status → is_outside status ≡ false → ¬ (status ≡ Done)
+        → Runs (Some command) old new status → is_outside_fault status ≡ false → ¬ (status ≡ Done)
         → Unchanged old new }
 {}
 

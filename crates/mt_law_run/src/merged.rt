@@ -15,7 +15,7 @@ ghost use Rattle.mt_reading.specs.Reading.{accepted_line};
 ghost use Rattle.mt_run.specs.Words.{are_inputs};
 ghost use Rattle.mt_law_run.specs.Endings.{FellShort, Printed};
 ghost use Rattle.mt_law_run.specs.Parts.{shown_text};
-ghost use Rattle.mt_law_run.specs.Published.{Merged, in_granules, with_part};
+ghost use Rattle.mt_law_run.specs.Published.{Merged, in_granules, with_written_part};
 
 use crate::reading::good_parts_are_read;
 use mt_headline::{parts_are_checked_exactly, storable_rows_are_accepted};
@@ -60,7 +60,7 @@ pub fn merged_parts_are_read()
         → Runs (Some (Show path target)) next new status
         → (merged : Merged path target parts files between)
         × (let rows = merged_rows merged.table.sort merged.inputs in
-        let after = with_part merged.table target rows files in
+        let after = with_written_part merged.table target rows files in
         FellShort next new status
         ⊎ Printed next new status
         (shown_text merged.table target after (in_granules merged.table rows))) }

@@ -14,7 +14,7 @@ ghost use Rattle.mt_run.specs.Commands.{Runs, Check, Rows, Select, Show, Write};
 ghost use Rattle.mt_reading.specs.Reading.{accepted_line};
 ghost use Rattle.mt_law_run.specs.Endings.{FellShort, Printed};
 ghost use Rattle.mt_law_run.specs.Parts.{shown_text};
-ghost use Rattle.mt_law_run.specs.Published.{Wrote, in_granules, with_part};
+ghost use Rattle.mt_law_run.specs.Published.{Wrote, in_granules, with_written_part};
 
 use crate::reading::good_parts_are_read;
 use mt_headline::storable_rows_are_accepted;
@@ -58,7 +58,7 @@ pub fn written_parts_are_read<S: Source>()
         → Runs (Some (Show path part)) next new status
         → (wrote : Wrote path part input files between)
         × (let rows = sorted_rows wrote.table.sort wrote.rows in
-        let after = with_part wrote.table part rows files in
+        let after = with_written_part wrote.table part rows files in
         FellShort next new status
         ⊎ Printed next new status
         (shown_text wrote.table part after (in_granules wrote.table rows))) }

@@ -21,7 +21,7 @@ use Rattle.mt_table.specs.declared.projection.Aggregate.{Aggregate}
 use Rattle.mt_table.specs.declared.projection.Aggregate.TheVariants.{Count, Of}
 use Rattle.mt_table.specs.ColumnTypes.{is_integer_type}
 use Rattle.mt_table.specs.Names.{places_differ}
-use Rattle.mt_table.specs.Kept.{keeps_aggregate, aggregates_differ, is_count, sum_place, min_place, max_place}
+use Rattle.mt_table.specs.Kept.{keeps_aggregate, aggregates_differ, is_count_aggregate, sum_place, min_place, max_place}
 use Rattle.mt_defs.specs.Metadata.{column_at}
 use Rattle.mt_defs.specs.Projections.{state_column, aggregate_word}
 use Rattle.mt_item.proofs.TypeLemmas.{argument_kind, integer_kind}
@@ -85,38 +85,38 @@ one_or_none place i (b ∷ aggs) none = by_place place i b aggs (place b) refl n
 
 -- what the rule says of aggregates
 pub record Once (aggs : List Aggregate) : Type 0 where
-  pub counts : count_by is_count aggs ≤ 1
+  pub counts : count_by is_count_aggregate aggs ≤ 1
   pub sums : Differ (filter_map sum_place aggs)
   pub mins : Differ (filter_map min_place aggs)
   pub maxs : Differ (filter_map max_place aggs)
 
 pub once_of : (aggs : List Aggregate) → aggregates_differ aggs ≡ true → Once aggs
 once_of aggs e =
-    let one = and_parts (nat_le (count_by is_count aggs) 1) _ e in
+    let one = and_parts (nat_le (count_by is_count_aggregate aggs) 1) _ e in
     let two = and_parts (places_differ (filter_map sum_place aggs)) _ one.1 in
     let three = and_parts (places_differ (filter_map min_place aggs)) (places_differ (filter_map max_place aggs)) two.1 in
     record {
-      counts = leb-true (count_by is_count aggs) 1 one.0;
+      counts = leb-true (count_by is_count_aggregate aggs) 1 one.0;
       sums = places_are_different (filter_map sum_place aggs) two.0;
       mins = places_are_different (filter_map min_place aggs) three.0;
       maxs = places_are_different (filter_map max_place aggs) three.1;
     }
 
-counted : (a : Aggregate) (aggs : List Aggregate) → count_by is_count (a ∷ aggs) ≡ cond (is_count a) 1 0 + count_by is_count aggs
-counted a aggs = sum_by-cons (λ b. cond (is_count b) 1 0) a aggs
+counted : (a : Aggregate) (aggs : List Aggregate) → count_by is_count_aggregate (a ∷ aggs) ≡ cond (is_count_aggregate a) 1 0 + count_by is_count_aggregate aggs
+counted a aggs = sum_by-cons (λ b. cond (is_count_aggregate b) 1 0) a aggs
 
-no_counts : (aggs : List Aggregate) → count_by is_count aggs ≤ 0 → All (λ b. Count ≢ b) aggs
+no_counts : (aggs : List Aggregate) → count_by is_count_aggregate aggs ≤ 0 → All (λ b. Count ≢ b) aggs
 no_counts [] few = All-nil _
-no_counts (Count ∷ aggs) few = absurd (let one : count_by is_count (Count ∷ aggs) ≡ 1 + count_by is_count aggs = counted Count aggs in omega (arith, few, one))
-no_counts (Of agg i ∷ aggs) few = All-cons (λ b. Count ≢ b) (Of agg i) aggs (λ same. (let bad : true ≡ false = ap is_count same in cc)) (no_counts aggs (let none : count_by is_count (Of agg i ∷ aggs) ≡ count_by is_count aggs = counted (Of agg i) aggs ∙ zero-add (count_by is_count aggs) in omega (arith, few, none)))
+no_counts (Count ∷ aggs) few = absurd (let one : count_by is_count_aggregate (Count ∷ aggs) ≡ 1 + count_by is_count_aggregate aggs = counted Count aggs in omega (arith, few, one))
+no_counts (Of agg i ∷ aggs) few = All-cons (λ b. Count ≢ b) (Of agg i) aggs (λ same. (let bad : true ≡ false = ap is_count_aggregate same in cc)) (no_counts aggs (let none : count_by is_count_aggregate (Of agg i ∷ aggs) ≡ count_by is_count_aggregate aggs = counted (Of agg i) aggs ∙ zero-add (count_by is_count_aggregate aggs) in omega (arith, few, none)))
 
-fewer : (agg : Agg) (i : ℕ) (aggs : List Aggregate) → count_by is_count (Of agg i ∷ aggs) ≤ 1 → count_by is_count aggs ≤ 1
-fewer agg i aggs few = let none : count_by is_count (Of agg i ∷ aggs) ≡ count_by is_count aggs = counted (Of agg i) aggs ∙ zero-add (count_by is_count aggs) in omega (arith, few, none)
+fewer : (agg : Agg) (i : ℕ) (aggs : List Aggregate) → count_by is_count_aggregate (Of agg i ∷ aggs) ≤ 1 → count_by is_count_aggregate aggs ≤ 1
+fewer agg i aggs few = let none : count_by is_count_aggregate (Of agg i ∷ aggs) ≡ count_by is_count_aggregate aggs = counted (Of agg i) aggs ∙ zero-add (count_by is_count_aggregate aggs) in omega (arith, few, none)
 
 pub aggregates_apart : (aggs : List Aggregate) → Once aggs → Differ aggs
 aggregates_apart [] once = tt
 aggregates_apart (Count ∷ aggs) once =
-    let one : count_by is_count (Count ∷ aggs) ≡ 1 + count_by is_count aggs = counted Count aggs in
+    let one : count_by is_count_aggregate (Count ∷ aggs) ≡ 1 + count_by is_count_aggregate aggs = counted Count aggs in
     (no_counts aggs (omega (arith, once.counts, one)), aggregates_apart aggs (record { counts = omega (arith, once.counts, one); sums = once.sums; mins = once.mins; maxs = once.maxs }))
 aggregates_apart (Of Sum i ∷ aggs) once = (
   All-weaker (λ b. sum_place b ≡ Some i → ⊥) (λ b. Of Sum i ≢ b) (λ b none same. none (ap sum_place (sym same))) aggs (one_or_none sum_place i aggs once.sums.0),

@@ -17,13 +17,10 @@ use Rattle.mt_types.proofs.Levels.{same_level}
 use Rattle.mt_defs.specs.Lists.{AreBytes}
 use Rattle.mt_defs.specs.Encoding.{is_null, null_byte}
 use Rattle.mt_defs.specs.WrittenStreams.{written_streams, or_default, elements_at}
-use Rattle.mt_item.proofs.ItemBytes.{item_is_bytes, items_are_bytes, number_bytes}
+use Rattle.mt_item.proofs.ItemBytes.{item_is_bytes, items_are_bytes, number_bytes, IsByte}
 use Rattle.mt_codec.specs.Runs.{fits_or_null, null_item, size_item, written_item}
 use Rattle.mt_defs.specs.FileNames.{array_levels}
 use Rattle.mt_codec.proofs.WrittenLemmas.{IsSingleLevel, single_at, default_fits_too, nullable_fit, nullable_single, nullable_written, array_fit, array_inside, array_written}
-
-abbrev IsByte : ℕ → Type 0
-IsByte byte = byte < 256
 
 null_bytes : (values : List Value) → AreBytes (flat_map null_item values)
 null_bytes [] = All-nil IsByte

@@ -17,7 +17,7 @@ cells_of values = length values + sum_by element_count values
 
 -- ---- the elements of a value
 
-elements_at : (value : Value) (level : Value-F Value) → out-Value value ≡ level → element_count value ≡ element_count_step (map-Value Value ℕ element_count level)
+pub elements_at : (value : Value) (level : Value-F Value) → out-Value value ≡ level → element_count value ≡ element_count_step (map-Value Value ℕ element_count level)
 elements_at value level is = fold_out-Value ℕ element_count_step value ∙ ap (λ l. element_count_step (map-Value Value ℕ element_count l)) is
 
 -- those of a list, and those in them

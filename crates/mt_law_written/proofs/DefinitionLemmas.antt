@@ -1,9 +1,10 @@
 -- A folder that has the writer's files of a definition's rows holds these rows.
-use Rattle.std.proofs.Common.{◌≡◌, ℕ, suc, ◌<◌, ◌^◌, Bool, true, false, List, [], ◌∷◌, length, map, refl, ap, sym, ◌∙◌, subst, arith, lit<, inl, inr}
+use Rattle.std.proofs.Common.{◌≡◌, ℕ, ◌<◌, ◌^◌, Bool, true, false, List, [], ◌∷◌, length, map, refl, ap, sym, ◌∙◌, subst, arith, lit<, inl, inr}
 use Rattle.std.specs.Prelude.{All, IsTrue, Option, Some, None, is_some, if◌then◌else◌}
 use Rattle.std.specs.List.{range_with_len, enumerate_from}
 use Rattle.std.specs.Fmt.{decimal}
 use Rattle.std.proofs.lemmas.List.Elements.{All-head, All-tail, All-weaker}
+use Rattle.mt_facts.proofs.Numbers.{each_below_sum}
 use Rattle.mt_types.specs.declared.value.Value.TheVariants.{Null}
 use Rattle.mt_types.specs.Fits.{fits_of}
 use Rattle.mt_types.specs.Profile.{is_profile}
@@ -12,7 +13,7 @@ use Rattle.mt_table.specs.declared.column.Column.{Column}
 use Rattle.mt_table.specs.declared.definition.PartDef.{PartDef}
 use Rattle.mt_table.specs.declared.settings.Settings.{Settings}
 use Rattle.mt_table.specs.declared.limits.TheConstants.{MAX_ROWS}
-use Rattle.mt_defs.specs.Lists.{Pointwise}
+use Rattle.mt_table.proofs.PointwiseLemmas.{Pointwise-length}
 use Rattle.mt_defs.specs.Folder.{Folder}
 use Rattle.mt_defs.specs.Rows.{Row, RowFits, ArePartRows, cell, key_of}
 use Rattle.mt_defs.specs.Granules.{AreGranules, granule_rows}
@@ -25,7 +26,7 @@ use Rattle.mt_defs.specs.WrittenColumns.{file, wide_files, compact_files}
 use Rattle.mt_defs.specs.Writer.{definition_files}
 use Rattle.mt_layout.proofs.HoldLemmas.{granules_hold}
 use Rattle.mt_law_written.specs.Layouts.{AreLaidOut}
-use Rattle.mt_law_written.proofs.ListLemmas.{All-left, All-right, All-granules, all_places, below_sum, some_of}
+use Rattle.mt_law_written.proofs.ListLemmas.{All-left, All-right, All-granules, all_places, some_of}
 use Rattle.mt_law_written.proofs.WideLemmas.{HasFile, no_file, ColumnHolds, columns_hold, wide_held}
 use Rattle.mt_law_written.proofs.CompactLemmas.{compact_held}
 use Rattle.mt_law_written.proofs.ShortFiles.{compact_short, wide_short}
@@ -33,17 +34,11 @@ use Rattle.mt_law_written.proofs.ListedLemmas.{ArePlaces, all_listed, none_lacks
 
 -- ---- the columns in their own order
 
-same_length : {X Y : Type 0} (R : X → Y → Type 0) (xs : List X) (ys : List Y) → Pointwise R xs ys → length xs ≡ length ys
-same_length R [] [] each = refl
-same_length R [] (y ∷ ys) each = absurd each
-same_length R (x ∷ xs) [] each = absurd each
-same_length R (x ∷ xs) (y ∷ ys) each = ap suc (same_length R xs ys each.1)
-
 pub same_columns : (columns : List Column) → map (column_at columns) (own_order columns) ≡ columns
 same_columns columns = all_places columns no_column
 
 same_row : (columns : List Column) (row : Row) → RowFits columns row → key_of (own_order columns) row ≡ row
-same_row columns row fits = ap (λ n. map (cell row) (range_with_len 0 n)) (same_length (λ column value. IsTrue (fits_of column.ty value)) columns row fits) ∙ all_places row Null
+same_row columns row fits = ap (λ n. map (cell row) (range_with_len 0 n)) (Pointwise-length (λ column value. IsTrue (fits_of column.ty value)) columns row fits) ∙ all_places row Null
 
 same_rows : (columns : List Column) (rows : List Row) → All (RowFits columns) rows → map (key_of (own_order columns)) rows ≡ rows
 same_rows columns [] fit = refl
@@ -96,7 +91,7 @@ definition_held settings definition rows folder types must are none files =
     let granules = written_granules settings columns rows in
     let cut : AreGranules granules rows = granules_hold settings columns rows in
     let limit : MAX_ROWS < 2 ^ 64 = lit< tt in
-    let few : All (λ count. count < 2 ^ 64) granules = below_sum (2 ^ 64) granules (omega (arith, cut.all, are.few_rows)) in
+    let few : All (λ count. count < 2 ^ 64) granules = each_below_sum (2 ^ 64) granules (omega (arith, cut.all, are.few_rows)) in
     let laid : AreLaidOut columns rows granules = record { types = types; not_empty = some_of rows are.not_empty; few_rows = are.few_rows; few_cells = are.few_cells; fit = are.fit; cut = cut } in
     let Has : FileBytes → Type 0 = HasFile folder in
     let compact : Bool = written_layout settings definition rows in

@@ -4,7 +4,7 @@ use Rattle.std.specs.Prelude.{All, if◌then◌else◌}
 use Rattle.std.specs.List.{flat_map}
 use Rattle.std.specs.Fmt.{decimal}
 use Rattle.std.proofs.Math.Nat.{mul-le-mul_left}
-use Rattle.std.proofs.lemmas.List.Elements.{All-append, All-drop, All-nil, All-take}
+use Rattle.std.proofs.lemmas.List.Elements.{All-append, All-drop}
 use Rattle.std.proofs.lemmas.List.Sums.{sum_by-append}
 use Rattle.mt_fault.specs.declared.file.FileBytes.{FileBytes}
 use Rattle.mt_table.specs.declared.column.Column.{Column}
@@ -17,6 +17,7 @@ use Rattle.mt_defs.specs.Rows.{Row}
 use Rattle.mt_defs.specs.Writer.{definition_files, files_with}
 use Rattle.mt_defs.specs.WrittenColumns.{compact_files, file, wide_files}
 use Rattle.mt_defs.specs.WrittenGranules.{is_small, written_granules}
+use Rattle.mt_defs.proofs.GranuleLemmas.{first_rows_hold}
 use Rattle.mt_law_written.specs.Sizes.{HaveWidths, columns_limit, definition_limit, files_size}
 use Rattle.mt_law_written.proofs.ColumnSizes.{AreSmall, wide_size}
 use Rattle.mt_law_written.proofs.CompactSizes.{compact_size}
@@ -33,11 +34,6 @@ firsts_few (count ∷ granules) rows =
     let all = length-append (take 1 (take count rows)) (flat_map (take 1) (granule_rows granules (drop count rows))) in
     omega (arith, rest, all, length-take 1 (take count rows))
 
-firsts_all : (P : Row → Type 0) (granules : List ℕ) (rows : List Row) → All P rows → All P (flat_map (take 1) (granule_rows granules rows))
-firsts_all P [] rows all = All-nil P
-firsts_all P (count ∷ granules) rows all =
-    All-append P (take 1 (take count rows)) (flat_map (take 1) (granule_rows granules (drop count rows))) (All-take P 1 (take count rows) (All-take P count rows all)) (firsts_all P granules (drop count rows) (All-drop P count rows all))
-
 -- rows whose primary keys have at most so many bytes
 abbrev pub HaveKeys : PartDef → ℕ → List Row → Type 0
 HaveKeys definition key rows = All (λ row. length (key_bytes definition.columns (take definition.primary definition.sort) row) ≤ key) rows
@@ -48,7 +44,7 @@ index_size definition rows granules key few has =
     let Fits : Row → Type 0 = λ row. length (bytes_of row) ≤ key in
     let firsts = flat_map (take 1) (granule_rows granules rows) in
     let last = drop (length rows - 1) rows in
-    let each : All Fits (index_rows rows granules) = All-append Fits firsts last (firsts_all Fits granules rows has) (All-drop Fits (length rows - 1) rows has) in
+    let each : All Fits (index_rows rows granules) = All-append Fits firsts last (first_rows_hold Fits granules rows has) (All-drop Fits (length rows - 1) rows has) in
     let count : length (index_rows rows granules) ≤ length rows + 1 = omega (arith, few, firsts_few granules rows, length-drop (length rows - 1) rows, length-append firsts last) in
     omega (arith, runs_size bytes_of key (index_rows rows granules) each, mul-le-mul_left key count)
 

@@ -19,7 +19,7 @@ use Rattle.mt_defs.specs.Metadata.{column_at, columns_name, count_name}
 use Rattle.mt_defs.specs.PrimaryIndex.{index_name}
 use Rattle.mt_defs.specs.Partition.{partition_bytes, partition_name, minmax_name, expression_column}
 use Rattle.mt_defs.specs.Projections.{base_of, inner_of, projection_prefix}
-use Rattle.mt_defs.specs.Part.{is_compact, marks_ending, side_names, wide_names, column_names, definition_names, partition_names, skip_names, projection_names, known_names}
+use Rattle.mt_defs.specs.Part.{is_compact, marks_ending, side_names, wide_names, column_names, definition_names, partition_names, skip_file_names, projection_names, known_names}
 use Rattle.mt_defs.specs.SkipIndexes.{skip_data_name, skip_marks_name}
 use Rattle.mt_defs.specs.Wide.{stream_payloads}
 use Rattle.mt_defs.specs.WrittenColumns.{file, stream_files, granule_streams, wide_column}
@@ -27,8 +27,9 @@ use Rattle.mt_defs.specs.WrittenGranules.{written_granules, is_small}
 use Rattle.mt_defs.specs.WrittenPartition.{minmax_file, partition_files}
 use Rattle.mt_defs.specs.WrittenSkips.{skip_files}
 use Rattle.mt_defs.specs.Writer.{definition_files, file_below, projection_files, projection_rows}
+use Rattle.mt_defs.proofs.ListLemmas.{All-distinct_by}
 use Rattle.mt_law_written.proofs.LookupLemmas.{found_is_listed}
-use Rattle.mt_law_written.proofs.ListLemmas.{All-distinct, All-mapped, All-of_map, All-to_flat_map}
+use Rattle.mt_law_written.proofs.ListLemmas.{All-mapped, All-of_map, All-to_flat_map}
 use Rattle.mt_law_written.proofs.DefinitionLemmas.{data_files, same_columns, written_layout}
 use Rattle.mt_law_written.proofs.ListedLemmas.{own_order}
 use Rattle.mt_law_written.proofs.PartitionLemmas.{distinct, is_same, key_columns}
@@ -109,16 +110,16 @@ partition_by table rows first false is =
     (All-weaker (λ e. Contains names (minmax_name table (expression_column e))) (λ e. Contains (partition_name ∷ names) (minmax_name table (expression_column e))) (λ e among. later (minmax_name table (expression_column e)) among) table.partition
     (All-of_map (Contains names) (λ expression. minmax_name table (expression_column expression)) table.partition (All-contains_itself names))) in
     All-cons (λ f. Contains (partition_name ∷ names) f.name) first (map (minmax_file table rows) (distinct (key_columns table))) (0, omega arith, sym is)
-    (All-mapped (λ f. Contains (partition_name ∷ names) f.name) (minmax_file table rows) (distinct (key_columns table)) (All-distinct (λ i. Contains (partition_name ∷ names) (minmax_name table i)) is_same (key_columns table) each))
+    (All-mapped (λ f. Contains (partition_name ∷ names) f.name) (minmax_file table rows) (distinct (key_columns table)) (All-distinct_by (λ i. Contains (partition_name ∷ names) (minmax_name table i)) is_same (key_columns table) each))
 
 partition_known : (table : Table) (rows : List Row) → Known (partition_names table) (partition_files table rows)
 partition_known table rows = partition_by table rows (file partition_name (flat_map (partition_bytes table) (take 1 rows))) (length table.partition == 0) refl
 
-index_known : (table : Table) (rows : List Row) (folder : Folder) → is_compact folder ≡ is_small table.settings table.columns rows → Known (flat_map (skip_names folder) table.skips) (index_files table rows)
+index_known : (table : Table) (rows : List Row) (folder : Folder) → is_compact folder ≡ is_small table.settings table.columns rows → Known (flat_map (skip_file_names folder) table.skips) (index_files table rows)
 index_known table rows folder layout =
-    known_flat (skip_files table rows) (skip_names folder) table.skips (λ k d inside.
+    known_flat (skip_files table rows) (skip_file_names folder) table.skips (λ k d inside.
     let skip : Skip = get_or table.skips k d in
-    let same : map name_of (skip_files table rows skip) ≡ skip_names folder skip = ap (λ compact. skip_data_name skip ∷ skip_marks_name skip (marks_ending compact) ∷ []) (sym layout) in
+    let same : map name_of (skip_files table rows skip) ≡ skip_file_names folder skip = ap (λ compact. skip_data_name skip ∷ skip_marks_name skip (marks_ending compact) ∷ []) (sym layout) in
     subst (λ names. Known names (skip_files table rows skip)) same (own_names (skip_files table rows skip)))
 
 below_known : (prefix : List ℕ) (names : List (List ℕ)) (files : List FileBytes) → Known names files → Known (map (λ name. prefix ++ name) names) (map (file_below prefix) files)
@@ -148,7 +149,7 @@ all_known : (table : Table) (rows : List Row) (folder : Folder) → Layouts tabl
 all_known table rows folder layouts =
     let own : List (List ℕ) = definition_names (map (column_at table.columns) (own_order table.columns)) folder in
     let partition : List (List ℕ) = partition_names table in
-    let indexes : List (List ℕ) = flat_map (skip_names folder) table.skips in
+    let indexes : List (List ℕ) = flat_map (skip_file_names folder) table.skips in
     let stored : List (List ℕ) = flat_map (projection_names table folder) table.projections in
     let P : FileBytes → Type 0 = λ f. Contains (known_names table (own_order table.columns) folder) f.name in
     let one = wider own (known_names table (own_order table.columns) folder) (own_files table rows) (λ name among.

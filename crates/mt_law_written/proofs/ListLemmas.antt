@@ -1,13 +1,12 @@
 -- What holds of each element of lists that are made of others.
-use Rattle.std.proofs.Common.{◌≡◌, ◌≢◌, ℕ, zero, suc, ◌+◌, ◌<◌, ◌≤◌, Bool, true, not, List, [], ◌∷◌, ◌++◌, length, map, take, drop, get_or, refl, ap, sym, ◌∙◌, subst, arith}
-use Rattle.std.specs.Prelude.{All, filter, sum}
+use Rattle.std.proofs.Common.{◌≡◌, ◌≢◌, ℕ, zero, suc, ◌+◌, ◌<◌, ◌≤◌, Bool, true, List, [], ◌∷◌, ◌++◌, length, map, take, drop, get_or, refl, ap, sym, ◌∙◌, subst, arith}
+use Rattle.std.specs.Prelude.{All}
 use Rattle.std.specs.List.{flat_map, list_all, enumerate_from, range_with_len}
 use Rattle.std.proofs.lemmas.Bool.{and_from}
-use Rattle.std.proofs.lemmas.List.Sums.{sum_by-cons}
 use Rattle.std.proofs.lemmas.List.{same_lists, get_or_default}
 use Rattle.std.proofs.lemmas.List.FromFn.{length-enumerate_from, get_or-enumerate_from, length-map-range_with_len, get_or-map-range_with_len}
-use Rattle.std.proofs.lemmas.List.Elements.{All-nil, All-cons, All-append, All-filter, All-head, All-tail, All-take, All-drop}
-use Rattle.mt_defs.specs.Lists.{Pointwise, distinct_by}
+use Rattle.std.proofs.lemmas.List.Elements.{All-nil, All-cons, All-append, All-head, All-tail, All-take, All-drop}
+use Rattle.mt_defs.specs.Lists.{Pointwise}
 use Rattle.mt_defs.specs.Rows.{Row}
 use Rattle.mt_defs.specs.Granules.{granule_rows}
 use Rattle.mt_defs.specs.SkipIndexes.{entry_groups}
@@ -65,12 +64,6 @@ pub Pointwise-mapped : {X Y : Type 0} (R : X → Y → Type 0) (f : X → Y) (xs
 Pointwise-mapped R f [] all = tt
 Pointwise-mapped R f (x ∷ xs) all = (All-head (λ x. R x (f x)) x xs all, Pointwise-mapped R f xs (All-tail (λ x. R x (f x)) x xs all))
 
--- what holds of each element holds of each distinct one
-pub All-distinct : {X : Type 0} (P : X → Type 0) (same : X → X → Bool) (xs : List X) → All P xs → All P (distinct_by same xs)
-All-distinct P same [] all = all
-All-distinct P same (x ∷ xs) all =
-    All-cons P x (filter (λ y. not (same x y)) (distinct_by same xs)) (All-head P x xs all) (All-filter (λ y. not (same x y)) P (distinct_by same xs) (All-distinct P same xs (All-tail P x xs all)))
-
 -- what holds of all rows holds of those of each granule
 pub All-granules : (P : Row → Type 0) (granules : List ℕ) (rows : List Row) → All P rows → All (All P) (granule_rows granules rows)
 All-granules P [] rows all = All-nil (All P)
@@ -94,14 +87,6 @@ all_places xs d =
     let same : 0 + k ≡ k = omega arith in
     get_or-map-range_with_len (λ i. get_or xs i d) 0 (length xs) k k e here same ∙ get_or_default xs k d e here)
 
--- what holds pointwise holds at an index
-pub Pointwise-get_or : {A B : Type 0} (R : A → B → Type 0) (xs : List A) (ys : List B) (i : ℕ) (d : A) (e : B) → Pointwise R xs ys → i < length xs → R (get_or xs i d) (get_or ys i e)
-Pointwise-get_or R [] [] i d e p h = absurd (omega arith)
-Pointwise-get_or R [] (y ∷ ys) i d e p h = absurd p
-Pointwise-get_or R (x ∷ xs) [] i d e p h = absurd p
-Pointwise-get_or R (x ∷ xs) (y ∷ ys) zero d e p h = p.0
-Pointwise-get_or R (x ∷ xs) (y ∷ ys) (suc i) d e p h = Pointwise-get_or R xs ys i d e p.1 (omega arith)
-
 -- what each pair says of its first holds of all firsts
 pub Pointwise-firsts : {A B : Type 0} (R : A → B → Type 0) (P : A → Type 0) → ((x : A) (y : B) → R x y → P x) → (xs : List A) (ys : List B) → Pointwise R xs ys → All P xs
 Pointwise-firsts R P f [] [] p = All-nil P
@@ -113,10 +98,3 @@ Pointwise-firsts R P f (x ∷ xs) (y ∷ ys) p = All-cons P x xs (f x y p.0) (Po
 pub some_of : {X : Type 0} (xs : List X) → xs ≢ [] → 1 ≤ length xs
 some_of [] some = absurd (some refl)
 some_of (x ∷ xs) some = omega arith
-
--- numbers whose sum is below a limit are below it
-pub below_sum : (limit : ℕ) (counts : List ℕ) → sum counts < limit → All (λ count. count < limit) counts
-below_sum limit [] h = All-nil (λ count. count < limit)
-below_sum limit (count ∷ counts) h =
-    let all : sum (count ∷ counts) ≡ count + sum counts = sum_by-cons (λ x. x) count counts in
-    All-cons (λ count. count < limit) count counts (omega arith) (below_sum limit counts (omega arith))

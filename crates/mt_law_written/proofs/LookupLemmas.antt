@@ -5,23 +5,16 @@ use Rattle.std.specs.Ordering.{is_gt}
 use Rattle.std.specs.declared.cmp.Ordering.{Ordering}
 use Rattle.std.proofs.lemmas.Bool.{cases_Bool, eq-eqb}
 use Rattle.std.proofs.lemmas.List.Elements.{Contains-append_left, Contains-append_right}
-use Rattle.std.proofs.lemmas.Map.Text.{is_eq-slice_cmp}
-use Rattle.std.proofs.lemmas.Slice.Eq.{bytes_eq-Decides}
 use Rattle.mt_fault.specs.declared.file.FileBytes.{FileBytes}
-use Rattle.mt_defs.specs.Folder.{is_name, folder_of}
+use Rattle.mt_defs.specs.Folder.{names_agree, folder_of}
 use Rattle.mt_defs.specs.Sorting.{placed_by, sorted_by}
+use Rattle.mt_defs.proofs.NameLemmas.{name_is, same_name}
 
 -- ---- names
 
-pub name_is : (a b : List ℕ) → is_name a b ≡ true → a ≡ b
-name_is a b e = (bytes_eq-Decides a b).0 (sym (is_eq-slice_cmp a b) ∙ e)
-
-pub same_name : (a b : List ℕ) → a ≡ b → is_name a b ≡ true
-same_name a b e = is_eq-slice_cmp a b ∙ (bytes_eq-Decides a b).1 e
-
-pub other_name : (a b : List ℕ) → a ≢ b → is_name a b ≡ false
+pub other_name : (a b : List ℕ) → a ≢ b → names_agree a b ≡ false
 other_name a b differ =
-    elim (cases_Bool (is_name a b)) [
+    elim (cases_Bool (names_agree a b)) [
       | inl same ↦ absurd (differ (name_is a b same))
       | inr other ↦ other
     ]
@@ -38,7 +31,7 @@ last_append (x ∷ []) y ending = refl
 last_append (x ∷ z ∷ stem) y ending = last_append (z ∷ stem) y ending
 
 -- names that end differently are different
-pub other_ends : (a b : List ℕ) (m n : ℕ) → last_of a ≡ m → last_of b ≡ n → eqb m n ≡ false → is_name a b ≡ false
+pub other_ends : (a b : List ℕ) (m n : ℕ) → last_of a ≡ m → last_of b ≡ n → eqb m n ≡ false → names_agree a b ≡ false
 other_ends a b m n at_a at_b differ = other_name a b (λ same.
     let bad : true ≡ false = sym (eq-eqb m n (sym at_a ∙ ap last_of same ∙ at_b)) ∙ differ in
     cc)
@@ -48,7 +41,7 @@ other_ends a b m n at_a at_b differ = other_name a b (λ same.
 -- no file of these has this one's name
 abbrev pub Apart : FileBytes → List FileBytes → Type 0
 Apart file [] = Unit {0}
-Apart file (other ∷ files) = (is_name file.name other.name ≡ false) × Apart file files
+Apart file (other ∷ files) = (names_agree file.name other.name ≡ false) × Apart file files
 
 -- all names are different
 abbrev pub AreApart : List FileBytes → Type 0
@@ -58,7 +51,7 @@ AreApart (file ∷ files) = Apart file files × AreApart files
 pub found_here : (file : FileBytes) (files : List FileBytes) → folder_of (file ∷ files) file.name ≡ Some file.bytes
 found_here file files = ap (λ b. if b then Some file.bytes else folder_of files file.name) (same_name file.name file.name refl)
 
-pub found_later : (file : FileBytes) (files : List FileBytes) (name : List ℕ) (found : Option (List ℕ)) → is_name file.name name ≡ false → folder_of files name ≡ found → folder_of (file ∷ files) name ≡ found
+pub found_later : (file : FileBytes) (files : List FileBytes) (name : List ℕ) (found : Option (List ℕ)) → names_agree file.name name ≡ false → folder_of files name ≡ found → folder_of (file ∷ files) name ≡ found
 found_later file files name found other there = ap (λ b. if b then Some file.bytes else folder_of files name) other ∙ there
 
 turned : {A : Type 0} (p q : Bool) (x y z : A) → (p ≡ true → q ≡ true → ⊥) → (if q then y else (if p then x else z)) ≡ (if p then x else (if q then y else z))
@@ -72,15 +65,15 @@ module _ (R : FileBytes → FileBytes → Ordering) where
   placed_found file (other ∷ files) name apart =
       elim (is_gt (R file other)) as (λ b. folder_of (cond b (other ∷ placed_by R file files) (file ∷ other ∷ files)) name ≡ folder_of (file ∷ other ∷ files) name) [
         | true ↦
-            ap (λ rest. if is_name other.name name then Some other.bytes else rest) (placed_found file files name apart.1)
-            ∙ turned (is_name file.name name) (is_name other.name name) (Some file.bytes) (Some other.bytes) (folder_of files name) (λ p q.
-            let both : is_name file.name other.name ≡ true = same_name file.name other.name (name_is file.name name p ∙ sym (name_is other.name name q)) in
+            ap (λ rest. if names_agree other.name name then Some other.bytes else rest) (placed_found file files name apart.1)
+            ∙ turned (names_agree file.name name) (names_agree other.name name) (Some file.bytes) (Some other.bytes) (folder_of files name) (λ p q.
+            let both : names_agree file.name other.name ≡ true = same_name file.name other.name (name_is file.name name p ∙ sym (name_is other.name name q)) in
             let bad : true ≡ false = sym both ∙ apart.0 in
             cc)
         | false ↦ refl
       ]
 
-  apart_placed : (file other : FileBytes) (files : List FileBytes) → is_name file.name other.name ≡ false → Apart file files → Apart file (placed_by R other files)
+  apart_placed : (file other : FileBytes) (files : List FileBytes) → names_agree file.name other.name ≡ false → Apart file files → Apart file (placed_by R other files)
   apart_placed file other [] differ apart = (differ, tt)
   apart_placed file other (next ∷ files) differ apart =
       elim (is_gt (R other next)) as (λ b. Apart file (cond b (next ∷ placed_by R other files) (other ∷ next ∷ files))) [
@@ -96,7 +89,7 @@ module _ (R : FileBytes → FileBytes → Ordering) where
   sorted_found [] name apart = refl
   sorted_found (file ∷ files) name apart =
       placed_found file (sorted_by R files) name (apart_sorted file files apart.0)
-      ∙ ap (λ rest. if is_name file.name name then Some file.bytes else rest) (sorted_found files name apart.1)
+      ∙ ap (λ rest. if names_agree file.name name then Some file.bytes else rest) (sorted_found files name apart.1)
 
   -- sorting files of different names changes no folder
   pub sorted_folder : (files : List FileBytes) → AreApart files → folder_of (sorted_by R files) ≡ folder_of files
@@ -106,7 +99,7 @@ module _ (R : FileBytes → FileBytes → Ordering) where
 pub found_is_listed : (files : List FileBytes) (name : List ℕ) → IsSome (folder_of files name) → Contains (map (λ file. file.name) files) name
 found_is_listed [] name found = cc
 found_is_listed (file ∷ files) name found =
-    elim (cases_Bool (is_name file.name name)) [
+    elim (cases_Bool (names_agree file.name name)) [
       | inl same ↦ Contains-append_left (file.name ∷ []) (map (λ file. file.name) files) name (0, omega arith, name_is file.name name same)
       | inr other ↦ Contains-append_right (file.name ∷ []) (map (λ file. file.name) files) name (found_is_listed files name (subst IsSome (ap (λ b. if b then Some file.bytes else folder_of files name) other) found))
     ]

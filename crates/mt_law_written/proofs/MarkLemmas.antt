@@ -17,10 +17,10 @@ use Rattle.mt_law_written.proofs.ListLemmas.{All-to_flat_map, Pointwise-firsts}
 
 -- ---- the blocks of payloads, one after another
 
-abbrev blocks_of : List ℕ → List Block
+abbrev pub blocks_of : List ℕ → List Block
 blocks_of payload = blocks_within (length payload) payload
 
-abbrev all_blocks : List (List ℕ) → List Block
+abbrev pub all_blocks : List (List ℕ) → List Block
 all_blocks = flat_map blocks_of
 
 one_file : (payload : List ℕ) → file_of (blocks_of payload) ≡ written_frames payload
@@ -29,7 +29,7 @@ one_file payload = sym (file_is (length payload) payload)
 one_payload : (payload : List ℕ) → payload_of (blocks_of payload) ≡ payload
 one_payload payload = sym (payload_is (length payload) payload (omega arith))
 
-files_of : (payloads : List (List ℕ)) → file_of (all_blocks payloads) ≡ concat (map written_frames payloads)
+pub files_of : (payloads : List (List ℕ)) → file_of (all_blocks payloads) ≡ concat (map written_frames payloads)
 files_of [] = refl
 files_of (payload ∷ payloads) =
     flat_map-append block_bytes (blocks_of payload) (all_blocks payloads)
@@ -46,7 +46,7 @@ each_block [] are = All-nil IsBlock
 each_block (payload ∷ payloads) are =
     All-append IsBlock (blocks_of payload) (all_blocks payloads) (blocks_are (length payload) payload (All-head AreBytes payload payloads are)) (each_block payloads (All-tail AreBytes payload payloads are))
 
-file_is_blocks : (payloads : List (List ℕ)) → All AreBytes payloads → IsFileOf (all_blocks payloads) (concat (map written_frames payloads))
+pub file_is_blocks : (payloads : List (List ℕ)) → All AreBytes payloads → IsFileOf (all_blocks payloads) (concat (map written_frames payloads))
 file_is_blocks payloads are = record { each = each_block payloads are; bytes = sym (files_of payloads) }
 
 -- payloads that are framed one by one are frames of all of them

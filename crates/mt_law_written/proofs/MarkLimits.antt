@@ -1,24 +1,15 @@
 -- The writer's marks files are short: a part has few columns and few rows.
-use Rattle.std.proofs.Common.{ℕ, ◌+◌, ◌*◌, ◌≤◌, ◌<◌, ◌^◌, List, [], ◌∷◌, length, arith}
-use Rattle.std.specs.Prelude.{All, sum}
-use Rattle.std.proofs.lemmas.List.Elements.{All-head, All-tail}
-use Rattle.std.proofs.lemmas.List.Sums.{sum_by-cons}
+use Rattle.std.proofs.Common.{ℕ, ◌+◌, ◌*◌, ◌≤◌, ◌<◌, ◌^◌, List, length, arith}
+use Rattle.std.specs.Prelude.{All}
+use Rattle.mt_facts.proofs.Numbers.{length_within_sum}
 use Rattle.mt_table.specs.declared.limits.TheConstants.{MAX_CELLS, MAX_ROWS}
 use Rattle.mt_defs.specs.Granules.{AreGranules}
 use Rattle.mt_defs.specs.Rows.{Row}
 use Rattle.mt_defs.specs.WrittenFrames.{written_marks_bytes}
 use Rattle.mt_law_written.proofs.MarkSizes.{marks_size}
 
--- granules that are not empty are no more than their rows
-not_more : (granules : List ℕ) → All (λ count. 1 ≤ count) granules → length granules ≤ sum granules
-not_more [] some = omega arith
-not_more (count ∷ granules) some =
-    let here = All-head (λ count. 1 ≤ count) count granules some in
-    let rest = not_more granules (All-tail (λ count. 1 ≤ count) count granules some) in
-    omega (arith, here, rest, sum_by-cons (λ n. n) count granules)
-
 pub few_granules : (granules : List ℕ) (rows : List Row) → AreGranules granules rows → length granules ≤ length rows
-few_granules granules rows cut = omega (arith, not_more granules cut.not_empty, cut.all)
+few_granules granules rows cut = omega (arith, length_within_sum granules cut.not_empty, cut.all)
 
 -- 16 bytes for each mark and 8 for the rows, of each granule and of the end
 pub marks_short : (per_granule : ℕ) (sizes : List (List ℕ)) (granules : List ℕ) → per_granule ≤ MAX_CELLS → length granules ≤ MAX_ROWS → All (λ run. length run ≤ per_granule) sizes

@@ -8,13 +8,9 @@ use Rattle.std.proofs.lemmas.List.Elements.{All-head, All-tail}
 use Rattle.mt_defs.specs.Lists.{offsets_from}
 use Rattle.mt_defs.specs.Marks.{entry_bytes, granule_starts, mark_bytes, marks_bytes, u64_bytes}
 use Rattle.mt_defs.specs.WrittenFrames.{mark_at, written_marks_bytes}
+use Rattle.mt_granules.proofs.DataFileLemmas.{length-offsets}
 
 -- ---- the marks of a granule
-
--- as many offsets as sizes
-pub offsets_count : (offset : ℕ) (sizes : List ℕ) → length (offsets_from offset sizes) ≡ length sizes
-offsets_count offset [] = refl
-offsets_count offset (size ∷ sizes) = ap suc (offsets_count (offset + size) sizes)
 
 run_size : (offsets : List ℕ) → length (flat_map mark_bytes (map mark_at offsets)) ≡ 16 * length offsets
 run_size [] = refl
@@ -45,7 +41,7 @@ entries_size per_granule entry enough offset end (run ∷ sizes) (count ∷ coun
     let rest = entries_size per_granule entry enough (offset + sum run) end sizes counts (All-tail (λ run. length run ≤ per_granule) run sizes few) in
     let later = marks_bytes (map (map mark_at) (granule_starts (offset + sum run) sizes ++ replicate per_granule end ∷ [])) counts in
     let all = length-append (entry_bytes (map mark_at (offsets_from offset run)) count) later in
-    omega (arith, enough, first, here, rest, all, offsets_count offset run, mul-suc entry (length counts))
+    omega (arith, enough, first, here, rest, all, length-offsets offset run, mul-suc entry (length counts))
 
 -- an entry for each granule, and one for the end
 pub marks_size : (per_granule entry : ℕ) → 16 * per_granule + 8 ≤ entry → (sizes : List (List ℕ)) (granules : List ℕ) → All (λ run. length run ≤ per_granule) sizes

@@ -2,9 +2,9 @@
 use Rattle.std.proofs.Common.{◌≡◌, ℕ, suc, ◌+◌, ◌/◌, ◌%◌, ◌<◌, ◌≤◌, Bool, true, false, not, ◌&&◌, ◌||◌, List, [], ◌∷◌, ◌++◌, length, drop, get_or, refl, ap, sym, ◌∙◌, arith, eqb}
 use Rattle.std.specs.Prelude.{codes, nat_lt, if◌then◌else◌}
 use Rattle.std.specs.List.{list_all, list_any}
-use Rattle.std.proofs.lemmas.Bool.{and_parts, and_from, ne_eqb, ltb-true, lt-ltb}
+use Rattle.std.proofs.lemmas.Bool.{and_parts, and_from, ne_eqb, ltb-true, lt-ltb, not-true, or_right}
 use Rattle.std.proofs.lemmas.List.Folds.{list_all-append, list_any-append}
-use Rattle.mt_defs.specs.FileNames.{escaped_byte, file_name, hex_digit, is_word_byte}
+use Rattle.mt_defs.specs.FileNames.{file_name_byte, file_name, hex_digit, is_word_byte}
 
 -- ---- stems
 
@@ -25,31 +25,23 @@ stem_of (c ∷ name) = if eqb c 46 then [] else c ∷ stem_of name
 abbrev pub has_slash : List ℕ → Bool
 has_slash = list_any (λ c. eqb c 47)
 
-pub not_true : (b : Bool) → not b ≡ true → b ≡ false
-not_true true e = cc
-not_true false e = refl
-
 pub stem_before_dot : (stem rest : List ℕ) → is_stem stem ≡ true → stem_of (stem ++ 46 ∷ rest) ≡ stem
 stem_before_dot [] rest e = refl
 stem_before_dot (c ∷ stem) rest e =
     let both = and_parts (is_stem_byte c) (is_stem stem) e in
-    let no_dot = not_true (eqb c 46) (and_parts (not (eqb c 46)) (not (eqb c 47)) both.0).0 in
+    let no_dot = not-true (eqb c 46) (and_parts (not (eqb c 46)) (not (eqb c 47)) both.0).0 in
     ap (λ b. if b then [] else c ∷ stem_of (stem ++ 46 ∷ rest)) no_dot ∙ ap (λ s. c ∷ s) (stem_before_dot stem rest both.1)
 
 pub stem_without_slash : (stem : List ℕ) → is_stem stem ≡ true → has_slash stem ≡ false
 stem_without_slash [] e = refl
 stem_without_slash (c ∷ stem) e =
     let both = and_parts (is_stem_byte c) (is_stem stem) e in
-    let no_slash = not_true (eqb c 47) (and_parts (not (eqb c 46)) (not (eqb c 47)) both.0).1 in
+    let no_slash = not-true (eqb c 47) (and_parts (not (eqb c 46)) (not (eqb c 47)) both.0).1 in
     ap (λ b. b || has_slash stem) no_slash ∙ stem_without_slash stem both.1
 
 -- a slash is in neither part
 pub no_slash_appended : (a b : List ℕ) → has_slash a ≡ false → has_slash b ≡ false → has_slash (a ++ b) ≡ false
 no_slash_appended a b no_a no_b = list_any-append (λ c. eqb c 47) a b ∙ ap (λ t. t || has_slash b) no_a ∙ no_b
-
-or_right : (a b : Bool) → b ≡ true → (a || b) ≡ true
-or_right true b e = refl
-or_right false b e = e
 
 pub slash_later : (a b : List ℕ) → has_slash b ≡ true → has_slash (a ++ b) ≡ true
 slash_later a b e = list_any-append (λ c. eqb c 47) a b ∙ or_right (has_slash a) (has_slash b) e
@@ -85,7 +77,7 @@ escaped_by c false e = and_from (is_stem_byte (hex_digit (c / 16))) _ (digit_ste
 
 pub file_name_stem : (name : List ℕ) → is_stem (file_name name) ≡ true
 file_name_stem [] = refl
-file_name_stem (c ∷ name) = stems_appended (escaped_byte c) (file_name name) (escaped_by c (is_word_byte c) refl) (file_name_stem name)
+file_name_stem (c ∷ name) = stems_appended (file_name_byte c) (file_name name) (escaped_by c (is_word_byte c) refl) (file_name_stem name)
 
 -- ---- escaped names differ
 

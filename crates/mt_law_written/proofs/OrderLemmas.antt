@@ -8,7 +8,8 @@ use Rattle.std.proofs.lemmas.List.Kept.{AllPairs-cons}
 use Rattle.mt_fault.specs.declared.file.FileBytes.{FileBytes}
 use Rattle.mt_defs.specs.Sorting.{placed_by, sorted_by}
 use Rattle.mt_defs.proofs.Sorted.{All-sorted_by}
-use Rattle.mt_law_written.proofs.LookupLemmas.{Apart, AreApart, same_name}
+use Rattle.mt_defs.proofs.NameLemmas.{same_name}
+use Rattle.mt_law_written.proofs.LookupLemmas.{Apart, AreApart}
 use Rattle.mt_law_written.proofs.ApartLemmas.{EachLater}
 
 -- each pair

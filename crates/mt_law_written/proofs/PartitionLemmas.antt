@@ -5,6 +5,7 @@ use Rattle.std.specs.List.{list_all, filter_map, flat_map}
 use Rattle.std.proofs.lemmas.Bool.{and_parts, eqb-true, eq-eqb}
 use Rattle.std.proofs.lemmas.List.{append_cancel_left, append_cancel_right}
 use Rattle.std.proofs.lemmas.List.Elements.{All-nil, All-cons, All-head, All-tail, All-weaker, filter_passes}
+use Rattle.mt_facts.proofs.Lists.{each_passes, nil_from_test}
 use Rattle.mt_fault.specs.declared.file.FileBytes.{FileBytes}
 use Rattle.mt_table.specs.declared.column.Column.{Column}
 use Rattle.mt_table.specs.declared.definition.Table.{Table}
@@ -24,12 +25,13 @@ use Rattle.mt_defs.specs.WrittenColumns.{file}
 use Rattle.mt_defs.specs.WrittenPartition.{minmax_bytes, minmax_file, partition_files}
 use Rattle.mt_skip.proofs.LawLemmas.{written_agree}
 use Rattle.mt_table.specs.declared.skip.SkipKind.TheVariants.{Minmax}
+use Rattle.mt_defs.proofs.ListLemmas.{All-distinct_by}
 use Rattle.mt_law_written.proofs.LookupLemmas.{AreApart, last_of, last_append}
-use Rattle.mt_law_written.proofs.ListLemmas.{All-distinct, All-mapped, All-of_map}
+use Rattle.mt_law_written.proofs.ListLemmas.{All-mapped, All-of_map}
 use Rattle.mt_law_written.proofs.NameLemmas.{has_slash, no_slash_appended, stem_without_slash, file_name_stem, file_name_injective}
 use Rattle.mt_law_written.proofs.ApartLemmas.{EachLater, Differ, later_mapped, apart_each}
 use Rattle.mt_law_written.proofs.DataNames.{ends_as_data}
-use Rattle.mt_law_written.proofs.RuleLemmas.{place_of, each_passes, names_at, later_kept}
+use Rattle.mt_law_written.proofs.RuleLemmas.{place_of, names_at, later_kept}
 use Rattle.mt_law_written.proofs.WideLemmas.{HasFile}
 
 -- ---- columns of the key, each once
@@ -145,7 +147,7 @@ minmax_later table (i ∷ places) own within differ =
 pub partition_apart : (table : Table) (rows : List Row) → EachLater (λ a b. a.name ≢ b.name) table.columns → keeps_partition table.columns table.partition ≡ true → AreApart (partition_files table rows)
 partition_apart table rows own keeps =
     let places : List ℕ = distinct (key_columns table) in
-    let within : All (λ i. i < length table.columns) places = All-distinct (λ i. i < length table.columns) is_same (key_columns table) (key_within table keeps) in
+    let within : All (λ i. i < length table.columns) places = All-distinct_by (λ i. i < length table.columns) is_same (key_columns table) (key_within table keeps) in
     let first : All (λ f. partition_name ≢ f.name) (map (minmax_file table rows) places) =
     All-mapped (λ f. partition_name ≢ f.name) (minmax_file table rows) places (λ k d inside same. (let bad : 112 ≡ 109 = ap (λ l. get_or l 0 0) same in omega (arith, bad))) in
     files_by table rows AreApart tt (apart_each (key_files table rows) (
@@ -159,15 +161,11 @@ minmax_is : (table : Table) (i : ℕ) (rows : List Row) → rows ≢ [] → IsMi
 minmax_is table i [] some = absurd (some refl)
 minmax_is table i (row ∷ rows) some = written_agree Minmax (column_at table.columns i).ty (column_values i (row ∷ rows)) (λ none. let bad : cell row i ∷ column_values i rows ≡ [] = none in cc)
 
-nil_of : {X : Type 0} (xs : List X) → (length xs == 0) ≡ true → xs ≡ []
-nil_of [] e = refl
-nil_of (x ∷ xs) e = absurd (let zero = eqb-true (length (x ∷ xs)) 0 e in omega (arith, zero))
-
 held_by : (table : Table) (rows : List Row) (folder : Folder) (none : Bool) → (length table.partition == 0) ≡ none → rows ≢ [] → (none ≡ true → folder partition_name ≡ None)
     → All (HasFile folder) (if none then [] else key_files table rows) → HasPartition table rows folder
 held_by table rows folder true e some absent files = record {
   values = absent refl ∙ rw e refl;
-  minmax = subst (λ es. All (HasMinmax table rows folder) (map expression_column es)) (sym (nil_of table.partition e)) (All-nil (HasMinmax table rows folder));
+  minmax = subst (λ es. All (HasMinmax table rows folder) (map expression_column es)) (sym (nil_from_test table.partition e)) (All-nil (HasMinmax table rows folder));
 }
 held_by table rows folder false e some absent files =
     let first : FileBytes = file partition_name (flat_map (partition_bytes table) (take 1 rows)) in

@@ -37,8 +37,8 @@ use Rattle.mt_defs.specs.WrittenPartition.{minmax_file, partition_files}
 use Rattle.mt_defs.specs.WrittenSkips.{skip_files}
 use Rattle.mt_defs.specs.Writer.{definition_files, file_below, file_cmp, projection_files, projection_rows, written_folder}
 use Rattle.mt_defs.proofs.Sorted.{All-sorted_by}
-use Rattle.mt_law_written.proofs.ListLemmas.{All-distinct, All-right, All-two, All-mapped, All-to_flat_map, All-both}
-use Rattle.mt_item.proofs.ItemBytes.{all_small}
+use Rattle.mt_defs.proofs.ListLemmas.{All-distinct_by, tested_bytes}
+use Rattle.mt_law_written.proofs.ListLemmas.{All-right, All-two, All-mapped, All-to_flat_map, All-both}
 use Rattle.mt_law_written.proofs.RuleLemmas.{name_bytes}
 use Rattle.mt_law_written.proofs.StoredLemmas.{base_own, grouped_rules, inner_own, names_are_words, stored_within}
 use Rattle.mt_law_written.proofs.AggregateLemmas.{IsKnown, is_over}
@@ -95,17 +95,17 @@ selected_named : (columns : List Column) (places : List ℕ) → All Named colum
 selected_named columns places named within = All-mapped Named (column_at columns) places (λ k d inside. named (get_or places k d) no_column (within k d inside))
 
 word_of_agg : (agg : Agg) → AreBytes (aggregate_word agg)
-word_of_agg Sum = all_small (codes "sum") refl
-word_of_agg Min = all_small (codes "min") refl
-word_of_agg Max = all_small (codes "max") refl
+word_of_agg Sum = tested_bytes (codes "sum") refl
+word_of_agg Min = tested_bytes (codes "min") refl
+word_of_agg Max = tested_bytes (codes "max") refl
 
 state_named : (table : Table) (aggregate : Aggregate) → All Named table.columns → keeps_aggregate table.columns aggregate ≡ true → AreBytes (state_column table aggregate).name
-state_named table Count named keeps = all_small (codes "count()") refl
+state_named table Count named keeps = tested_bytes (codes "count()") refl
 state_named table (Of agg i) named keeps =
     let P : ℕ → Type 0 = λ byte. byte < 256 in
     let name : List ℕ = (column_at table.columns i).name in
-    All-append P (aggregate_word agg ++ codes "(" ++ name) (codes ")") (All-append P (aggregate_word agg ++ codes "(") name (All-append P (aggregate_word agg) (codes "(") (word_of_agg agg) (all_small (codes "(") refl))
-    (named i no_column (is_over table.columns (Of agg i) keeps)).1) (all_small (codes ")") refl)
+    All-append P (aggregate_word agg ++ codes "(" ++ name) (codes ")") (All-append P (aggregate_word agg ++ codes "(") name (All-append P (aggregate_word agg) (codes "(") (word_of_agg agg) (tested_bytes (codes "(") refl))
+    (named i no_column (is_over table.columns (Of agg i) keeps)).1) (tested_bytes (codes ")") refl)
 
 inner_named : (table : Table) (projection : Projection) → keeps_columns table.columns ≡ true → keeps_projection table.columns projection ≡ true → All Named (inner_of table projection).columns
 inner_named table (Normal name selected sort) columns keeps =
@@ -129,7 +129,7 @@ minmax_plain table i bytes =
 partition_plain : (table : Table) (rows : List Row) → All Named table.columns → keeps_partition table.columns table.partition ≡ true → All OfPlainName (partition_files table rows)
 partition_plain table rows named keeps =
     let places : List ℕ = distinct (key_columns table) in
-    let within : All (λ i. i < length table.columns) places = All-distinct (λ i. i < length table.columns) is_same (key_columns table) (key_within table keeps) in
+    let within : All (λ i. i < length table.columns) places = All-distinct_by (λ i. i < length table.columns) is_same (key_columns table) (key_within table keeps) in
     files_by table rows (All OfPlainName) (All-nil OfPlainName)
     (All-cons OfPlainName (file partition_name (flat_map (partition_bytes table) (take 1 rows))) (map (minmax_file table rows) places) (record { plain = refl; long = lit≤ tt })
     (All-mapped OfPlainName (minmax_file table rows) places (λ k d inside. minmax_plain table (get_or places k d) (named (get_or places k d) no_column (within k d inside)).1)))

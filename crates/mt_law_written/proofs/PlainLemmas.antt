@@ -8,7 +8,7 @@ use Rattle.std.proofs.lemmas.List.Elements.{All-nil, All-cons, All-head, All-tai
 use Rattle.std.proofs.lemmas.List.Folds.{list_all-append}
 use Rattle.mt_types.specs.Words.{is_word_byte as is_name_byte}
 use Rattle.mt_defs.specs.Lists.{AreBytes}
-use Rattle.mt_defs.specs.FileNames.{escaped_byte, file_name, hex_digit, is_word_byte}
+use Rattle.mt_defs.specs.FileNames.{file_name_byte, file_name, hex_digit, is_word_byte}
 use Rattle.mt_law_written.proofs.NameLemmas.{digit_high}
 
 -- a byte of ASCII, neither zero nor a slash
@@ -102,4 +102,4 @@ pub file_name_plain : (name : List ℕ) → AreBytes name → is_plain (file_nam
 file_name_plain [] bytes = refl
 file_name_plain (c ∷ name) bytes =
     let P : ℕ → Type 0 = λ byte. byte < 256 in
-    plain_appended (escaped_byte c) (file_name name) (escaped_by c (is_word_byte c) (All-head P c name bytes) refl) (file_name_plain name (All-tail P c name bytes))
+    plain_appended (file_name_byte c) (file_name name) (escaped_by c (is_word_byte c) (All-head P c name bytes) refl) (file_name_plain name (All-tail P c name bytes))

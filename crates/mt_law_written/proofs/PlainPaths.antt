@@ -2,18 +2,17 @@
 use Rattle.std.proofs.Common.{◌≡◌, ℕ, ◌<◌, ◌≤◌, Bool, true, false, not, List, [], ◌∷◌, ◌++◌, length, refl, ap, sym, ◌∙◌, subst, append_assoc, arith, eqb, ltb}
 use Rattle.std.specs.List.{list_all}
 use Rattle.std.specs.Str.{IsAscii, IsUtf8}
-use Rattle.std.proofs.lemmas.Bool.{and_parts, and_from, ltb-true}
+use Rattle.std.proofs.lemmas.Bool.{and_parts, and_from, ltb-true, not-true}
 use Rattle.std.proofs.lemmas.List.Folds.{list_all-append}
 use Rattle.std.proofs.lemmas.Str.{IsUtf8-from_ascii}
 use Rattle.std.proofs.lemmas.Str.Ascii.{IsAscii-nil, IsAscii-cons}
 use Rattle.mt_fault.specs.declared.file.FileBytes.{FileBytes}
 use Rattle.mt_shelf.specs.Held.{HasName}
-use Rattle.mt_shelf.specs.Paths.{names_of, is_relative, is_dots, has_no_zero, onto_first}
+use Rattle.mt_shelf.specs.Paths.{path_names, is_relative, is_dots, has_no_zero, onto_first_name}
 use Rattle.mt_shelf.specs.Paths as paths
 use Rattle.mt_defs.specs.WrittenColumns.{file}
 use Rattle.mt_defs.specs.Writer.{file_below}
 use Rattle.mt_law_written.proofs.PlainLemmas.{is_plain, is_plain_byte}
-use Rattle.mt_law_written.proofs.NameLemmas.{not_true}
 
 -- ---- paths of plain names
 
@@ -26,16 +25,16 @@ plain_parts : (c : ℕ) → is_plain_byte c ≡ true → Plain c
 plain_parts c e =
     let outer = and_parts (ltb c 128) _ e in
     let inner = and_parts (not (eqb c 0)) _ outer.1 in
-    record { ascii = ltb-true c 128 outer.0; no_zero = inner.0; no_slash = not_true (eqb c 47) inner.1 }
+    record { ascii = ltb-true c 128 outer.0; no_zero = inner.0; no_slash = not-true (eqb c 47) inner.1 }
 
 -- a plain name alone, and before a slash
-one_name : (name : List ℕ) → is_plain name ≡ true → names_of name ≡ name ∷ []
+one_name : (name : List ℕ) → is_plain name ≡ true → path_names name ≡ name ∷ []
 one_name [] e = refl
 one_name (c ∷ name) e =
     let both = and_parts (is_plain_byte c) (is_plain name) e in
     rw ((plain_parts c both.0).no_slash, one_name name both.1) refl
 
-name_before : (name rest : List ℕ) → is_plain name ≡ true → names_of (name ++ 47 ∷ rest) ≡ name ∷ names_of rest
+name_before : (name rest : List ℕ) → is_plain name ≡ true → path_names (name ++ 47 ∷ rest) ≡ name ∷ path_names rest
 name_before [] rest e = refl
 name_before (c ∷ name) rest e =
     let both = and_parts (is_plain_byte c) (is_plain name) e in
@@ -73,7 +72,7 @@ pub record IsPlainName (name : List ℕ) : Type 0 where
   pub plain : is_plain name ≡ true
   pub long : 3 ≤ length name
 
-is_file_name : (name : List ℕ) → IsPlainName name → paths.is_name name ≡ true
+is_file_name : (name : List ℕ) → IsPlainName name → paths.is_entry_name name ≡ true
 is_file_name name is = and_from (not (is_dots name)) (has_no_zero name) (ap not (no_dots name is.long)) (no_zeros name is.plain)
 
 abbrev pub OfPlainName : FileBytes → Type 0
@@ -82,7 +81,7 @@ OfPlainName file = IsPlainName file.name
 pub plain_path : (file : FileBytes) → OfPlainName file → HasName file
 plain_path file is = record {
   utf8 = IsUtf8-from_ascii file.name (ascii_of file.name (plain_ascii file.name is.plain));
-  form = ap (list_all paths.is_name) (one_name file.name is.plain) ∙ and_from (paths.is_name file.name) true (is_file_name file.name is) refl;
+  form = ap (list_all paths.is_entry_name) (one_name file.name is.plain) ∙ and_from (paths.is_entry_name file.name) true (is_file_name file.name is) refl;
 }
 
 -- a plain name below a folder of a plain name
@@ -92,6 +91,6 @@ below_path above file is here =
     let same : (above ++ 47 ∷ []) ++ file.name ≡ whole = append_assoc above (47 ∷ []) file.name in
     let ascii : is_ascii whole ≡ true = list_all-append (λ c. ltb c 128) above (47 ∷ file.name) ∙ and_from (is_ascii above) _ (plain_ascii above is.plain) (plain_ascii file.name here.plain) in
     let form : is_relative whole ≡ true =
-    ap (list_all paths.is_name) (name_before above file.name is.plain ∙ ap (λ names. above ∷ names) (one_name file.name here.plain))
-    ∙ and_from (paths.is_name above) _ (is_file_name above is) (and_from (paths.is_name file.name) true (is_file_name file.name here) refl) in
+    ap (list_all paths.is_entry_name) (name_before above file.name is.plain ∙ ap (λ names. above ∷ names) (one_name file.name here.plain))
+    ∙ and_from (paths.is_entry_name above) _ (is_file_name above is) (and_from (paths.is_entry_name file.name) true (is_file_name file.name here) refl) in
     record { utf8 = subst IsUtf8 (sym same) (IsUtf8-from_ascii whole (ascii_of whole ascii)); form = ap is_relative same ∙ form }

@@ -5,24 +5,26 @@ use Rattle.std.specs.List.{list_all, flat_map}
 use Rattle.std.proofs.lemmas.Bool.{and_parts, and_from}
 use Rattle.std.proofs.lemmas.List.{append_cancel_left}
 use Rattle.std.proofs.lemmas.List.Elements.{All-head, All-tail, All-weaker}
+use Rattle.mt_facts.proofs.Lists.{each_passes}
 use Rattle.mt_types.specs.Words.{is_word_byte as is_name_byte, is_name}
 use Rattle.mt_fault.specs.declared.file.FileBytes.{FileBytes}
 use Rattle.mt_table.specs.declared.definition.Table.{Table}
 use Rattle.mt_table.specs.declared.projection.Projection.{Projection}
 use Rattle.mt_table.specs.declared.projection.Projection.TheVariants.{Normal, Grouped}
 use Rattle.mt_table.specs.Names.{names_differ}
-use Rattle.mt_table.specs.Kept.{keeps_columns, keeps_normal, keeps_grouped, keeps_projection, keeps_projections, name_of}
-use Rattle.mt_defs.specs.Folder.{is_name as is_same_name}
+use Rattle.mt_table.specs.Kept.{keeps_columns, keeps_normal, keeps_grouped, keeps_projection, keeps_projections, name_of_projection}
+use Rattle.mt_defs.specs.Folder.{names_agree as is_same_name}
 use Rattle.mt_defs.specs.Rows.{Row}
 use Rattle.mt_defs.specs.Projections.{inner_of, projection_name, projection_prefix}
 use Rattle.mt_defs.specs.Writer.{definition_files, file_below, projection_files, projection_rows}
-use Rattle.mt_law_written.proofs.LookupLemmas.{Apart, AreApart, same_name, other_name}
+use Rattle.mt_defs.proofs.NameLemmas.{same_name}
+use Rattle.mt_law_written.proofs.LookupLemmas.{Apart, AreApart, other_name}
 use Rattle.mt_law_written.proofs.ListLemmas.{All-mapped}
 use Rattle.mt_law_written.proofs.NameLemmas.{is_stem, is_stem_byte, stem_of, has_slash, stem_before_dot, slash_first, slash_later, stem_byte}
 use Rattle.mt_law_written.proofs.ApartLemmas.{EachLater, later_unmapped, later_weaker, Across, apart_flat, across_labels, Labelled}
 use Rattle.mt_law_written.proofs.DataNames.{definition_apart}
 use Rattle.mt_law_written.proofs.StoredLemmas.{inner_own}
-use Rattle.mt_law_written.proofs.RuleLemmas.{names_are_different, each_passes, name_bytes}
+use Rattle.mt_law_written.proofs.RuleLemmas.{names_are_different, name_bytes}
 
 -- ---- names
 
@@ -33,7 +35,7 @@ word_stem (c ∷ name) e =
     and_from (is_stem_byte c) (is_stem name)
     (stem_byte c (λ is. let bad : false ≡ true = ap is_name_byte (sym is) ∙ both.0 in cc) (λ is. let bad : false ≡ true = ap is_name_byte (sym is) ∙ both.0 in cc)) (word_stem name both.1)
 
-same_names : (projection : Projection) → name_of projection ≡ projection_name projection
+same_names : (projection : Projection) → name_of_projection projection ≡ projection_name projection
 same_names (Normal name columns sort) = refl
 same_names (Grouped name keys aggs) = refl
 
@@ -49,12 +51,12 @@ pub record ProjectionRules (table : Table) : Type 0 where
 
 pub projection_rules : (table : Table) → keeps_projections table.columns table.projections ≡ true → ProjectionRules table
 projection_rules table keeps =
-    let both = and_parts (list_all (keeps_projection table.columns) table.projections) (names_differ (map name_of table.projections)) (and_parts _ _ keeps).1 in
+    let both = and_parts (list_all (keeps_projection table.columns) table.projections) (names_differ (map name_of_projection table.projections)) (and_parts _ _ keeps).1 in
     let each = each_passes (keeps_projection table.columns) table.projections both.0 in
     record {
       differ =
-          later_weaker (λ p q. name_of p ≢ name_of q) (λ p q. projection_name p ≢ projection_name q) (λ p q other same. other (same_names p ∙ same ∙ sym (same_names q))) table.projections
-          (later_unmapped (λ a b. a ≢ b) name_of table.projections (names_are_different (map name_of table.projections) both.1));
+          later_weaker (λ p q. name_of_projection p ≢ name_of_projection q) (λ p q. projection_name p ≢ projection_name q) (λ p q other same. other (same_names p ∙ same ∙ sym (same_names q))) table.projections
+          (later_unmapped (λ a b. a ≢ b) name_of_projection table.projections (names_are_different (map name_of_projection table.projections) both.1));
       each = each;
       stems =
           All-weaker (λ projection. keeps_projection table.columns projection ≡ true) (λ projection. is_stem (projection_name projection) ≡ true) (λ projection keeps.

@@ -1,6 +1,7 @@
 -- What the writer puts into data and marks files is read again.
 use Rattle.std.proofs.Common.{◌≡◌, ℕ, ◌<◌, ◌≤◌, ◌^◌, List, length, refl, arith, lit<}
 use Rattle.std.specs.Prelude.{All, Ok}
+use Rattle.mt_facts.proofs.Numbers.{each_below_sum}
 use Rattle.mt_fault.specs.declared.file.FileBytes.{FileBytes}
 use Rattle.mt_table.specs.declared.column.Column.{Column}
 use Rattle.mt_table.specs.declared.limits.TheConstants.{MAX_COLUMNS, MAX_ROWS}
@@ -14,7 +15,6 @@ use Rattle.mt_compact.specs.HeldRows as compact
 use Rattle.mt_compact.specs.CompactReading.{compact_reading}
 use Rattle.mt_compact.proofs.CompactLawLemmas.{compact_exactly}
 use Rattle.mt_law_written.specs.Layouts.{AreLaidOut, HaveNames}
-use Rattle.mt_law_written.proofs.ListLemmas.{below_sum}
 use Rattle.mt_law_written.proofs.WideLemmas.{columns_hold, wide_held}
 use Rattle.mt_law_written.proofs.CompactLemmas.{compact_held}
 use Rattle.mt_law_written.proofs.DefinitionLemmas.{granules_of}
@@ -27,7 +27,7 @@ use Rattle.mt_law_written.proofs.ShortFiles.{compact_short, wide_short}
 few_in_each : (columns : List Column) (rows : List Row) (granules : List ℕ) → AreLaidOut columns rows granules → All (λ count. count < 2 ^ 64) granules
 few_in_each columns rows granules are =
     let limit : MAX_ROWS < 2 ^ 64 = lit< tt in
-    below_sum (2 ^ 64) granules (omega (arith, are.cut.all, are.few_rows))
+    each_below_sum (2 ^ 64) granules (omega (arith, are.cut.all, are.few_rows))
 
 pub wide_again : (columns : List Column) (rows : List Row) (granules : List ℕ) → 1 ≤ length columns → AreLaidOut columns rows granules → HaveNames columns
     → wide_reading (folder_of (wide_files columns rows granules)) (length rows) columns ≡ Ok (rows, granules)

@@ -4,38 +4,25 @@ use Rattle.std.specs.Prelude.{All, nat_eq, filter}
 use Rattle.std.specs.List.{list_all, list_any, range_with_len}
 use Rattle.std.specs.Str.{bytes_eq}
 use Rattle.std.specs.Char.{is_ascii_digit}
-use Rattle.std.proofs.lemmas.Bool.{and_parts, and_from, eq-eqb}
+use Rattle.std.proofs.lemmas.Bool.{and_parts, and_from, eq-eqb, not-true}
 use Rattle.std.proofs.lemmas.Slice.Eq.{bytes_eq-Decides}
 use Rattle.std.proofs.lemmas.List.Elements.{All-nil, All-cons, All-append, All-filter, All-head, All-tail, All-weaker}
+use Rattle.mt_facts.proofs.Lists.{each_passes, none_passes}
 use Rattle.mt_types.specs.declared.ty.Ty.{Ty}
 use Rattle.mt_types.specs.Words.{is_word_start, is_word_byte as is_name_byte, is_name, is_word_text}
 use Rattle.mt_table.specs.declared.column.Column.{Column}
 use Rattle.mt_table.specs.ColumnTypes.{place_has}
 use Rattle.mt_table.specs.Names.{are_different}
 use Rattle.mt_defs.specs.Metadata.{column_at, no_column}
-use Rattle.mt_law_written.proofs.NameLemmas.{not_true}
 use Rattle.mt_law_written.proofs.ApartLemmas.{EachLater, Differ, later_mapped}
 
 -- ---- lists without repetition
-
-first_no : (a b : Bool) → (a || b) ≡ false → a ≡ false
-first_no true b e = cc
-first_no false b e = refl
-
-second_no : (a b : Bool) → (a || b) ≡ false → b ≡ false
-second_no true b e = cc
-second_no false b e = e
-
--- no element passes
-pub none_pass : {X : Type 0} (test : X → Bool) (xs : List X) → list_any test xs ≡ false → All (λ x. test x ≡ false) xs
-none_pass test [] e = All-nil _
-none_pass test (x ∷ xs) e = All-cons (λ x. test x ≡ false) x xs (first_no (test x) (list_any test xs) e) (none_pass test xs (second_no (test x) (list_any test xs) e))
 
 pub differ_by : {X : Type 0} (same : X → X → Bool) → ((a b : X) → a ≡ b → same a b ≡ true) → (xs : List X) → are_different same xs ≡ true → Differ xs
 differ_by same decides [] e = tt
 differ_by same decides (x ∷ xs) e =
     let both = and_parts (not (list_any (same x) xs)) (are_different same xs) e in (
-      All-weaker (λ y. same x y ≡ false) (λ y. x ≢ y) (λ y other is. (let bad : true ≡ false = sym (decides x y is) ∙ other in cc)) xs (none_pass (same x) xs (not_true (list_any (same x) xs) both.0)),
+      All-weaker (λ y. same x y ≡ false) (λ y. x ≢ y) (λ y other is. (let bad : true ≡ false = sym (decides x y is) ∙ other in cc)) xs (none_passes (same x) xs (not-true (list_any (same x) xs) both.0)),
       differ_by same decides xs both.1,
     )
 
@@ -56,12 +43,6 @@ pub place_of : (test : Ty → Bool) (columns : List Column) (place : ℕ) → pl
 place_of test [] place e = cc
 place_of test (column ∷ columns) zero e = record { within = omega arith; passes = e }
 place_of test (column ∷ columns) (suc place) e = let later = place_of test columns place e in record { within = omega (arith, later.within); passes = later.passes }
-
-pub each_passes : {X : Type 0} (test : X → Bool) (xs : List X) → list_all test xs ≡ true → All (λ x. test x ≡ true) xs
-each_passes test [] e = All-nil _
-each_passes test (x ∷ xs) e =
-    let both = and_parts (test x) (list_all test xs) e in
-    All-cons (λ x. test x ≡ true) x xs both.0 (each_passes test xs both.1)
 
 pub places_of : (test : Ty → Bool) (columns : List Column) (places : List ℕ) → list_all (place_has test columns) places ≡ true → All (HasPlace test columns) places
 places_of test columns places e = All-weaker (λ place. place_has test columns place ≡ true) (HasPlace test columns) (place_of test columns) places (each_passes (place_has test columns) places e)

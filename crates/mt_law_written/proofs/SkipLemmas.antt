@@ -5,7 +5,6 @@ use Rattle.std.specs.List.{flat_map, concat}
 use Rattle.std.specs.List.Sorted.{IsNonDecreasingBy}
 use Rattle.std.specs.Int.{w64}
 use Rattle.std.proofs.lemmas.List.{append-nil}
-use Rattle.std.proofs.lemmas.List.Concat.{flat_map-append}
 use Rattle.std.proofs.lemmas.List.Folds.{flat_map-map}
 use Rattle.std.proofs.lemmas.List.Elements.{All-append, All-weaker}
 use Rattle.mt_types.specs.declared.ty.Ty.{Ty}
@@ -19,7 +18,7 @@ use Rattle.mt_table.specs.declared.limits.TheConstants.{MAX_ROWS}
 use Rattle.mt_table.specs.declared.skip.Skip.{Skip}
 use Rattle.mt_table.specs.declared.skip.SkipKind.{SkipKind}
 use Rattle.mt_table.specs.declared.skip.SkipKind.TheVariants.{Minmax, Set}
-use Rattle.mt_defs.specs.Frames.{Block, IsBlock, IsFileOf, block_bytes, file_of}
+use Rattle.mt_defs.specs.Frames.{IsFileOf}
 use Rattle.mt_defs.specs.Lists.{AreBytes, Pointwise, offsets_from}
 use Rattle.mt_defs.specs.Folder.{Folder}
 use Rattle.mt_defs.specs.Rows.{Row, cell, column_values}
@@ -32,12 +31,12 @@ use Rattle.mt_defs.specs.WrittenFrames.{written_frames, mark_at}
 use Rattle.mt_defs.specs.WrittenGranules.{written_granules, is_small}
 use Rattle.mt_defs.specs.WrittenPartition.{minmax_bytes}
 use Rattle.mt_defs.specs.WrittenSkips.{skip_files, written_entries, written_entry, written_skip_mark}
+use Rattle.mt_defs.proofs.ListLemmas.{All-distinct_by}
 use Rattle.mt_skip.proofs.EntriesLemmas.{entries_agree}
 use Rattle.mt_layout.proofs.HoldLemmas.{granules_hold}
-use Rattle.mt_frame.proofs.WrittenLemmas.{blocks_within, blocks_are, file_is}
-use Rattle.mt_law_written.proofs.MarkLemmas.{framed_one_by_one, offset_within, starts_denote}
+use Rattle.mt_law_written.proofs.MarkLemmas.{framed_one_by_one, offset_within, starts_denote, all_blocks, file_is_blocks}
 use Rattle.mt_item.proofs.ItemBytes.{item_is_bytes, number_bytes}
-use Rattle.mt_law_written.proofs.ListLemmas.{All-distinct, All-mapped, All-to_flat_map, All-granules, All-groups, Pointwise-firsts}
+use Rattle.mt_law_written.proofs.ListLemmas.{All-mapped, All-to_flat_map, All-granules, All-groups, Pointwise-firsts}
 use Rattle.mt_law_written.proofs.WideLemmas.{ColumnHolds, HasFile, no_file}
 use Rattle.mt_law_written.proofs.MarkLimits.{few_granules}
 use Rattle.mt_law_written.proofs.MinmaxSizes.{best_all}
@@ -59,7 +58,7 @@ entry_is_bytes Minmax ty values all = extremes_bytes ty values all
 entry_is_bytes (Set n) ty values all =
     elim (is_too_many n values) as (λ b. AreBytes (if b then u64_bytes 0 else set_bytes ty (distinct_values values))) [
       | true ↦ number_bytes w64 0
-      | false ↦ All-append (λ byte. byte < 256) (u64_bytes (length (distinct_values values))) _ (number_bytes w64 (length (distinct_values values))) (items_bytes ty (distinct_values values) (All-distinct (Fits ty) (λ a b. is_eq (value_cmp a b)) values all))
+      | false ↦ All-append (λ byte. byte < 256) (u64_bytes (length (distinct_values values))) _ (number_bytes w64 (length (distinct_values values))) (items_bytes ty (distinct_values values) (All-distinct_by (Fits ty) (λ a b. is_eq (value_cmp a b)) values all))
     ]
 
 entries_are_bytes : (table : Table) (skip : Skip) (rows : List Row) (granules : List ℕ) → ColumnHolds (column_at table.columns skip.column) skip.column rows → All AreBytes (written_entries table skip rows granules)
@@ -72,22 +71,6 @@ entries_are_bytes table skip rows granules holds =
     (All-groups P skip.granularity (length granules) (granule_rows granules rows) (All-granules P granules rows holds.fit)))
 
 -- ---- marks
-
-abbrev blocks_of : List ℕ → List Block
-blocks_of payload = blocks_within (length payload) payload
-
-abbrev all_blocks : List (List ℕ) → List Block
-all_blocks = flat_map blocks_of
-
-files_of : (payloads : List (List ℕ)) → file_of (all_blocks payloads) ≡ concat (map written_frames payloads)
-files_of [] = refl
-files_of (payload ∷ payloads) =
-    flat_map-append block_bytes (blocks_of payload) (all_blocks payloads)
-    ∙ ap (λ bytes. bytes ++ file_of (all_blocks payloads)) (sym (file_is (length payload) payload)) ∙ ap (λ rest. written_frames payload ++ rest) (files_of payloads)
-
-blocks_hold : (payloads : List (List ℕ)) → All AreBytes payloads → IsFileOf (all_blocks payloads) (concat (map written_frames payloads))
-blocks_hold payloads are =
-    record { each = All-to_flat_map IsBlock blocks_of payloads (All-weaker AreBytes (λ payload. All IsBlock (blocks_of payload)) (λ payload bytes. blocks_are (length payload) payload bytes) payloads are); bytes = sym (files_of payloads) }
 
 abbrev marks_of : List (List ℕ) → List SkipMark
 marks_of entries = map written_skip_mark (offsets_from 0 (map length (map written_frames entries)))
@@ -102,7 +85,7 @@ marks_denote : (entries : List (List ℕ)) → All AreBytes entries
     → Pointwise (λ skip_mark position. MarksPosition (concat (map written_frames entries)) skip_mark.mark position) (marks_of entries) (offsets_from 0 (map length entries))
 marks_denote entries are =
     let file : List ℕ = concat (map written_frames entries) in
-    let is : IsFileOf ([] ++ (all_blocks entries ++ [])) file = subst (λ blocks. IsFileOf blocks file) (sym (append-nil (all_blocks entries))) (blocks_hold entries are) in
+    let is : IsFileOf ([] ++ (all_blocks entries ++ [])) file = subst (λ blocks. IsFileOf blocks file) (sym (append-nil (all_blocks entries))) (file_is_blocks entries are) in
     moved file (offsets_from 0 (map length (map written_frames entries))) (offsets_from 0 (map length entries)) (starts_denote 0 0 [] entries [] file refl refl is)
 
 from_offset : (offset : ℕ) (sizes : List ℕ) (k : ℕ) (d : SkipMark) → k < length (map written_skip_mark (offsets_from offset sizes)) → offset ≤ (get_or (map written_skip_mark (offsets_from offset sizes)) k d).mark.offset

@@ -1,12 +1,12 @@
 -- The writer's data file of a skip index is short: its entries have few bytes for each row and each granule.
-use Rattle.std.proofs.Common.{◌≡◌, ℕ, zero, suc, ◌+◌, ◌*◌, ◌≤◌, ◌<◌, ◌^◌, Bool, true, false, not, List, [], ◌∷◌, ◌++◌, length, map, take, drop, ap, arith, length-append}
+use Rattle.std.proofs.Common.{◌≡◌, ℕ, zero, suc, ◌+◌, ◌*◌, ◌≤◌, ◌<◌, ◌^◌, true, false, List, [], ◌∷◌, length, map, take, drop, ap, arith, length-append}
 use Rattle.std.specs.Prelude.{All, if◌then◌else◌}
 use Rattle.std.specs.List.{concat, flat_map, sum_by}
 use Rattle.std.proofs.Math.Nat.{mul-le-mul_left}
 use Rattle.std.proofs.lemmas.List.{length-map, take-append-drop}
 use Rattle.std.proofs.lemmas.List.Concat.{length-flat_map}
 use Rattle.std.proofs.lemmas.List.Elements.{All-head, All-map, All-tail, All-weaker}
-use Rattle.std.proofs.lemmas.List.Sums.{count_by-le-length, length-filter, sum_by-append, sum_by-cons}
+use Rattle.std.proofs.lemmas.List.Sums.{sum_by-append, sum_by-cons}
 use Rattle.std.specs.Ordering.{is_eq}
 use Rattle.mt_types.specs.Fits.{fits_of}
 use Rattle.mt_types.specs.Items.{item_bytes}
@@ -20,14 +20,14 @@ use Rattle.mt_table.specs.declared.skip.Skip.{Skip}
 use Rattle.mt_table.specs.declared.skip.SkipKind.{SkipKind}
 use Rattle.mt_table.specs.declared.skip.SkipKind.TheVariants.{Minmax, Set}
 use Rattle.mt_defs.specs.Granules.{granule_rows}
-use Rattle.mt_defs.specs.Lists.{distinct_by}
 use Rattle.mt_defs.specs.Marks.{u64_bytes}
 use Rattle.mt_defs.specs.Metadata.{column_at}
 use Rattle.mt_defs.specs.Rows.{Row, cell, column_values}
 use Rattle.mt_defs.specs.SkipIndexes.{distinct_values, entry_groups, entry_rows, is_too_many, set_bytes}
 use Rattle.mt_defs.specs.WrittenFrames.{written_frames}
 use Rattle.mt_defs.specs.WrittenSkips.{written_entries, written_entry}
-use Rattle.mt_law_written.proofs.ListLemmas.{All-distinct, All-granules, All-groups}
+use Rattle.mt_defs.proofs.ListLemmas.{All-distinct_by, length-distinct_by}
+use Rattle.mt_law_written.proofs.ListLemmas.{All-granules, All-groups}
 use Rattle.mt_law_written.proofs.FrameLimits.{framed_size}
 use Rattle.mt_law_written.proofs.ItemLimits.{item_within}
 use Rattle.mt_law_written.proofs.LevelLimits.{item_limit}
@@ -35,13 +35,6 @@ use Rattle.mt_law_written.proofs.MinmaxSizes.{HaveItems, minmax_size}
 use Rattle.mt_law_written.proofs.SumLemmas.{runs_size}
 
 -- ---- the rows of the groups
-
--- no value twice, so no more values
-distinct_few : {X : Type 0} (same : X → X → Bool) (xs : List X) → length (distinct_by same xs) ≤ length xs
-distinct_few same [] = omega arith
-distinct_few same (x ∷ xs) =
-    let rest = distinct_by same xs in
-    omega (arith, distinct_few same xs, length-filter (λ y. not (same x y)) rest, count_by-le-length (λ y. not (same x y)) rest)
 
 granules_rows : (granules : List ℕ) (rows : List Row) → sum_by length (granule_rows granules rows) ≤ length rows
 granules_rows [] rows = omega arith
@@ -74,8 +67,8 @@ entry_limit = 2 ^ 26
 set_size : (ty : Ty) (values : List Value) → HaveItems ty item_limit values → length (set_bytes ty (distinct_values values)) ≤ 8 + item_limit * length values
 set_size ty values has =
     let distinct : List Value = distinct_values values in
-    let size = runs_size (item_bytes ty) item_limit distinct (All-distinct (λ value. length (item_bytes ty value) ≤ item_limit) (λ a b. is_eq (value_cmp a b)) values has) in
-    omega (arith, size, mul-le-mul_left item_limit (distinct_few (λ a b. is_eq (value_cmp a b)) values), length-append (u64_bytes (length distinct)) (flat_map (item_bytes ty) distinct))
+    let size = runs_size (item_bytes ty) item_limit distinct (All-distinct_by (λ value. length (item_bytes ty value) ≤ item_limit) (λ a b. is_eq (value_cmp a b)) values has) in
+    omega (arith, size, mul-le-mul_left item_limit (length-distinct_by (λ a b. is_eq (value_cmp a b)) values), length-append (u64_bytes (length distinct)) (flat_map (item_bytes ty) distinct))
 
 entry_size : (kind : SkipKind) (ty : Ty) (values : List Value) → HaveItems ty item_limit values → length (written_entry kind ty values) ≤ entry_limit * (1 + length values)
 entry_size Minmax ty values has = omega (arith, minmax_size ty values item_limit has)

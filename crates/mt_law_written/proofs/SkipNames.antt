@@ -3,11 +3,12 @@ use Rattle.std.proofs.Common.{◌≡◌, ◌≢◌, ℕ, ◌<◌, ◌≤◌, Boo
 use Rattle.std.specs.Prelude.{All, codes, nat_le}
 use Rattle.std.specs.List.{list_all, flat_map}
 use Rattle.std.specs.Str.{bytes_eq}
-use Rattle.std.proofs.lemmas.Bool.{and_parts, leb-true}
+use Rattle.std.proofs.lemmas.Bool.{and_parts, leb-true, not-true}
 use Rattle.std.proofs.lemmas.List.{append_cancel_left}
 use Rattle.std.proofs.lemmas.List.Concat.{flat_map-append}
 use Rattle.std.proofs.lemmas.List.Elements.{All-weaker}
 use Rattle.std.proofs.lemmas.Slice.Eq.{bytes_eq-Decides}
+use Rattle.mt_facts.proofs.Lists.{each_passes, none_passes}
 use Rattle.mt_fault.specs.declared.file.FileBytes.{FileBytes}
 use Rattle.mt_table.specs.declared.column.Column.{Column}
 use Rattle.mt_table.specs.declared.definition.Table.{Table}
@@ -19,7 +20,7 @@ use Rattle.mt_table.specs.Names.{are_apart, is_among, names_differ, skip_stem}
 use Rattle.mt_table.specs.Kept.{keeps_skip, keeps_skips, names_of, skip_names}
 use Rattle.mt_types.specs.Words.{is_name}
 use Rattle.mt_defs.specs.Rows.{Row}
-use Rattle.mt_defs.specs.FileNames.{file_name, escaped_byte}
+use Rattle.mt_defs.specs.FileNames.{file_name, file_name_byte}
 use Rattle.mt_defs.specs.Part.{marks_ending}
 use Rattle.mt_defs.specs.SkipIndexes.{data_ending, skip_data_name, skip_marks_name}
 use Rattle.mt_defs.specs.WrittenGranules.{is_small}
@@ -27,10 +28,10 @@ use Rattle.mt_defs.specs.WrittenSkips.{skip_files}
 use Rattle.mt_law_written.proofs.LookupLemmas.{AreApart, other_name}
 use Rattle.mt_law_written.proofs.ListLemmas.{All-two, All-of_map}
 use Rattle.mt_law_written.proofs.WideLemmas.{no_file}
-use Rattle.mt_law_written.proofs.NameLemmas.{not_true, is_stem, stem_of, has_slash, stem_before_dot, stem_without_slash, no_slash_appended, stems_appended, file_name_stem, file_name_injective}
+use Rattle.mt_law_written.proofs.NameLemmas.{is_stem, stem_of, has_slash, stem_before_dot, stem_without_slash, no_slash_appended, stems_appended, file_name_stem, file_name_injective}
 use Rattle.mt_law_written.proofs.ApartLemmas.{EachLater, later_unmapped, later_weaker, Across, apart_flat, across_labels, Labelled}
 use Rattle.mt_law_written.proofs.PartitionLemmas.{begins_as_skip}
-use Rattle.mt_law_written.proofs.RuleLemmas.{names_are_different, none_pass, each_passes, place_of}
+use Rattle.mt_law_written.proofs.RuleLemmas.{names_are_different, place_of}
 
 -- ---- names
 
@@ -43,7 +44,7 @@ stem_is_stem name = stems_appended (codes "skp_idx_") (file_name name) refl (fil
 
 -- the index's stem, escaped, is that of a column of that name
 pub stem_of_column : (name : List ℕ) → file_name (skip_stem name) ≡ index_stem name
-stem_of_column name = flat_map-append escaped_byte (codes "skp_idx_") name
+stem_of_column name = flat_map-append file_name_byte (codes "skp_idx_") name
 
 stems_differ : (a b : List ℕ) → a ≢ b → index_stem a ≢ index_stem b
 stems_differ a b other same = other (file_name_injective a b (append_cancel_left (codes "skp_idx_") (file_name a) (file_name b) same))
@@ -109,7 +110,7 @@ no_such_column : (columns : List Column) (name : List ℕ) → not (is_among (na
 no_such_column columns name e =
     All-of_map (λ n. n ≢ skip_stem name) (λ column. column.name) columns
     (All-weaker (λ n. bytes_eq (skip_stem name) n ≡ false) (λ n. n ≢ skip_stem name) (λ n other same.
-    (let bad : true ≡ false = sym ((bytes_eq-Decides (skip_stem name) n).1 (sym same)) ∙ other in cc)) (names_of columns) (none_pass (bytes_eq (skip_stem name)) (names_of columns) (not_true (is_among (names_of columns) (skip_stem name)) e)))
+    (let bad : true ≡ false = sym ((bytes_eq-Decides (skip_stem name) n).1 (sym same)) ∙ other in cc)) (names_of columns) (none_passes (bytes_eq (skip_stem name)) (names_of columns) (not-true (is_among (names_of columns) (skip_stem name)) e)))
 
 pub index_rules : (table : Table) → keeps_skips table.columns table.skips ≡ true → IndexRules table
 index_rules table keeps =

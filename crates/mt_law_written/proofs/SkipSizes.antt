@@ -21,11 +21,11 @@ use Rattle.mt_defs.specs.WrittenFrames.{mark_at, written_frames}
 use Rattle.mt_defs.specs.WrittenGranules.{written_granules}
 use Rattle.mt_defs.specs.WrittenSkips.{skip_files, written_entries, written_entry, written_skip_mark}
 use Rattle.mt_defs.specs.declared.frame.TheConstants.{FRAME_PAYLOAD}
+use Rattle.mt_granules.proofs.DataFileLemmas.{length-offsets}
 use Rattle.mt_law_written.proofs.ListLemmas.{All-granules, All-groups}
 use Rattle.mt_law_written.specs.Sizes.{HasWidth, files_size}
 use Rattle.mt_law_written.proofs.FrameSizes.{frames_size}
 use Rattle.mt_law_written.proofs.GranuleSizes.{granules_few}
-use Rattle.mt_law_written.proofs.MarkSizes.{offsets_count}
 use Rattle.mt_law_written.proofs.MinmaxSizes.{minmax_size}
 use Rattle.mt_law_written.proofs.SkipLimits.{groups_few}
 use Rattle.mt_law_written.proofs.SumLemmas.{runs_size}
@@ -47,7 +47,7 @@ mark_size offset = omega (arith, length-append (mark_bytes (mark_at offset)) (u6
 marks_of_entries : (sizes : List ℕ) → length (flat_map (λ offset. skip_mark_bytes (written_skip_mark offset)) (offsets_from 0 sizes)) ≤ 24 * length sizes
 marks_of_entries sizes =
     let size = runs_size (λ offset. skip_mark_bytes (written_skip_mark offset)) 24 (offsets_from 0 sizes) (λ k d inside. mark_size (get_or (offsets_from 0 sizes) k d)) in
-    omega (arith, size, offsets_count 0 sizes)
+    omega (arith, size, length-offsets 0 sizes)
 
 -- ---- the entries of a minmax index
 

@@ -4,6 +4,7 @@ use Rattle.std.specs.Prelude.{All}
 use Rattle.std.specs.List.{list_all, list_any, range_with_len}
 use Rattle.std.proofs.lemmas.Bool.{and_parts}
 use Rattle.std.proofs.lemmas.List.Elements.{All-append, All-filter, All-weaker}
+use Rattle.mt_facts.proofs.Lists.{each_passes}
 use Rattle.mt_types.specs.Profile.{is_profile}
 use Rattle.mt_types.specs.Words.{is_name}
 use Rattle.mt_table.specs.declared.column.Column.{Column}
@@ -19,7 +20,7 @@ use Rattle.mt_defs.specs.Projections.{inner_of, stored_columns, state_column}
 use Rattle.mt_law_written.proofs.ListLemmas.{All-mapped}
 use Rattle.mt_law_written.proofs.ApartLemmas.{Differ, later_unmapped, later_mapped}
 use Rattle.mt_law_written.proofs.DataNames.{AreOwn}
-use Rattle.mt_law_written.proofs.RuleLemmas.{names_are_different, places_are_different, HasPlace, places_of, each_passes, selected_differ, range_differs, range_below, later_kept, later_appended}
+use Rattle.mt_law_written.proofs.RuleLemmas.{names_are_different, places_are_different, HasPlace, places_of, selected_differ, range_differs, range_below, later_kept, later_appended}
 use Rattle.mt_law_written.proofs.AggregateLemmas.{Apart, IsKnown, IsOver, aggregates_apart, all_states_apart, is_over, key_state_apart, once_of, state_type}
 
 -- ---- a table's own columns

@@ -8,6 +8,7 @@ use Rattle.mt_types.specs.Fits.{fits_of}
 use Rattle.mt_types.specs.Profile.{is_profile}
 use Rattle.mt_fault.specs.declared.file.FileBytes.{FileBytes}
 use Rattle.mt_table.specs.declared.column.Column.{Column}
+use Rattle.mt_table.proofs.PointwiseLemmas.{Pointwise-get_or}
 use Rattle.mt_defs.specs.Lists.{AreBytes}
 use Rattle.mt_defs.specs.Folder.{Folder}
 use Rattle.mt_defs.specs.Rows.{Row, RowFits, cell, column_values}
@@ -19,7 +20,6 @@ use Rattle.mt_defs.specs.WrittenStreams.{written_streams}
 use Rattle.mt_defs.specs.WrittenFrames.{written_frames, written_marks_bytes}
 use Rattle.mt_defs.specs.WrittenColumns.{file, granule_streams, stream_files, wide_column, wide_files}
 use Rattle.mt_codec.proofs.EncodedLemmas.{written_encodes}
-use Rattle.mt_law_written.proofs.ListLemmas.{Pointwise-get_or}
 use Rattle.mt_law_written.proofs.MarkLemmas.{framed_one_by_one, is_stream_marks}
 use Rattle.mt_law_written.specs.Layouts.{AreShort, IsShort}
 use Rattle.mt_law_written.proofs.ByteLemmas.{streams_are_bytes}

@@ -2,6 +2,7 @@
 use Rattle.std.proofs.Common.{◌≡◌, ℕ, ◌+◌, ◌-◌, ◌<◌, ◌^◌, min, Bool, true, false, List, [], ◌∷◌, ◌++◌, length, take, drop, get_or, refl, ap, sym, ◌∙◌, arith, append_assoc, length-append}
 use Rattle.std.specs.Prelude.{nat_le, ◌||◌, if◌then◌else◌}
 use Rattle.std.proofs.lemmas.List.{drop_more, take_more}
+use Rattle.mt_facts.proofs.Truth.{same_choice}
 use Rattle.mt_table.specs.declared.column.Column.{Column}
 use Rattle.mt_table.specs.declared.settings.Settings.{Settings}
 use Rattle.mt_defs.specs.Rows.{Row}
@@ -51,10 +52,6 @@ granules_next : (full : List Row → Bool) (begun rows : List Row) (next : ℕ) 
 granules_next full begun rows next row within is =
     ap (granules_from full begun) (drop_more rows next row within ∙ ap (λ r. r ∷ drop (next + 1) rows) (sym is))
 
--- a choice by a test that is known
-chosen : {A : Type 0} (b c : Bool) (x y : A) → b ≡ c → (if b then x else y) ≡ (if c then x else y)
-chosen b c x y e = ap (λ d. if d then x else y) e
-
 -- the row leaves the granule open
 pub goes_on : (settings : Settings) (columns : List Column) (rows : List Row) (next : ℕ) (granules : List ℕ) (count bytes more size : ℕ) (row : Row)
     → IsCut settings columns rows next granules count bytes → next < length rows → row ≡ get_or rows next row
@@ -71,7 +68,7 @@ goes_on settings columns rows next granules count bytes more size row cut within
       begun = cut.begun ++ row ∷ [];
       counted = counted;
       measured = measured;
-      ahead = ap (λ rest. granules ++ rest) (sym (granules_next (is_full settings columns) cut.begun rows next row within is ∙ chosen _ false _ _ opened)) ∙ cut.ahead;
+      ahead = ap (λ rest. granules ++ rest) (sym (granules_next (is_full settings columns) cut.begun rows next row within is ∙ same_choice _ false _ _ opened)) ∙ cut.ahead;
     }
 
 -- the row fills the granule
@@ -89,7 +86,7 @@ ends_here settings columns rows next granules count bytes more size row cut with
     nothing_begun settings columns rows (next + 1) (granules ++ (count + 1) ∷ [])
     (append_assoc granules ((count + 1) ∷ []) (granules_from (is_full settings columns) [] (drop (next + 1) rows))
     ∙ ap (λ n. granules ++ n ∷ granules_from (is_full settings columns) [] (drop (next + 1) rows)) counted
-    ∙ ap (λ rest. granules ++ rest) (sym (granules_next (is_full settings columns) cut.begun rows next row within is ∙ chosen _ true _ _ full)) ∙ cut.ahead)
+    ∙ ap (λ rest. granules ++ rest) (sym (granules_next (is_full settings columns) cut.begun rows next row within is ∙ same_choice _ true _ _ full)) ∙ cut.ahead)
 
 -- the bytes of all rows so far
 pub all_more : (columns : List Column) (rows : List Row) (next all more size : ℕ) (row : Row) → next < length rows → row ≡ get_or rows next row

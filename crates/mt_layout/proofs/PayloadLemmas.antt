@@ -7,7 +7,7 @@ use Rattle.mt_table.specs.declared.column.Column.{Column}
 use Rattle.mt_defs.specs.Rows.{Row, cell, column_values}
 use Rattle.mt_defs.specs.WrittenGranules.{column_size, payload_size}
 use Rattle.mt_layout.specs.Sizes.{value_size, row_size, saturated}
-use Rattle.mt_layout.proofs.StreamLemmas.{streams_size, additive}
+use Rattle.mt_layout.proofs.StreamLemmas.{streams_size, additive, doubled, regrouped}
 
 -- the payload bytes of columns from an index on
 abbrev pub columns_size : ℕ → List Column → List Row → ℕ
@@ -16,9 +16,6 @@ columns_size column_index columns rows = sum (map (column_size rows) (enumerate_
 column_size-append : (column_index : ℕ) (column : Column) (xs ys : List Row) → column_size (xs ++ ys) (column_index, column) ≡ column_size xs (column_index, column) + column_size ys (column_index, column)
 column_size-append column_index column xs ys =
     ap (streams_size column.ty) (map-append (λ row. cell row column_index) xs ys) ∙ additive column.ty (column_values column_index xs) (column_values column_index ys)
-
-regrouped : (whole one rest first second a b c d : ℕ) → whole ≡ one + rest → one ≡ a + b → rest ≡ c + d → first ≡ a + c → second ≡ b + d → whole ≡ first + second
-regrouped whole one rest first second a b c d w o r f s = omega arith
 
 -- the bytes of the first column, and those of the others
 pub columns_size-cons : (column_index : ℕ) (column : Column) (columns : List Column) (rows : List Row) → columns_size column_index (column ∷ columns) rows ≡ column_size rows (column_index, column) + columns_size (column_index + 1) columns rows
@@ -34,9 +31,6 @@ columns_size-append column_index (column ∷ columns) xs ys =
 pub payload_size-push : (columns : List Column) (rows : List Row) (row : Row) → payload_size columns (rows ++ row ∷ []) ≡ payload_size columns rows + row_size columns row
 unfolding row_size
 payload_size-push columns rows row = columns_size-append 0 columns rows (row ∷ [])
-
-doubled : (n : ℕ) → n ≡ n + n → n ≡ 0
-doubled n e = omega arith
 
 -- no rows have no bytes
 pub payload_size-none : (columns : List Column) → payload_size columns [] ≡ 0

@@ -2,6 +2,7 @@
 use Rattle.std.proofs.Common.{◌≡◌, ℕ, ◌+◌, ◌-◌, ◌<◌, ◌^◌, min, List, [], ◌∷◌, ◌++◌, length, map, replicate, refl, ap, sym, ◌∙◌, arith, append-nil}
 use Rattle.std.specs.Prelude.{if◌then◌else◌}
 use Rattle.std.specs.List.{sum, sum_by}
+use Rattle.mt_facts.proofs.Numbers.{sum_single}
 use Rattle.mt_types.specs.declared.ty.Ty.{Ty, out-Ty}
 use Rattle.mt_types.specs.declared.ty.Ty.TheOpen.{Ty-F}
 use Rattle.mt_types.specs.declared.ty.Ty.TheVariants.{Nullable, Array, FixedString, Str, outs-Nullable, outs-Array, outs-FixedString, outs-Str}
@@ -16,7 +17,7 @@ use Rattle.mt_defs.specs.WrittenStreams.{or_default, elements_at}
 use Rattle.mt_codec.proofs.WrittenLemmas.{IsSingleLevel, single_of}
 use Rattle.mt_layout.specs.Sizes.{saturated, value_size}
 use Rattle.mt_layout.proofs.ItemLemmas.{fixed_zeros, empty_text}
-use Rattle.mt_layout.proofs.StreamLemmas.{sum_one, streams_size, streams_size_is, size_single, size_Nullable, size_Array}
+use Rattle.mt_layout.proofs.StreamLemmas.{streams_size, streams_size_is, size_single, size_Nullable, size_Array}
 
 -- a value of a type with one substream has its item's bytes
 pub value_size_single : (t : Ty) (level : Ty-F Ty) → out-Ty t ≡ level → IsSingleLevel level → (value : Value) → value_size t value ≡ length (item_bytes t value)
@@ -46,7 +47,7 @@ array_size t u value is = ap (λ t. value_size t value) is ∙ value_size_Array 
 pub single_size : (t : Ty) (value : Value) → ((u : Ty) → t ≡ Nullable u → ⊥) → ((u : Ty) → t ≡ Array u → ⊥) → value_size t value ≡ length (item_bytes t value)
 unfolding value_size
 single_size t value not_nullable not_array =
-    ap (λ ss. sum (map length ss)) ((single_of t not_nullable not_array).written (value ∷ [])) ∙ sum_one (length (item_bytes t value ++ [])) ∙ ap length (append-nil (item_bytes t value))
+    ap (λ ss. sum (map length ss)) ((single_of t not_nullable not_array).written (value ∷ [])) ∙ sum_single (length (item_bytes t value ++ [])) ∙ ap length (append-nil (item_bytes t value))
 
 -- NULL, and no other value, is under the default
 pub or_default_null : (d value : Value) → value ≡ Null → or_default d value ≡ d

@@ -5,6 +5,7 @@ use Rattle.std.specs.List.{flat_map, sum, sum_by}
 use Rattle.std.proofs.lemmas.Grind.{flat_map-append}
 use Rattle.std.proofs.lemmas.List.{length-map, map-append}
 use Rattle.std.proofs.lemmas.List.Sums.{sum_by-cons, sum-map}
+use Rattle.mt_facts.proofs.Numbers.{sum_single}
 use Rattle.mt_types.specs.declared.ty.Ty.{Ty, map-Ty, out-Ty, roll-Ty}
 use Rattle.mt_types.specs.declared.ty.Ty.TheOpen.{Ty-F}
 use Rattle.mt_types.specs.declared.ty.Ty.TheVariants.{Nullable, Array, outs-Nullable, outs-Array}
@@ -23,13 +24,10 @@ use Rattle.mt_layout.specs.Sizes.{value_size}
 abbrev pub streams_size : Ty → List Value → ℕ
 streams_size t values = sum (map length (written_streams t values))
 
-pub sum_one : (n : ℕ) → sum (n ∷ []) ≡ n
-sum_one n = omega arith
-
 -- ---- by the outermost level of the type
 
 pub size_single : (t : Ty) (level : Ty-F Ty) → out-Ty t ≡ level → IsSingleLevel level → (values : List Value) → streams_size t values ≡ length (flat_map (item_bytes t) values)
-size_single t level is single values = ap (λ ss. sum (map length ss)) ((single_at t level is single).written values) ∙ sum_one (length (flat_map (item_bytes t) values))
+size_single t level is single values = ap (λ ss. sum (map length ss)) ((single_at t level is single).written values) ∙ sum_single (length (flat_map (item_bytes t) values))
 
 pub size_Nullable : (t : Ty) (values : List Value) → streams_size (Nullable t) values ≡ length values + streams_size t (map (or_default (default_of t)) values)
 size_Nullable t values =
@@ -67,7 +65,7 @@ additive_single t level is single xs ys =
     ∙ ap (λ n. n + length (flat_map (item_bytes t) ys)) (sym (size_single t level is single xs))
     ∙ ap (λ n. streams_size t xs + n) (sym (size_single t level is single ys))
 
-regrouped : (whole count inner first second a b c d : ℕ) → whole ≡ count + inner → count ≡ a + b → inner ≡ c + d → first ≡ a + c → second ≡ b + d → whole ≡ first + second
+pub regrouped : (whole count inner first second a b c d : ℕ) → whole ≡ count + inner → count ≡ a + b → inner ≡ c + d → first ≡ a + c → second ≡ b + d → whole ≡ first + second
 regrouped whole count inner first second a b c d w n i f s = omega arith
 
 additive_Nullable : (t : Ty) → IsAdditive t → IsAdditive (Nullable t)
@@ -112,7 +110,7 @@ additive = ind-Ty IsAdditive (λ x y is. subst (λ l. IsAdditive (roll-Ty l)) is
 
 -- ---- the sum
 
-doubled : (n : ℕ) → n ≡ n + n → n ≡ 0
+pub doubled : (n : ℕ) → n ≡ n + n → n ≡ 0
 doubled n e = omega arith
 
 pub streams_size_none : (t : Ty) → streams_size t [] ≡ 0

@@ -15,5 +15,5 @@ value_seen Null = value.Null
 value_seen (Held v) = v.now
 
 -- a row by its index; an index below the number of rows has one
-abbrev pub row_at : List Row → ℕ → Row
-row_at rows row_index = slice_index_or rows row_index []
+abbrev pub row_by_index : List Row → ℕ → Row
+row_by_index rows row_index = slice_index_or rows row_index []

@@ -2,7 +2,7 @@
 
 ghost use Rattle.std.specs.Prelude.{◌≡◌, ◌<◌, ℕ, Bool, List, length, IsTrue};
 ghost use Rattle.mt_defs.specs.Rows.{Row, cell};
-ghost use Rattle.mt_look.specs.Seen.{row_at, value_seen};
+ghost use Rattle.mt_look.specs.Seen.{row_by_index, value_seen};
 
 use crate::seen::Seen;
 
@@ -22,5 +22,5 @@ pub trait Look {
     fn item(&self, column: u32, row: u64) -> Seen<'_>
         requires shown { IsTrue (shows self.now column) }
         requires there { row < length (rows_of self.now) }
-        ensures { value_seen result ≡ cell (row_at (rows_of self.now) row) column };
+        ensures { value_seen result ≡ cell (row_by_index (rows_of self.now) row) column };
 }

@@ -14,11 +14,11 @@ use Rattle.mt_marks.specs.MarkReading.{mark_reading, last_reading, are_rows, is_
 
 -- ---- the marks of an entry
 
-last_none : (frames : Frames) (last : Bool) (former : Option Former) → last_reading frames last former [] ≡ Ok former
+pub last_none : (frames : Frames) (last : Bool) (former : Option Former) → last_reading frames last former [] ≡ Ok former
 unfolding last_reading
 last_none frames last former = refl
 
-last_next : (frames : Frames) (last : Bool) (former : Option Former) (m : Mark) (ms : List Mark) →
+pub last_next : (frames : Frames) (last : Bool) (former : Option Former) (m : Mark) (ms : List Mark) →
     last_reading frames last former (m ∷ ms) ≡ (mark_reading frames.end frames.list last former m >>= λ here. last_reading frames last (Some here) ms)
 unfolding last_reading
 last_next frames last former m ms = refl
@@ -40,7 +40,7 @@ marks_hold frames last former entry i over = ap (λ (ms : List Mark). last_readi
 
 -- ---- all entries
 
-rules_none : (frames : Frames) (granule total : ℕ) (former : Option Former) → rules_reading frames granule total former [] ≡ Ok tt
+pub rules_none : (frames : Frames) (granule total : ℕ) (former : Option Former) → rules_reading frames granule total former [] ≡ Ok tt
 unfolding rules_reading
 rules_none frames granule total former = refl
 

@@ -11,9 +11,10 @@ use Rattle.std.proofs.lemmas.List.Elements.{All-head, All-tail, All-take, All-dr
 use Rattle.mt_defs.specs.declared.mark.Mark.{Mark}
 use Rattle.mt_defs.specs.Marks.{mark_bytes, u64_bytes, entry_bytes, marks_bytes}
 use Rattle.mt_marks.specs.declared.marks.Marks.{Marks}
-use Rattle.mt_marks.specs.Entries.{Entry, AreMarks, HaveWords, mark_runs, entry_marks, entries_in}
+use Rattle.mt_marks.specs.Entries.{Entry, AreMarks, HaveWords, entry_marks, entries_in}
 use Rattle.mt_marks.specs.MarkReading.{u64_at, entry_len, marks_from, entries_from, entries_reading, marks_of}
 use Rattle.mt_marks.proofs.RawLemmas.{all_marks, all_rows, marks_none, marks_next, entries_none, entries_next}
+use Rattle.mt_marks.proofs.WritingLemmas.{rest_bytes}
 
 -- numbers of eight bytes
 record AreWords (marks : List Mark) : Type 0 where
@@ -55,23 +56,20 @@ cut_rest per places r rows is = record {
   counts = All-tail (λ count. count < 2 ^ 64) r rows is.counts;
 }
 
-abbrev written : ℕ → List Mark → List ℕ → List ℕ
-written per places rows = marks_bytes (mark_runs per (length rows) places) rows
-
 length-entry : (ms : List Mark) (r : ℕ) → length (entry_bytes ms r) ≡ entry_len (length ms)
 length-entry ms r = length-append (flat_map mark_bytes ms) (u64_bytes r) ∙ omega (arith, length-marks ms)
 
-length-written : (per : ℕ) (places : List Mark) (rows : List ℕ) → IsCut per places rows → length (written per places rows) ≡ length rows * entry_len per
+length-written : (per : ℕ) (places : List Mark) (rows : List ℕ) → IsCut per places rows → length (rest_bytes per places rows) ≡ length rows * entry_len per
 length-written per places [] is = omega arith
 length-written per places (r ∷ rows) is =
-    length-append (entry_bytes (take per places) r) (written per (drop per places) rows)
+    length-append (entry_bytes (take per places) r) (rest_bytes per (drop per places) rows)
     ∙ omega (arith, length-entry (take per places) r, cut_first per places r rows is, length-written per (drop per places) rows (cut_rest per places r rows is))
 
-entries_read : (per : ℕ) (places : List Mark) (rows : List ℕ) → IsCut per places rows → entries_from per (length rows) (written per places rows) ≡ entries_in per places rows
+entries_read : (per : ℕ) (places : List Mark) (rows : List ℕ) → IsCut per places rows → entries_from per (length rows) (rest_bytes per places rows) ≡ entries_in per places rows
 entries_read per places [] is = entries_none per []
 entries_read per places (r ∷ rows) is =
     let ms : List Mark = take per places in
-    let more : List ℕ = written per (drop per places) rows in
+    let more : List ℕ = rest_bytes per (drop per places) rows in
     let first = cut_first per places r rows is in
     let words : AreWords ms = record { offsets = All-take (λ (n : Mark). n.offset < 2 ^ 64) per places is.words.offsets; inners = All-take (λ (n : Mark). n.inner < 2 ^ 64) per places is.words.inners } in
     let whole : entry_bytes ms r ++ more ≡ flat_map mark_bytes ms ++ (u64_bytes r ++ more) = append_assoc (flat_map mark_bytes ms) (u64_bytes r) more in
@@ -89,7 +87,7 @@ entries_read per places (r ∷ rows) is =
     ∙ ap (λ (es : List Entry). let e : Entry = record { marks = ms; rows = r } in e ∷ es) (entries_read per (drop per places) rows (cut_rest per places r rows is))
 
 -- entries that are taken from lists and joined again
-joined_marks : (per : ℕ) (places : List Mark) (rows : List ℕ) → length places ≡ length rows * per → all_marks (entries_in per places rows) ≡ places
+pub joined_marks : (per : ℕ) (places : List Mark) (rows : List ℕ) → length places ≡ length rows * per → all_marks (entries_in per places rows) ≡ places
 joined_marks per places [] long = sym (none places (omega (arith, long)))
   where
     none : (ms : List Mark) → length ms ≡ 0 → ms ≡ []
@@ -106,7 +104,7 @@ pub written_read : (marks : Marks) → AreMarks marks → HaveWords marks → op
 written_read marks are have =
     let per = marks.per_granule in
     let is : IsCut per marks.places marks.rows = record { long = are.complete; words = record { offsets = have.offsets; inners = have.inners }; counts = have.rows } in
-    let bytes : List ℕ = written per marks.places marks.rows in
+    let bytes : List ℕ = rest_bytes per marks.places marks.rows in
     let long : length bytes ≡ length marks.rows * entry_len per = length-written per marks.places marks.rows is in
     let whole : length bytes % entry_len per ≡ 0 = ap (λ (n : ℕ). n % entry_len per) long ∙ mul-mod_left (length marks.rows) (entry_len per) in
     let count : length bytes / entry_len per ≡ length marks.rows = ap (λ (n : ℕ). n / entry_len per) long ∙ mul-div_cancel (length marks.rows) (omega arith) in

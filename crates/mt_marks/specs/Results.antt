@@ -6,14 +6,14 @@ use Rattle.mt_marks.specs.declared.fault.MarksError.{MarksError}
 use Rattle.mt_marks.specs.declared.fault.MarksError.TheVariants.{At, NoMemory}
 
 -- a fault is the reading's, out of memory aside
-abbrev pub FailsAs : MarksError → Result Marks (Option ℕ × Why) → Type 0
-FailsAs (At granule why) reading = reading ≡ Err (granule, why)
-FailsAs NoMemory reading = Unit {0}
+abbrev pub MarksFailAs : MarksError → Result Marks (Option ℕ × Why) → Type 0
+MarksFailAs (At granule why) reading = reading ≡ Err (granule, why)
+MarksFailAs NoMemory reading = Unit {0}
 
 -- the marks are those that the file is read as
 abbrev pub GivesMarks : Result Marks MarksError → Result Marks (Option ℕ × Why) → Type 0
 GivesMarks (Ok marks) reading = reading ≡ Ok marks
-GivesMarks (Err e) reading = FailsAs e reading
+GivesMarks (Err e) reading = MarksFailAs e reading
 
 -- the rules hold, or the fault is the first broken one; it takes no memory
 abbrev pub GivesRules : Result (Unit {0}) MarksError → Result (Unit {0}) (ℕ × Why) → Type 0

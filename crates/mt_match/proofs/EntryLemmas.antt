@@ -1,6 +1,6 @@
 -- The entry that bytes are, from the items that were read of them.
-use Rattle.std.proofs.Common.{◌≡◌, ◌≢◌, ◌⊎◌, inl, inr, ℕ, ◌<◌, ◌^◌, ◌↔◌, Bool, true, false, List, [], ◌∷◌, ◌++◌, length, get_or, refl, ap, sym, ◌∙◌, subst, arith}
-use Rattle.std.specs.Prelude.{AllPairs, IsTrue, Option, Some, None, Result, Ok, Err, nat_lt}
+use Rattle.std.proofs.Common.{◌≡◌, ◌≢◌, inl, inr, ℕ, ◌<◌, ◌^◌, ◌↔◌, Bool, true, false, List, [], ◌∷◌, ◌++◌, length, get_or, refl, ap, sym, ◌∙◌, subst, arith}
+use Rattle.std.specs.Prelude.{AllPairs, IsTrue, Option, Some, None, nat_lt}
 use Rattle.std.specs.Borrow.{Bor}
 use Rattle.std.specs.Int.{w64}
 use Rattle.std.specs.Option.{option_map}
@@ -12,6 +12,7 @@ use Rattle.std.proofs.lemmas.Bool.{cases_Bool, ltb-true, lt-ltb}
 use Rattle.std.proofs.lemmas.List.{append-nil}
 use Rattle.std.proofs.lemmas.List.Concat.{flat_map-cons}
 use Rattle.std.proofs.lemmas.List.Sums.{AllPass-from_list_all, list_all-from_AllPass}
+use Rattle.mt_facts.proofs.Orderings.{le_from_not_gt}
 use Rattle.mt_types.specs.declared.ty.Ty.{Ty}
 use Rattle.mt_types.specs.declared.value.Value.{Value}
 use Rattle.mt_types.specs.Fits.{fits_of}
@@ -24,12 +25,12 @@ use Rattle.mt_query.specs.declared.cond.Cond.{Cond}
 use Rattle.mt_types.specs.declared.ty.Width.TheVariants.{W64}
 use Rattle.mt_types.proofs.OptionLemmas.{some_is}
 use Rattle.mt_types.proofs.StepLemmas.{ok_pair}
-use Rattle.mt_item.specs.declared.fault.CodecWhy.{CodecWhy}
 use Rattle.mt_item.specs.declared.fault.CodecWhy.TheVariants.{Short}
 use Rattle.mt_item.specs.ItemReading.{whole_front}
 use Rattle.mt_item.specs.Results.{GivesFirst, IsFirst}
 use Rattle.mt_item.proofs.LengthLemmas.{Small}
 use Rattle.mt_item.proofs.NumberLemmas.{whole_exact}
+use Rattle.mt_item.proofs.ExactLemmas.{ok_other, some_pair}
 use Rattle.mt_skip.specs.Items.{AllFit, AreItems, ReadsItems}
 use Rattle.mt_match.specs.Matching.{JudgesEntry, may_among, may_between}
 
@@ -40,12 +41,6 @@ pub each_fits : (ty : Ty) (values : List Value) → AllFit ty values → list_al
 each_fits ty values all = list_all-from_AllPass (fits_of ty) values all
 
 -- ---- a count
-
-some_pair : {A : Type 0} (a b : A) (x y : List ℕ) → a ≡ b → x ≡ y → (let o : Option (A × List ℕ) = Some (a, x) in o) ≡ Some (b, y)
-some_pair a b x y e f = rw (e, f) refl
-
-no_read : {A Z : Type 0} (x : A) (why : CodecWhy) → (let r : Result A CodecWhy = Ok x in r) ≡ Err why → Z
-no_read x why e = cc
 
 -- a count that was read is the one that the bytes begin with
 pub count_first : (bytes : List ℕ) → Small bytes → (read : Option (ℕ × Bor (List ℕ))) → GivesFirst read (whole_front w64 bytes)
@@ -58,7 +53,7 @@ count_first bytes small (Some (n, rest)) reads = record {
 }
 count_first bytes small None reads = record {
   found = tt;
-  only = λ v more fits e. no_read (v, more) Short (sym (ap (whole_front w64) e ∙ (whole_exact W64).complete v more fits) ∙ reads);
+  only = λ v more fits e. ok_other (v, more) Short (sym (ap (whole_front w64) e ∙ (whole_exact W64).complete v more fits) ∙ reads);
 }
 
 -- ---- two values
@@ -67,11 +62,6 @@ not_both : (o : Ordering) → is_le o ≡ true → is_gt o ≡ true → ⊥
 not_both Less low high = cc
 not_both Equal low high = cc
 not_both Greater low high = cc
-
-below : (o : Ordering) → is_gt o ≡ false → is_le o ≡ true
-below Less e = refl
-below Equal e = refl
-below Greater e = absurd cc
 
 two_bytes : (ty : Ty) (low high : Value) → flat_map (item_bytes ty) (low ∷ high ∷ []) ≡ item_bytes ty low ++ item_bytes ty high
 two_bytes ty low high =
@@ -115,7 +105,7 @@ module _ (cond : Cond) (column : ℕ) (ty : Ty) (bytes : List ℕ) where
               high = high;
               low_fits = items.fit 0 low (omega arith);
               high_fits = items.fit 1 high (omega arith);
-              ordered = below (value_cmp low high) under;
+              ordered = le_from_not_gt (value_cmp low high) under;
               encoded = items.encoded ∙ two_bytes ty low high;
             },
             refl,

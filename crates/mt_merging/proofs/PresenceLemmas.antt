@@ -1,7 +1,7 @@
 -- The inputs are tried one after another.
 use Rattle.std.proofs.Common.{◌≡◌, ℕ, List, [], ◌∷◌, map, Option, Some, None, IfSome, Ok, Err, false, refl, sym, ap, ◌∙◌, string_bytes, Global, String}
 use Rattle.mt_shelf.specs.Files.{Files, entries_below, listing_of}
-use Rattle.mt_command.specs.Status.{is_outside}
+use Rattle.mt_command.specs.Status.{is_outside_fault}
 use Rattle.mt_command.specs.declared.status.Status.{Status}
 use Rattle.mt_merging.specs.Inputs.{are_there, some_files}
 
@@ -28,8 +28,8 @@ decide_next (Some f) rest parts more part e there before =
 
 -- a part isn't there, or the shelf failed
 pub decide_refused : (files : Option Files) (rest parts more : List (String Global)) (part : String Global) (status : Status) → rest ≡ part ∷ more
-    → IfSome files (λ f. is_outside status ≡ false → some_files (string_bytes part) (listing_of (entries_below (string_bytes part) f)) ≡ Err status) → Decide files rest parts
-    → IfSome files (λ f. is_outside status ≡ false → are_there (map string_bytes parts) f ≡ Err status)
+    → IfSome files (λ f. is_outside_fault status ≡ false → some_files (string_bytes part) (listing_of (entries_below (string_bytes part) f)) ≡ Err status) → Decide files rest parts
+    → IfSome files (λ f. is_outside_fault status ≡ false → are_there (map string_bytes parts) f ≡ Err status)
 decide_refused None rest parts more part status e refused before = tt
 decide_refused (Some f) rest parts more part status e refused before = λ inside.
     sym before ∙ ap (λ (r : List (String Global)). are_there (map string_bytes r) f) e ∙ stop (string_bytes part) (map string_bytes more) f status (refused inside)

@@ -12,7 +12,7 @@ use Rattle.mt_table.specs.declared.limits.TheConstants.{MAX_ROWS, MAX_CELLS}
 use Rattle.mt_table.specs.Rows.{RowFits, cell_count, element_count}
 use Rattle.mt_tsv.specs.Cells.{cells_of, room_after}
 use Rattle.mt_defs.specs.Rows.{Row}
-use Rattle.mt_command.proofs.RowLemmas.{row_length}
+use Rattle.mt_defs.proofs.RowLemmas.{row_length}
 use Rattle.mt_command.specs.declared.status.What.TheVariants as what
 use Rattle.mt_command.specs.declared.status.Status.{Status}
 use Rattle.mt_command.specs.declared.status.Status.TheVariants.{TooMuch}

@@ -1,18 +1,19 @@
 -- The rows of several inputs.
-use Rattle.std.proofs.Common.{◌≡◌, ◌≢◌, ◌+◌, ◌≤◌, Bool, true, false, List, [], ◌∷◌, ◌++◌, length, get_or, All, Ok, Err, refl, sym, ap, ◌∙◌, arith}
+use Rattle.std.proofs.Common.{◌≡◌, ◌≢◌, ◌+◌, ◌≤◌, Bool, true, false, List, [], ◌∷◌, ◌++◌, length, All, Ok, Err, refl, sym, ap, ◌∙◌, arith}
 use Rattle.std.specs.Prelude.{◌↔◌, Some, None, slice_get}
 use Rattle.std.specs.List.Sorted.{IsSorted}
 use Rattle.std.specs.Str.{bytes_eq}
 use Rattle.std.proofs.lemmas.List.{append-nil}
 use Rattle.std.proofs.lemmas.List.Concat.{flat_map-append}
-use Rattle.std.proofs.lemmas.List.Elements.{All-nil, All-head, All-tail, All-append, All-contains, Contains-get_or}
+use Rattle.std.proofs.lemmas.List.Elements.{All-nil, All-head, All-tail, All-append}
 use Rattle.std.proofs.lemmas.Slice.Eq.{bytes_eq-Decides}
 use Rattle.mt_table.specs.declared.definition.Table.{Table}
 use Rattle.mt_table.specs.declared.limits.TheConstants.{MAX_CELLS}
 use Rattle.mt_defs.specs.Partition.{HaveOnePartition, partition_bytes}
 use Rattle.mt_defs.specs.Rows.{Row, RowFits, cell_count, key_cmp}
-use Rattle.mt_defs.specs.Sorting.{merged_rows, sorted_rows}
+use Rattle.mt_defs.specs.Sorting.{merged_rows}
 use Rattle.mt_defs.proofs.Sorted.{All-sorted_rows, IsSorted-sorted_rows, cell_count-sorted_rows, some_sorted_rows}
+use Rattle.mt_defs.proofs.PartitionLemmas.{as_first, one_for_all, sorted_one}
 use Rattle.mt_command.specs.declared.status.Status.TheVariants.{MixedPartitions}
 use Rattle.mt_merging.specs.Inputs.{AreInputs, all_rows, are_together, one_partition}
 
@@ -32,16 +33,6 @@ some_all_rows ([] ∷ read) some there none = All-head (λ (rows : List Row). ro
 some_all_rows ((row ∷ rows) ∷ read) some there none = cc
 
 -- ---- partitions
-
--- rows that all have a row's partition value
-pub one_for_all : (table : Table) (first : Row) (rows : List Row) → All (λ row. partition_bytes table first ≡ partition_bytes table row) rows → HaveOnePartition table rows
-one_for_all table first rows all a b in_rows also =
-    let P : Row → Type 0 = λ row. partition_bytes table first ≡ partition_bytes table row in
-    sym (All-contains P rows a all in_rows) ∙ All-contains P rows b all also
-
--- each of rows of one partition has the first row's value
-as_first : (table : Table) (first : Row) (rows : List Row) → HaveOnePartition table (first ∷ rows) → All (λ row. partition_bytes table first ≡ partition_bytes table row) (first ∷ rows)
-as_first table first rows one = λ k d h. one first (get_or (first ∷ rows) k d) (Contains-get_or (first ∷ rows) 0 first (omega arith)) (Contains-get_or (first ∷ rows) k d h)
 
 joined_rows : (table : Table) (a b : Row) (xs ys : List Row) → HaveOnePartition table (a ∷ xs) → HaveOnePartition table (b ∷ ys) → partition_bytes table a ≡ partition_bytes table b → HaveOnePartition table ((a ∷ xs) ++ b ∷ ys)
 joined_rows table a b xs ys one other same =
@@ -101,12 +92,6 @@ merged_cells table read are =
     let same = cell_count-sorted_rows table.columns table.sort (all_rows read) in
     let few = are.few_cells in
     omega (arith, same, few)
-
-sorted_one : (table : Table) (rows : List Row) → HaveOnePartition table rows → HaveOnePartition table (sorted_rows table.sort rows)
-sorted_one table [] one = one
-sorted_one table (first ∷ rows) one =
-    let P : Row → Type 0 = λ row. partition_bytes table first ≡ partition_bytes table row in
-    one_for_all table first (sorted_rows table.sort (first ∷ rows)) (All-sorted_rows P table.sort (first ∷ rows) (as_first table first rows one))
 
 pub merged_one : (table : Table) (read : List (List Row)) → AreInputs table read → HaveOnePartition table (merged_rows table.sort read)
 merged_one table read are = sorted_one table (all_rows read) are.one_partition

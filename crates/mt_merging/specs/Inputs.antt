@@ -69,7 +69,7 @@ pub record AreInputs (table : Table) (read : List (List Row)) : Type 0 where
 -- ---- the folder
 
 -- the writer's folder of rows, which are within the limits on projections and on a part
-abbrev pub folder_of : Table → List Row → Result (List FileBytes) Status
-folder_of table rows = do
+abbrev pub folder_of_rows : Table → List Row → Result (List FileBytes) Status
+folder_of_rows table rows = do
   _ ← few_cells table rows
   within_limit (written_folder table rows)

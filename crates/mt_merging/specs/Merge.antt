@@ -8,7 +8,7 @@ use Rattle.mt_defs.specs.Sorting.{merged_rows}
 use Rattle.mt_command.specs.Outcomes.{Outcomes, ◌>>=◌, gives}
 use Rattle.mt_command.specs.Parts.{part_steps}
 use Rattle.mt_command.specs.Tables.{table_in}
-use Rattle.mt_merging.specs.Inputs.{are_ready, folder_of, with_input}
+use Rattle.mt_merging.specs.Inputs.{are_ready, folder_of_rows, with_input}
 
 -- an input after those that were read: it is within the limit, has no fault, and joins them
 abbrev pub input_steps : Table → Files → List (List Row) → List ℕ → Outcomes (List (List Row))
@@ -28,7 +28,7 @@ abbrev pub merge_table_steps : Table → List ℕ → List (List ℕ) → Files 
 merge_table_steps table target inputs files = do
   _ ← gives (are_ready target inputs files)
   read ← inputs_steps table files [] inputs
-  gives (folder_of table (merged_rows table.sort read))
+  gives (folder_of_rows table (merged_rows table.sort read))
 
 -- merge TABLE WORKERS OUT IN.. publishes that folder
 abbrev pub merge_steps : List ℕ → List ℕ → List (List ℕ) → Files → Outcomes (List FileBytes)

@@ -3,9 +3,9 @@
 ghost use Rattle.std.specs.Prelude.{◌≢◌, [], ◌<◌, ◌≤◌, All, IfOk};
 ghost use Rattle.mt_shelf.specs.Held.{HasName};
 ghost use Rattle.mt_defs.specs.Sorting.{merged_rows};
-ghost use Rattle.mt_command.specs.Status.{Gives};
+ghost use Rattle.mt_command.specs.Status.{GivesOutcome};
 ghost use Rattle.mt_command.specs.Steps.{StepCausedBy, of_nothing};
-ghost use Rattle.mt_merging.specs.Inputs.{AreInputs, folder_of};
+ghost use Rattle.mt_merging.specs.Inputs.{AreInputs, folder_of_rows};
 
 use mt_command::{Status, few_cells, sorted_folder};
 use mt_fault::FileBytes;
@@ -29,7 +29,7 @@ pub(crate) fn folder_of<R: Threads + Sync, G: Gate + Sync>(
     requires some { read ≢ [] }
     requires few { 0 < workers }
     requires many { workers ≤ 64 }
-    ensures gives { Gives result (folder_of table.now (merged_rows table.now.sort read)) }
+    ensures gives { GivesOutcome result (folder_of_rows table.now (merged_rows table.now.sort read)) }
     ensures names { IfOk result (λ folder. All HasName folder) }
     ensures cause { StepCausedBy result of_nothing of_nothing }
 {

@@ -3,7 +3,7 @@
 ghost use Rattle.std.specs.Prelude.{◌≡◌, ◌≢◌, [], ◌∷◌, ◌++◌, All, IfErr, IfOk, OnOk, false};
 ghost use Rattle.mt_defs.specs.Partition.{HaveOnePartition};
 ghost use Rattle.mt_defs.specs.Rows.{RowFits};
-ghost use Rattle.mt_command.specs.Status.{Gives, is_outside};
+ghost use Rattle.mt_command.specs.Status.{GivesOutcome, is_outside_fault};
 ghost use Rattle.mt_command.specs.Steps.{StepCausedBy, of_nothing};
 ghost use Rattle.mt_merging.specs.Inputs.{AreInputs, all_rows, are_together, one_partition, with_input};
 ghost use Rattle.mt_merging.specs.Rooms.{LeaveRoom};
@@ -19,7 +19,7 @@ use mt_types::{List, Row};
 fn one_partition(table: &Table, read: &[List<Row>], rows: &[Row]) -> Result<(), Status>
     requires read { All (λ input. All (RowFits table.now.columns) input) read.now }
     requires fit { All (RowFits table.now.columns) rows.now }
-    ensures gives { Gives result (one_partition table.now read.now rows.now) }
+    ensures gives { GivesOutcome result (one_partition table.now read.now rows.now) }
     ensures cause { StepCausedBy result of_nothing of_nothing }
 {
     let Some(first) = read.first() else {
@@ -59,7 +59,7 @@ pub(crate) fn add_input(
     requires fit { All (RowFits table.now.columns) rows }
     requires one_partition { HaveOnePartition table.now rows }
     ensures ok { OnOk result (with_input table.now read.old rows ≡ Ok read.new) }
-    ensures err { IfErr result (λ status. is_outside status ≡ false → with_input table.now read.old rows ≡ Err status) }
+    ensures err { IfErr result (λ status. is_outside_fault status ≡ false → with_input table.now read.old rows ≡ Err status) }
     ensures inputs { OnOk result (AreInputs table.now read.new) }
     ensures room { IfOk result (LeaveRoom table.now (all_rows read.new)) }
     ensures cause { StepCausedBy result of_nothing of_nothing }

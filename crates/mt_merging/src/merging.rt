@@ -6,7 +6,7 @@ ghost use Rattle.mt_shelf.specs.Held.{HasName};
 ghost use Rattle.mt_shelf.specs.Paths.{is_path};
 ghost use Rattle.mt_shelf.specs.State.{files_of};
 ghost use Rattle.mt_command.specs.Commands.{PublishesFolderOf};
-ghost use Rattle.mt_command.specs.Outcomes.{Returns};
+ghost use Rattle.mt_command.specs.Outcomes.{ReturnsOutcome};
 ghost use Rattle.mt_command.specs.Plans.{world};
 ghost use Rattle.mt_command.specs.Steps.{StepCausedBy, of_shelf};
 ghost use Rattle.mt_merging.specs.Merge.{merge_steps, merge_table_steps};
@@ -40,7 +40,7 @@ pub fn merge_parts<R: Threads + Sync, F: Shelf, G: Gate + Sync>(
     requires few { 0 < workers }
     requires many { workers ≤ 64 }
     ensures gives { IfSome (files_of (F.state shelf.old))
-        (λ files. Returns result (merge_table_steps table.now target.now (map string_bytes inputs.now) files)) }
+        (λ files. ReturnsOutcome result (merge_table_steps table.now target.now (map string_bytes inputs.now) files)) }
     ensures names { IfOk result (λ folder. All HasName folder) }
     ensures files { files_of (F.state shelf.new) ≡ files_of (F.state shelf.old) }
     ensures cause { StepCausedBy result (of_shelf (F.faults shelf.old)) (of_shelf (F.faults shelf.new)) }
@@ -74,7 +74,7 @@ fn merged_folder<R: Threads + Sync, F: Shelf, G: Gate + Sync>(
     requires few { 0 < workers }
     requires many { workers ≤ 64 }
     ensures gives { IfSome (files_of (F.state shelf.old))
-        (λ files. Returns result (merge_steps path.now target.now (map string_bytes inputs.now) files)) }
+        (λ files. ReturnsOutcome result (merge_steps path.now target.now (map string_bytes inputs.now) files)) }
     ensures names { IfOk result (λ folder. All HasName folder) }
     ensures files { files_of (F.state shelf.new) ≡ files_of (F.state shelf.old) }
     ensures cause { StepCausedBy result (of_shelf (F.faults shelf.old)) (of_shelf (F.faults shelf.new)) }

@@ -5,7 +5,7 @@ ghost use Rattle.std.specs.String.{string_bytes};
 ghost use Rattle.mt_shelf.specs.Files.{entries_below, listing_of};
 ghost use Rattle.mt_shelf.specs.Paths.{is_path};
 ghost use Rattle.mt_shelf.specs.State.{files_of};
-ghost use Rattle.mt_command.specs.Status.{Gives};
+ghost use Rattle.mt_command.specs.Status.{GivesOutcome};
 ghost use Rattle.mt_command.specs.Steps.{StepCausedBy, of_shelf};
 ghost use Rattle.mt_merging.specs.Inputs.{are_ready, are_there, some_files};
 
@@ -17,7 +17,7 @@ use std::alloc::Global;
 fn is_there<F: Shelf>(alloc: Global, shelf: &mut F, part: &str) -> Result<(), Status>
     requires { IsTrue (is_path part.now) }
     ensures gives { IfSome (files_of (F.state shelf.old))
-        (λ files. Gives result (some_files part.now (listing_of (entries_below part.now files)))) }
+        (λ files. GivesOutcome result (some_files part.now (listing_of (entries_below part.now files)))) }
     ensures state { F.state shelf.new ≡ F.state shelf.old }
     ensures cause { StepCausedBy result (of_shelf (F.faults shelf.old)) (of_shelf (F.faults shelf.new)) }
 {
@@ -32,7 +32,7 @@ fn is_there<F: Shelf>(alloc: Global, shelf: &mut F, part: &str) -> Result<(), St
 fn are_there<F: Shelf>(alloc: Global, shelf: &mut F, parts: &[String]) -> Result<(), Status>
     requires { All (λ part. IsTrue (is_path (string_bytes part))) parts.now }
     ensures gives { IfSome (files_of (F.state shelf.old))
-        (λ files. Gives result (are_there (map string_bytes parts.now) files)) }
+        (λ files. GivesOutcome result (are_there (map string_bytes parts.now) files)) }
     ensures state { F.state shelf.new ≡ F.state shelf.old }
     ensures cause { StepCausedBy result (of_shelf (F.faults shelf.old)) (of_shelf (F.faults shelf.new)) }
 {
@@ -55,7 +55,7 @@ pub(crate) fn are_ready<F: Shelf>(
     requires target { IsTrue (is_path target.now) }
     requires inputs { All (λ part. IsTrue (is_path (string_bytes part))) inputs.now }
     ensures gives { IfSome (files_of (F.state shelf.old))
-        (λ files. Gives result (are_ready target.now (map string_bytes inputs.now) files)) }
+        (λ files. GivesOutcome result (are_ready target.now (map string_bytes inputs.now) files)) }
     ensures files { files_of (F.state shelf.new) ≡ files_of (F.state shelf.old) }
     ensures cause { StepCausedBy result (of_shelf (F.faults shelf.old)) (of_shelf (F.faults shelf.new)) }
 {

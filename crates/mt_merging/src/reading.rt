@@ -4,8 +4,8 @@ ghost use Rattle.std.specs.Prelude.{◌≡◌, ◌≢◌, [], All, IfErr, IfOk, 
 ghost use Rattle.std.specs.String.{string_bytes};
 ghost use Rattle.mt_shelf.specs.Paths.{is_path};
 ghost use Rattle.mt_shelf.specs.State.{files_of};
-ghost use Rattle.mt_command.specs.Outcomes.{Returns};
-ghost use Rattle.mt_command.specs.Status.{is_outside};
+ghost use Rattle.mt_command.specs.Outcomes.{ReturnsOutcome};
+ghost use Rattle.mt_command.specs.Status.{is_outside_fault};
 ghost use Rattle.mt_command.specs.Steps.{StepCausedBy, of_shelf};
 ghost use Rattle.mt_merging.specs.Inputs.{AreInputs, all_rows};
 ghost use Rattle.mt_merging.specs.Merge.{input_steps, inputs_steps};
@@ -35,7 +35,7 @@ fn read_input<F: Shelf>(
     ensures ok { IfSome (files_of (F.state shelf.old))
         (λ files. OnOk result (input_steps table.now files read.old part.now (Ok read.new))) }
     ensures err { IfSome (files_of (F.state shelf.old))
-        (λ files. IfErr result (λ status. is_outside status ≡ false → input_steps table.now files read.old part.now (Err status))) }
+        (λ files. IfErr result (λ status. is_outside_fault status ≡ false → input_steps table.now files read.old part.now (Err status))) }
     ensures inputs { OnOk result (AreInputs table.now read.new) }
     ensures room { IfOk result (LeaveRoom table.now (all_rows read.new)) }
     ensures some { OnOk result (read.new ≢ []) }
@@ -62,7 +62,7 @@ pub(crate) fn read_inputs<F: Shelf>(
     requires parts { All (λ part. IsTrue (is_path (string_bytes part))) parts.now }
     requires some { parts.now ≢ [] }
     ensures gives { IfSome (files_of (F.state shelf.old))
-        (λ files. Returns result (inputs_steps table.now files [] (map string_bytes parts.now))) }
+        (λ files. ReturnsOutcome result (inputs_steps table.now files [] (map string_bytes parts.now))) }
     ensures inputs { IfOk result (AreInputs table.now) }
     ensures some { IfOk result (λ read. read ≢ []) }
     ensures files { files_of (F.state shelf.new) ≡ files_of (F.state shelf.old) }

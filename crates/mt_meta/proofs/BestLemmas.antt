@@ -7,6 +7,7 @@ use Rattle.std.specs.Ordering.{is_lt, is_le, ordering_reverse}
 use Rattle.std.specs.Cmp.{tied_itself}
 use Rattle.std.proofs.lemmas.List.{take_more, map-append}
 use Rattle.std.proofs.lemmas.List.Elements.{All-nil, All-cons, All-weaker, All-contains, All-tail}
+use Rattle.mt_facts.proofs.Orderings.{less_from}
 use Rattle.mt_types.specs.declared.value.Value.{Value}
 use Rattle.mt_types.specs.Order.{value_cmp}
 use Rattle.mt_types.specs.Ordered.{value_total}
@@ -24,13 +25,8 @@ pub record IsStrict (better : Value → Value → Bool) : Type 0 where
   pub skip : (a b c : Value) → better a b ≡ false → better b c ≡ false → better a c ≡ false
   pub itself : (a : Value) → better a a ≡ false
 
-less_is : (o : Ordering) → is_lt o ≡ true → o ≡ Less
-less_is Less e = refl
-less_is Equal e = cc
-less_is Greater e = cc
-
 less_trans : (a b c : Value) → is_less a b ≡ true → is_less b c ≡ true → is_less a c ≡ true
-less_trans a b c e f = ap is_lt (value_total.trans a b c (less_is (value_cmp a b) e) (less_is (value_cmp b c) f))
+less_trans a b c e f = ap is_lt (value_total.trans a b c (less_from (value_cmp a b) e) (less_from (value_cmp b c) f))
 
 skip_by : (a b c : Value) (o p : Ordering) → value_cmp a b ≡ o → value_cmp b c ≡ p → is_lt o ≡ false → is_lt p ≡ false → is_less a c ≡ false
 skip_by a b c Less p ea eb na nb = cc

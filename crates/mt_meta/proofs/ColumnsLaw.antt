@@ -13,7 +13,7 @@ use Rattle.mt_table.specs.declared.column.Column.{Column}
 use Rattle.mt_defs.specs.Metadata.{column_at, column_line, columns_text, may_list, no_column}
 use Rattle.mt_types.specs.Steps.{◌>>=◌, ok_or}
 use Rattle.mt_meta.specs.declared.ascii.TheConstants.{LINE_END}
-use Rattle.mt_meta.specs.ColumnsReading.{is_column_line, column_lines, version_line, count_line, if_headed, listing_of, listing, is_line, order_of, if_listed, columns_reading, Lists}
+use Rattle.mt_meta.specs.ColumnsReading.{is_column_line, column_lines, version_line, count_line, if_headed, listed_lines, listing, is_line, order_of, if_listed, columns_reading, Lists}
 use Rattle.mt_meta.proofs.SplitLemmas.{at_byte}
 use Rattle.mt_meta.proofs.ListingLemmas.{lines_cut}
 use Rattle.mt_types.proofs.StepLemmas.{both_true as both}
@@ -31,7 +31,7 @@ step_is true line None lines e = cc
 step_is true line (Some later) lines e = (later, refl, cc)
 step_is false line rest lines e = cc
 
-not_some : {A : Type 0} (x : A) → (let o : Option A = None in o) ≡ Some x → ⊥
+pub not_some : {A : Type 0} (x : A) → (let o : Option A = None in o) ≡ Some x → ⊥
 not_some x e = cc
 
 last_is : (rest : List ℕ) (lines : List (List ℕ)) → column_lines (rest ∷ []) ≡ Some lines → rest ≡ flat_map ended lines
@@ -64,7 +64,7 @@ found_is version count (Some found) lines e = headed (bytes_eq version version_l
         let parts = both (bytes_eq version version_line) (bytes_eq count (count_line (length found))) is in
         (e, (bytes_eq-Decides version version_line).0 parts.0, (bytes_eq-Decides count (count_line (length found))).0 parts.1 ∙ ap (λ (l : List (List ℕ)). count_line (length l)) same)
 
-joined_is : (parts lines : List (List ℕ)) → listing_of parts ≡ Some lines → join_with_byte LINE_END parts ≡ text_of lines
+joined_is : (parts lines : List (List ℕ)) → listed_lines parts ≡ Some lines → join_with_byte LINE_END parts ≡ text_of lines
 unfolding column_lines
 joined_is [] lines e = cc
 joined_is (version ∷ []) lines e = cc

@@ -4,7 +4,8 @@ use Rattle.std.specs.Prelude.{All, IsTrue, nat_le, ◌&&◌}
 use Rattle.std.specs.List.{list_all}
 use Rattle.std.proofs.lemmas.Bool.{leb-true}
 use Rattle.std.proofs.lemmas.List.{length-append}
-use Rattle.std.proofs.lemmas.List.Elements.{All-nil, All-cons, All-weaker}
+use Rattle.std.proofs.lemmas.List.Elements.{All-weaker}
+use Rattle.mt_facts.proofs.Lists.{each_passes}
 use Rattle.mt_types.specs.declared.ty.Ty.{Ty, out-Ty}
 use Rattle.mt_types.specs.declared.ty.Ty.TheOpen.{Ty-F}
 use Rattle.mt_types.specs.Profile.{is_profile}
@@ -25,13 +26,6 @@ use Rattle.mt_meta.specs.Keys.{AreKeys}
 
 -- ---- columns
 
--- a list all of whose elements pass a test
-pub all_pass : {X : Type 0} (test : X → Bool) (xs : List X) → list_all test xs ≡ true → All (λ x. test x ≡ true) xs
-all_pass test [] e = All-nil (λ x. test x ≡ true)
-all_pass test (x ∷ xs) e =
-    let both = both_true (test x) (list_all test xs) e in
-    All-cons (λ x. test x ≡ true) x xs both.0 (all_pass test xs both.1)
-
 column_profile : (column : Column) → is_column column ≡ true → IsTrue (is_profile column.ty)
 column_profile column e = (both_true (is_profile column.ty) _ (both_true _ (is_column_type column.ty) e).1).0
 
@@ -43,7 +37,7 @@ columns_are columns keeps =
     record {
       some = leb-true 1 (length columns) counts.0;
       few = leb-true (length columns) MAX_COLUMNS counts.1;
-      profile = All-weaker (λ column. is_column column ≡ true) (λ column. IsTrue (is_profile column.ty)) column_profile columns (all_pass is_column columns each.0);
+      profile = All-weaker (λ column. is_column column ≡ true) (λ column. IsTrue (is_profile column.ty)) column_profile columns (each_passes is_column columns each.0);
     }
 
 -- ---- keys
@@ -78,7 +72,7 @@ pub key_columns : (columns : List Column) (places : List ℕ) → keeps_key colu
 key_columns columns places keeps =
     let parts = both_true (nat_le 1 (length places) && nat_le (length places) MAX_KEY) _ keeps in
     let types = both_true _ (list_all (place_has is_key_type columns) places) parts.1 in
-    All-weaker (λ place. place_has is_key_type columns place ≡ true) (HasColumn is_key_type columns) (has_column is_key_type columns) places (all_pass (place_has is_key_type columns) places types.1)
+    All-weaker (λ place. place_has is_key_type columns place ≡ true) (HasColumn is_key_type columns) (has_column is_key_type columns) places (each_passes (place_has is_key_type columns) places types.1)
 
 pub keys_are : (columns : List Column) (places : List ℕ) → keeps_key columns places ≡ true → AreKeys columns places
 keys_are columns places keeps =

@@ -7,6 +7,7 @@ use Rattle.std.proofs.lemmas.List.{length-map, length-append, get_or-map, get_or
 use Rattle.std.proofs.lemmas.List.FromFn.{length-range_with_len, get_or-range_with_len}
 use Rattle.std.proofs.lemmas.List.Sums.{length-filter, count_by-le-length}
 use Rattle.std.proofs.lemmas.List.Elements.{All-map, All-append, All-get_or, All-weaker, All-filter}
+use Rattle.mt_facts.proofs.Lists.{each_passes}
 use Rattle.mt_types.specs.declared.ty.Agg.{Agg}
 use Rattle.mt_types.specs.declared.ty.Agg.TheVariants.{Sum, Min, Max}
 use Rattle.mt_types.specs.declared.ty.Ty.{Ty, out-Ty}
@@ -31,7 +32,7 @@ use Rattle.mt_table.proofs.KeptLemmas.{each_of, key_length}
 use Rattle.mt_defs.specs.Metadata.{column_at, no_column}
 use Rattle.mt_defs.specs.Projections.{inner_of, index_in, state_column, stored_columns}
 use Rattle.mt_meta.specs.Definitions.{AreColumns, HasProjections, IsDefinition}
-use Rattle.mt_meta.proofs.DefinitionLemmas.{HasColumn, all_pass, columns_are, has_column, key_columns, key_scalar}
+use Rattle.mt_meta.proofs.DefinitionLemmas.{HasColumn, columns_are, has_column, key_columns, key_scalar}
 
 -- ---- places among others
 
@@ -168,7 +169,7 @@ normal_is table name columns sort are keeps =
     let n = length table.columns in
     let parts = both_true _ (list_all (is_one_of columns) sort && keeps_key table.columns sort) keeps in
     let both = both_true (list_all (is_one_of columns) sort) (keeps_key table.columns sort) parts.1 in
-    let selected : All (λ place. is_one_of columns place ≡ true) sort = all_pass (is_one_of columns) sort both.0 in
+    let selected : All (λ place. is_one_of columns place ≡ true) sort = each_passes (is_one_of columns) sort both.0 in
     let has : All (HasColumn is_key_type table.columns) sort = key_columns table.columns sort both.1 in
     let each : All (λ place. IsStored table.columns stored (index_in stored place)) sort = λ k d h.
     let here = has k d h in stored_key table.columns stored (get_or sort k d) (index_in stored (get_or sort k d)) here (stored_has table columns (get_or sort k d) here.known (selected k d h)) in
@@ -227,7 +228,7 @@ kept_grouped columns keys aggs keeps =
     let more = both_true (nat_le 1 (length aggs) && nat_le (length aggs) MAX_KEY) _ parts.1 in
     let counts = both_true (nat_le 1 (length aggs)) (nat_le (length aggs) MAX_KEY) more.0 in
     let each = both_true _ (list_all (keeps_aggregate columns) aggs) more.1 in
-    record { key = parts.0; few = leb-true (length aggs) MAX_KEY counts.1; kept = all_pass (keeps_aggregate columns) aggs each.1 }
+    record { key = parts.0; few = leb-true (length aggs) MAX_KEY counts.1; kept = each_passes (keeps_aggregate columns) aggs each.1 }
 
 twice_key : MAX_KEY + MAX_KEY ≤ MAX_COLUMNS
 twice_key = lit≤ tt
@@ -284,7 +285,7 @@ projections_kept table =
     let keeps = (each_of (fields_of_table table) table.rules).projections in
     let parts = both_true (nat_le (length table.projections) MAX_PROJECTIONS) _ keeps in
     let each = both_true (list_all (keeps_projection table.columns) table.projections) _ parts.1 in
-    all_pass (keeps_projection table.columns) table.projections each.0
+    each_passes (keeps_projection table.columns) table.projections each.0
 
 pub inner_is : (table : Table) (projection : Projection) → keeps_projection table.columns projection ≡ true → IsDefinition (inner_of table projection)
 inner_is table projection keeps = kept_is table projection (table_columns table) keeps

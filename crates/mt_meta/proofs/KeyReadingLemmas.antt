@@ -1,6 +1,5 @@
 -- Keys, one value after the other, and one key after the other.
-use Rattle.std.proofs.Common.{◌≡◌, ℕ, suc, ◌+◌, ◌<◌, ◌≤◌, Bool, true, List, [], ◌∷◌, ◌++◌, length, get_or, take, drop, zero, Option, Some, None, Result, Ok, Err, refl, ap, sym, ◌∙◌, arith, append_assoc, inl, inr}
-use Rattle.std.specs.Prelude.{◌&&◌}
+use Rattle.std.proofs.Common.{◌≡◌, ℕ, suc, ◌+◌, ◌<◌, ◌≤◌, true, List, [], ◌∷◌, ◌++◌, length, get_or, take, drop, zero, Option, Some, None, Result, Ok, Err, refl, ap, sym, ◌∙◌, arith, append_assoc, inl, inr}
 use Rattle.std.specs.List.{list_all, flat_map}
 use Rattle.std.proofs.lemmas.List.{length-append, append-nil, drop_more, get_or_default}
 use Rattle.std.proofs.lemmas.List.Concat.{flat_map-append}
@@ -17,10 +16,12 @@ use Rattle.mt_defs.specs.Metadata.{column_at, no_column}
 use Rattle.mt_defs.specs.PrimaryIndex.{index_name}
 use Rattle.mt_defs.specs.Rows.{Row}
 use Rattle.std.proofs.lemmas.List.Elements.{All-take}
+use Rattle.std.proofs.lemmas.Bool.{and_from}
 use Rattle.mt_meta.specs.Keys.{AreKeys, is_scalar}
 use Rattle.mt_fault.specs.Results.{IsFault}
-use Rattle.mt_meta.specs.KeyReading.{fits_key, key_items, types_of, IsFirst, AreKeysOf, GivesAll, GivesKeys, ReturnsKeys}
+use Rattle.mt_meta.specs.KeyReading.{fits_key, key_items, types_of_key, IsFirst, AreKeysOf, GivesAll, GivesKeys, ReturnsKeys}
 use Rattle.mt_types.proofs.StepLemmas.{both_true as both}
+use Rattle.mt_meta.proofs.ColumnsLaw.{not_some}
 
 -- ---- the values of a key
 
@@ -43,16 +44,13 @@ same_first v w x y e =
     let both : (let p : Value × List ℕ = (v, x) in p) ≡ (w, y) = cc in
     (ap (λ (p : Value × List ℕ). p.0) both, ap (λ (p : Value × List ℕ). p.1) both)
 
-and_true : (a b : Bool) → a ≡ true → b ≡ true → (a && b) ≡ true
-and_true a b e f = rw (e, f) refl
-
 pub key_more : (all : List Ty) (bytes : List ℕ) (ty : Ty) (types left : List Ty) (key : Row) (value : Value) (rest after : List ℕ) → left ≡ ty ∷ types
     → IsFirst (fits_of ty) (item_bytes ty) rest (Some (value, after)) → KeyGoesOn all bytes left key rest → KeyGoesOn all bytes types (key ++ value ∷ []) after
 key_more all bytes ty types left key value rest after is first goes = record {
   back = λ later more f e.
       let whole : rest ≡ key_items (ty ∷ types) (value ∷ later) ++ more =
       first.found.1 ∙ ap (λ (t : List ℕ). item_bytes ty value ++ t) e ∙ sym (append_assoc (item_bytes ty value) (key_items types later) more) in
-      let b = goes.back (value ∷ later) more (ap (λ (ts : List Ty). fits_key ts (value ∷ later)) is ∙ and_true (fits_of ty value) (fits_key types later) first.found.0 f)
+      let b = goes.back (value ∷ later) more (ap (λ (ts : List Ty). fits_key ts (value ∷ later)) is ∙ and_from (fits_of ty value) (fits_key types later) first.found.0 f)
       (whole ∙ ap (λ (ts : List Ty). key_items ts (value ∷ later) ++ more) (sym is)) in
       let joined = append_assoc key (value ∷ []) later in
       (ap (fits_key all) joined ∙ b.0, b.1 ∙ ap (λ (k : Row). key_items all k ++ more) (sym joined));
@@ -65,9 +63,6 @@ key_more all bytes ty types left key value rest after is first goes = record {
       (v.1, o.1 ∙ ap (λ (k : Row). key ++ k) v.2 ∙ ap (λ (w : Value). key ++ w ∷ v.1) (sym same.0) ∙ sym (append_assoc key (value ∷ []) v.1), v.4, same.1);
 }
 
-not_none : {A : Type 0} (x : A) → (let o : Option A = None in o) ≡ Some x → ⊥
-not_none x e = cc
-
 pub key_none : (all : List Ty) (bytes : List ℕ) (ty : Ty) (types left : List Ty) (key : Row) (rest : List ℕ) → left ≡ ty ∷ types
     → IsFirst (fits_of ty) (item_bytes ty) rest None → KeyGoesOn all bytes left key rest → IsFirst (fits_key all) (key_items all) bytes None
 key_none all bytes ty types left key rest is first goes = record {
@@ -77,7 +72,7 @@ key_none all bytes ty types left key rest is first goes = record {
       let v = first_value ty types o.0 (ap (λ (ts : List Ty). fits_key ts o.0) (sym is) ∙ o.2) in
       let begins : rest ≡ item_bytes ty v.0 ++ (key_items types v.1 ++ more) =
       o.3 ∙ ap (λ (ts : List Ty). key_items ts o.0 ++ more) is ∙ ap (λ (k : Row). key_items (ty ∷ types) k ++ more) v.2 ∙ append_assoc (item_bytes ty v.0) (key_items types v.1) more in
-      absurd (not_none (v.0, key_items types v.1 ++ more) (first.only v.0 (key_items types v.1 ++ more) v.3 begins));
+      absurd (not_some (v.0, key_items types v.1 ++ more) (first.only v.0 (key_items types v.1 ++ more) v.3 begins));
 }
 
 none_later : (later : Row) → fits_key [] later ≡ true → later ≡ []
@@ -105,10 +100,10 @@ dropped (x ∷ xs) (suc i) le = dropped xs i (omega arith)
 
 -- the type of the next column
 pub next_type : (columns : List Column) (keys : List ℕ) (i : ℕ) (column : Column) → i < length keys → get_or keys i 0 < length columns → column ≡ get_or columns (get_or keys i 0) column
-    → types_of columns (drop i keys) ≡ column.ty ∷ types_of columns (drop (i + 1) keys)
+    → types_of_key columns (drop i keys) ≡ column.ty ∷ types_of_key columns (drop (i + 1) keys)
 next_type columns keys i column lt known is =
-    ap (types_of columns) (drop_more keys i 0 lt)
-    ∙ ap (λ (c : Column). c.ty ∷ types_of columns (drop (i + 1) keys)) (get_or_default columns (get_or keys i 0) no_column column known ∙ sym is)
+    ap (types_of_key columns) (drop_more keys i 0 lt)
+    ∙ ap (λ (c : Column). c.ty ∷ types_of_key columns (drop (i + 1) keys)) (get_or_default columns (get_or keys i 0) no_column column known ∙ sym is)
 
 -- ---- the keys of a list
 
@@ -142,7 +137,7 @@ same_key k l x y e =
 pub keys_more : (types : List Ty) (bytes : List ℕ) (keys : List Row) (key : Row) (rest after : List ℕ) → IsFirst (fits_key types) (key_items types) rest (Some (key, after)) → KeysGoOn types bytes keys rest
     → KeysGoOn types bytes (keys ++ key ∷ []) after
 keys_more types bytes keys key rest after first goes = record {
-  fit = list_all-append (fits_key types) keys (key ∷ []) ∙ and_true _ _ goes.fit (and_true (fits_key types key) true first.found.0 refl);
+  fit = list_all-append (fits_key types) keys (key ∷ []) ∙ and_from _ _ goes.fit (and_from (fits_key types key) true first.found.0 refl);
   items = goes.items ∙ ap (λ (t : List ℕ). flat_map (key_items types) keys ++ t) first.found.1
       ∙ sym (append_assoc (flat_map (key_items types) keys) (key_items types key) after)
       ∙ ap (λ (t : List ℕ). (flat_map (key_items types) keys ++ t) ++ after) (sym (append-nil (key_items types key)))
@@ -162,10 +157,10 @@ Returns types count bytes result = GivesKeys types count bytes result × ((keys 
 pub no_key : (types : List Ty) (count : ℕ) (bytes : List ℕ) (keys : List Row) (rest : List ℕ) (e : FileError) → IsFirst (fits_key types) (key_items types) rest None → KeysGoOn types bytes keys rest → length keys < count
     → IsFault (record { file = index_name; granule = Some (length keys); at = None; why = Key }) e → Returns types count bytes (Err e)
 no_key types count bytes keys rest (AtFault f) first goes few is = (
-  record { keys = keys; rest = rest; fit = goes.fit; items = goes.items; wrong = inl (is, few, λ key more fits e. not_none (key, more) (first.only key more fits e)) },
+  record { keys = keys; rest = rest; fit = goes.fit; items = goes.items; wrong = inl (is, few, λ key more fits e. not_some (key, more) (first.only key more fits e)) },
   λ whole are.
       let a = another types bytes keys rest goes whole are.fit are.items (omega (arith, few, are.many)) in
-      absurd (not_none (a.0, flat_map (key_items types) a.1) (first.only a.0 (flat_map (key_items types) a.1) a.3 a.5)),
+      absurd (not_some (a.0, flat_map (key_items types) a.1) (first.only a.0 (flat_map (key_items types) a.1) a.3 a.5)),
 )
 no_key types count bytes keys rest NoMemory first goes few is = (tt, λ whole are. tt)
 

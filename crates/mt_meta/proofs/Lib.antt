@@ -1,7 +1,6 @@
-mod DigitLemmas
 mod KeyReadingLemmas
 mod KeyLemmas
-mod PlainLemmas
+pub mod PlainLemmas
 mod ListedLemmas
 mod ColumnsLaw
 mod ColumnsLemmas
@@ -14,7 +13,7 @@ mod MonthLemmas
 mod Casts
 mod BestLemmas
 mod ItemFacts
-mod PartitionLemmas
+pub mod PartitionLemmas
 mod PartitionLaw
 mod KeyLaw
 pub mod DefinitionLemmas

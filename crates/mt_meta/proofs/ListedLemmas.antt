@@ -15,7 +15,7 @@ use Rattle.mt_table.specs.declared.limits.TheConstants.{MAX_COLUMNS}
 use Rattle.mt_defs.specs.Metadata.{column_at, column_line, columns_text, no_column}
 use Rattle.mt_meta.specs.declared.ascii.TheConstants.{LINE_END, BACKQUOTE, BLANK}
 use Rattle.mt_meta.specs.Splitting.{split_once}
-use Rattle.mt_meta.specs.ColumnsReading.{is_named, has_name, is_column_line, column_lines, version_line, count_line, if_headed, listing_of, listing, is_line, order_of, columns_reading, lacks, CanBeListed, Lists}
+use Rattle.mt_meta.specs.ColumnsReading.{is_named, has_name, is_column_line, column_lines, version_line, count_line, if_headed, listed_lines, listing, is_line, order_of, columns_reading, lacks, CanBeListed, Lists}
 use Rattle.mt_meta.proofs.SplitLemmas.{at_byte}
 use Rattle.mt_meta.proofs.ListingLemmas.{lines_step}
 use Rattle.mt_defs.proofs.ListedColumns.{listed, listed_few}
@@ -87,7 +87,7 @@ listing_text columns few h =
     let parts : slice_split (at_byte LINE_END) (columns_text columns) ≡ version_line ∷ count ∷ slice_split (at_byte LINE_END) rest =
     ap (slice_split (at_byte LINE_END)) text ∙ split_after LINE_END version_line (count ++ (LINE_END ∷ rest)) refl
     ∙ ap (λ (lines : List (List ℕ)). version_line ∷ lines) (split_after LINE_END count rest counted) in
-    ap listing_of parts ∙ ap (option_and_then (if_headed version_line count)) (lines_of columns h)
+    ap listed_lines parts ∙ ap (option_and_then (if_headed version_line count)) (lines_of columns h)
     ∙ ap (λ (n : ℕ). if_headed version_line (count_line n) (map plain_line columns)) (sym (length-map columns plain_line)) ∙ headed_of (map plain_line columns)
 
 -- ---- which columns the lines are

@@ -5,11 +5,12 @@ use Rattle.std.specs.Prelude.{option_map, option_and_then, ◌&&◌}
 use Rattle.std.specs.Str.{bytes_eq}
 use Rattle.std.specs.List.{slice_split}
 use Rattle.std.proofs.lemmas.Bool.{eq-eqb, ne_eqb}
+use Rattle.mt_facts.proofs.Splits.{split_cons}
 use Rattle.mt_meta.specs.declared.ascii.TheConstants.{LINE_END}
 use Rattle.mt_meta.specs.Splitting.{split_once}
-use Rattle.mt_meta.specs.ColumnsReading.{is_column_line, column_lines, version_line, count_line, if_headed, listing_of, listing}
+use Rattle.mt_meta.specs.ColumnsReading.{is_column_line, column_lines, version_line, count_line, if_headed, listed_lines, listing}
 use Rattle.mt_meta.specs.Results.{GivesListing}
-use Rattle.mt_meta.proofs.SplitLemmas.{at_byte, split_cons, lines_end, lines_more}
+use Rattle.mt_meta.proofs.SplitLemmas.{at_byte, lines_end, lines_more}
 
 -- the first line is a column line, and others follow it
 pub lines_step : (lines : List (List ℕ)) (line after : List ℕ) (p : ℕ → Bool) → lines ≡ line ∷ slice_split p after → is_column_line line ≡ true
@@ -62,16 +63,16 @@ abbrev pub split : List ℕ → List (List ℕ)
 split text = slice_split (at_byte LINE_END) text
 
 pub listing_first : (text : List ℕ) → split_once LINE_END text ≡ None → listing text ≡ None
-listing_first text e = ap listing_of (lines_end LINE_END text e)
+listing_first text e = ap listed_lines (lines_end LINE_END text e)
 
 pub listing_second : (text version rest : List ℕ) → split_once LINE_END text ≡ Some (version, rest) → split_once LINE_END rest ≡ None → listing text ≡ None
 unfolding column_lines
-listing_second text version rest e f = ap listing_of (lines_more LINE_END text version rest e ∙ ap (λ (lines : List (List ℕ)). version ∷ lines) (lines_end LINE_END rest f))
+listing_second text version rest e f = ap listed_lines (lines_more LINE_END text version rest e ∙ ap (λ (lines : List (List ℕ)). version ∷ lines) (lines_end LINE_END rest f))
 
 pub listing_is : (text version rest count lines : List ℕ) → split_once LINE_END text ≡ Some (version, rest) → split_once LINE_END rest ≡ Some (count, lines)
     → listing text ≡ option_and_then (if_headed version count) (column_lines (split lines))
 listing_is text version rest count lines e f =
-    ap listing_of (lines_more LINE_END text version rest e ∙ ap (λ (lines : List (List ℕ)). version ∷ lines) (lines_more LINE_END rest count lines f))
+    ap listed_lines (lines_more LINE_END text version rest e ∙ ap (λ (lines : List (List ℕ)). version ∷ lines) (lines_more LINE_END rest count lines f))
 
 none_of : (lines : Option (List (List ℕ))) → None ≡ option_map length lines → lines ≡ None
 none_of None e = refl

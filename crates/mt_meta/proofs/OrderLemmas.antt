@@ -8,6 +8,7 @@ use Rattle.mt_meta.specs.Splitting.{split_once}
 use Rattle.mt_meta.specs.ColumnsReading.{is_column_line, column_lines, is_line, order_of}
 use Rattle.mt_meta.proofs.SplitLemmas.{at_byte, lines_end, lines_more}
 use Rattle.mt_meta.proofs.ListingLemmas.{split, lines_step, lines_bad, lines_cut}
+use Rattle.mt_meta.proofs.ColumnsLaw.{not_some}
 
 -- the columns so far, and those of the lines that are left
 abbrev pub Reaches : List (List ℕ) → List (List ℕ) → List ℕ → List ℕ → Type 0
@@ -25,9 +26,6 @@ one_more : (order : List ℕ) (i : ℕ) (rest : Option (List ℕ)) → option_ma
 one_more order i None = refl
 one_more order i (Some rest) = ap (λ (xs : List ℕ). let o : Option (List ℕ) = Some xs in o) (sym (append_assoc order (i ∷ []) rest))
 
-not_none : {A : Type 0} (x : A) → (let o : Option A = None in o) ≡ Some x → ⊥
-not_none x e = cc
-
 onto_some : (line : List ℕ) (lines : Option (List (List ℕ))) (later : List (List ℕ)) → option_map (λ more. line ∷ more) lines ≡ Some later → (more : List (List ℕ)) × (lines ≡ Some more) × (later ≡ line ∷ more)
 onto_some line None later e = cc
 onto_some line (Some more) later e = (more, refl, cc)
@@ -39,7 +37,7 @@ first_line rest line after later e is =
     let here = lines_more LINE_END rest line after e in
     elim (cases_Bool (is_column_line line)) [
       | inl listed ↦ onto_some line (column_lines (split after)) later (sym (lines_step (split rest) line after (at_byte LINE_END) here listed) ∙ is)
-      | inr other ↦ absurd (not_none later (sym (lines_bad (split rest) line after (at_byte LINE_END) here other) ∙ is))
+      | inr other ↦ absurd (not_some later (sym (lines_bad (split rest) line after (at_byte LINE_END) here other) ∙ is))
     ]
 
 order_first : (columns : List (List ℕ)) (line : List ℕ) (more : List (List ℕ)) (found : Option ℕ) → found ≡ position (is_line line) columns
@@ -65,7 +63,7 @@ some_is x y e = cc
 ended : (rest : List ℕ) (later : List (List ℕ)) → column_lines (rest ∷ []) ≡ Some later → later ≡ []
 unfolding column_lines
 ended [] later e = some_is [] later e
-ended (byte ∷ rest) later e = absurd (not_none later (sym (lines_cut ((byte ∷ rest) ∷ []) (byte ∷ rest) refl (λ z. omega arith)) ∙ e))
+ended (byte ∷ rest) later e = absurd (not_some later (sym (lines_cut ((byte ∷ rest) ∷ []) (byte ∷ rest) refl (λ z. omega arith)) ∙ e))
 
 order_end : (columns later : List (List ℕ)) → later ≡ [] → order_of columns later ≡ Some []
 unfolding order_of

@@ -1,10 +1,11 @@
 -- A folder has the partition of some rows exactly where it has the files that the writer makes of it.
-use Rattle.std.proofs.Common.{◌≡◌, ℕ, Bool, true, false, not, List, [], ◌∷◌, ◌++◌, length, take, map, cond, Some, refl, sym, ap, ◌∙◌, subst, arith}
+use Rattle.std.proofs.Common.{◌≡◌, ℕ, Bool, true, false, not, List, [], ◌∷◌, ◌++◌, length, take, map, cond, Some, refl, sym, ap, ◌∙◌, subst}
 use Rattle.std.specs.Prelude.{All, filter, ◌==◌, ◌↔◌}
 use Rattle.std.specs.List.{flat_map}
 use Rattle.std.proofs.lemmas.Bool.{eqb-true}
 use Rattle.std.proofs.lemmas.List.{append-nil}
 use Rattle.std.proofs.lemmas.List.Elements.{All-nil, All-cons, All-head, All-tail, All-weaker, All-map}
+use Rattle.mt_facts.proofs.Lists.{nil_from_test}
 use Rattle.mt_types.specs.declared.ty.Ty.{Ty}
 use Rattle.mt_types.specs.declared.value.Value.{Value}
 use Rattle.mt_types.specs.Items.{item_bytes}
@@ -82,10 +83,6 @@ key_of_table table = map expression_column table.partition
 abbrev files_of : Table → List Row → List FileBytes
 files_of table rows = file partition_name (flat_map (partition_bytes table) (take 1 rows)) ∷ map (minmax_file table rows) (distinct (key_of_table table))
 
-is_nil : {X : Type 0} (xs : List X) → (length xs == 0) ≡ true → xs ≡ []
-is_nil [] e = refl
-is_nil (x ∷ xs) e = absurd (let zero = eqb-true (length (x ∷ xs)) 0 e in omega (arith, zero))
-
 nil_is : {X : Type 0} (xs : List X) → (length xs == 0) ≡ false → xs ≡ [] → ⊥
 nil_is [] e f = let e : true ≡ false = e in cc
 nil_is (x ∷ xs) e f = let e : x ∷ xs ≡ [] = f in cc
@@ -105,7 +102,7 @@ read_by table row rows folder false e h =
 
 written_by : (table : Table) (row : Row) (rows : List Row) (folder : Folder) (b : Bool) → (length table.partition == 0) ≡ b → HasPartitionFiles table (row ∷ rows) folder → HasPartition table (row ∷ rows) folder
 written_by table row rows folder true e h =
-    let nil = is_nil table.partition e in
+    let nil = nil_from_test table.partition e in
     record {
       values = h.none nil ∙ rw e refl;
       minmax = subst (λ es. All (HasMinmax table (row ∷ rows) folder) (map expression_column es)) (sym nil) (All-nil (HasMinmax table (row ∷ rows) folder));

@@ -1,5 +1,5 @@
 -- Partition values and their bytes.
-use Rattle.std.proofs.Common.{◌≡◌, ℕ, ◌+◌, ◌^◌, ◌<◌, ℤ, pos, Bool, true, false, not, ◌||◌, cond, List, [], ◌∷◌, ◌++◌, length, take, drop, map, get_or, refl, sym, ap, ◌∙◌, subst, arith}
+use Rattle.std.proofs.Common.{◌≡◌, ℕ, ◌+◌, ◌^◌, ◌<◌, pos, Bool, true, false, not, ◌||◌, cond, List, [], ◌∷◌, ◌++◌, length, take, drop, map, get_or, refl, sym, ap, ◌∙◌, subst, arith}
 use Rattle.std.specs.Prelude.{All, filter, IsTrue, ◌==◌, ◌↔◌}
 use Rattle.std.specs.declared.cmp.Ordering.{Ordering}
 use Rattle.std.specs.declared.cmp.Ordering.TheVariants.{Less, Equal, Greater}
@@ -7,7 +7,7 @@ use Rattle.std.specs.Ordering.{ordering_index}
 use Rattle.std.specs.Cmp.{tied_itself}
 use Rattle.std.specs.Int.{w32, to_le_bytes, from_le_bytes}
 use Rattle.std.specs.List.{flat_map, list_any}
-use Rattle.std.proofs.lemmas.Bool.{eqb-true, ne_eqb}
+use Rattle.std.proofs.lemmas.Bool.{eqb-true, ne_eqb, or_parts}
 use Rattle.std.proofs.lemmas.Bool.Decides.{nat_tests}
 use Rattle.std.proofs.lemmas.Nat.{from_le_bytes-to_le_bytes_4}
 use Rattle.std.proofs.lemmas.List.{append-nil, map-append, take_more}
@@ -24,37 +24,29 @@ use Rattle.mt_types.specs.Ties.{exact_values}
 use Rattle.mt_table.specs.declared.column.Column.{Column}
 use Rattle.mt_table.specs.declared.partition.PartExpr.{PartExpr}
 use Rattle.mt_table.specs.declared.partition.PartExpr.TheVariants.{Plain, Month}
-use Rattle.mt_defs.specs.Lists.{Pointwise, distinct_by}
+use Rattle.mt_table.proofs.PointwiseLemmas.{Pointwise-length}
+use Rattle.mt_defs.specs.Lists.{distinct_by}
 use Rattle.mt_defs.specs.Metadata.{column_at, no_column}
 use Rattle.mt_defs.specs.Partition.{month_of, month_at, expression_bytes, expression_column}
 use Rattle.mt_defs.specs.Rows.{Row, RowFits, cell, column_values}
+use Rattle.mt_defs.proofs.RowLemmas.{cell_fits}
 use Rattle.mt_item.specs.ItemTypes.{is_scalar, is_scalar_at}
 use Rattle.mt_meta.specs.Keys.{AreKeys}
-use Rattle.mt_meta.specs.PartitionKeys.{IsExpression, ArePartitionKeys, HasValue, HasValueOf, HaveSameValue}
+use Rattle.mt_meta.specs.PartitionKeys.{IsKeyExpression, ArePartitionKeys, HasValue, HasValueOf, HaveSameValue}
 use Rattle.mt_meta.specs.Minmax.{least_of, greatest_of}
 use Rattle.mt_meta.proofs.BestLemmas.{least_is, greatest_is}
 use Rattle.mt_meta.proofs.ItemFacts.{day_is, item_unique}
-use Rattle.mt_meta.proofs.KeyLemmas.{cell_fits}
 
 -- ---- a row has the values
 
-same_length : {A B : Type 0} (R : A → B → Type 0) (xs : List A) (ys : List B) → Pointwise R xs ys → length xs ≡ length ys
-same_length R [] [] p = refl
-same_length R [] (y ∷ ys) p = absurd p
-same_length R (x ∷ xs) [] p = absurd p
-same_length R (x ∷ xs) (y ∷ ys) p = let rest = same_length R xs ys p.1 in omega (arith, rest)
-
 pub has_cell : (columns : List Column) (row : Row) (i : ℕ) → RowFits columns row → i < length columns → i < length row
-has_cell columns row i fits lt = omega (arith, lt, same_length (λ column value. IsTrue (fits_of column.ty value)) columns row fits)
+has_cell columns row i fits lt = omega (arith, lt, Pointwise-length (λ column value. IsTrue (fits_of column.ty value)) columns row fits)
 
-pub has_value : (columns : List Column) (row : Row) (e : PartExpr) → IsExpression columns e → RowFits columns row → HasValue row e
+pub has_value : (columns : List Column) (row : Row) (e : PartExpr) → IsKeyExpression columns e → RowFits columns row → HasValue row e
 has_value columns row (Plain i) is fits = has_cell columns row i fits is.0
 has_value columns row (Month i) is fits = (has_cell columns row i fits is.0, subst (λ ty. IsTrue (fits_of ty (cell row i))) is.1 (cell_fits columns row i no_column fits is.0))
 
 -- ---- months as bytes
-
-pub number_same : (m n : ℤ) → Num m ≡ Num n → m ≡ n
-number_same m n e = cc
 
 month_small : (day : ℕ) → day < 65536 → month_of day < 2 ^ 32
 month_small day lt = grind (arith, nat_tests)
@@ -89,7 +81,7 @@ all_same_bytes columns a b (e ∷ es) same =
     ap (λ (t : List ℕ). t ++ flat_map (expression_bytes columns a) es) (same_bytes columns a b e (All-head (HaveSameValue a b) e es same))
     ∙ ap (λ (t : List ℕ). expression_bytes columns b e ++ t) (all_same_bytes columns a b es (All-tail (HaveSameValue a b) e es same))
 
-same_value : (columns : List Column) (a b : Row) (e : PartExpr) (x y : List ℕ) → IsExpression columns e → RowFits columns a → RowFits columns b → expression_bytes columns a e ++ x ≡ expression_bytes columns b e ++ y
+same_value : (columns : List Column) (a b : Row) (e : PartExpr) (x y : List ℕ) → IsKeyExpression columns e → RowFits columns a → RowFits columns b → expression_bytes columns a e ++ x ≡ expression_bytes columns b e ++ y
     → HaveSameValue a b e × (x ≡ y)
 same_value columns a b (Plain i) x y is f g e =
     item_unique (column_at columns i).ty is.1 (cell a i) (cell b i) x y (cell_fits columns a i no_column f is.0) (cell_fits columns b i no_column g is.0) e
@@ -100,8 +92,8 @@ pub all_same_values : (columns : List Column) (a b : Row) (partition : List Part
     → flat_map (expression_bytes columns a) partition ≡ flat_map (expression_bytes columns b) partition → All (HaveSameValue a b) partition
 all_same_values columns a b [] are f g e = All-nil (HaveSameValue a b)
 all_same_values columns a b (x ∷ xs) are f g e =
-    let s = same_value columns a b x (flat_map (expression_bytes columns a) xs) (flat_map (expression_bytes columns b) xs) (All-head (IsExpression columns) x xs are) f g e in
-    All-cons (HaveSameValue a b) x xs s.0 (all_same_values columns a b xs (All-tail (IsExpression columns) x xs are) f g s.1)
+    let s = same_value columns a b x (flat_map (expression_bytes columns a) xs) (flat_map (expression_bytes columns b) xs) (All-head (IsKeyExpression columns) x xs are) f g e in
+    All-cons (HaveSameValue a b) x xs s.0 (all_same_values columns a b xs (All-tail (IsKeyExpression columns) x xs are) f g s.1)
 
 -- ---- the columns of a partition key
 
@@ -112,14 +104,10 @@ distinct xs = distinct_by (λ i j. i == j) xs
 abbrev pub others : ℕ → ℕ → Bool
 others x y = not (x == y)
 
-or_false : (a b : Bool) → (a || b) ≡ false → (a ≡ false) × (b ≡ false)
-or_false true b e = cc
-or_false false b e = (refl, e)
-
 pub distinct_push : (xs : List ℕ) (x : ℕ) → list_any (λ i. i == x) xs ≡ false → distinct (xs ++ x ∷ []) ≡ distinct xs ++ x ∷ []
 distinct_push [] x none = refl
 distinct_push (y ∷ ys) x none =
-    let parts = or_false (y == x) (list_any (λ i. i == x) ys) none in
+    let parts = or_parts (y == x) (list_any (λ i. i == x) ys) none in
     let last : filter (others y) (x ∷ []) ≡ x ∷ [] = rw parts.0 refl in
     ap (λ zs. y ∷ filter (others y) zs) (distinct_push ys x parts.1) ∙ ap (λ zs. y ∷ zs) (filter-append (others y) (distinct ys) (x ∷ []) ∙ ap (λ zs. filter (others y) (distinct ys) ++ zs) last)
 
@@ -174,22 +162,22 @@ pub distinct_all : (P : ℕ → Type 0) (xs : List ℕ) → All P xs → All P (
 distinct_all P [] h = All-nil P
 distinct_all P (x ∷ xs) h = All-cons P x (filter (others x) (distinct xs)) (All-head P x xs h) (All-filter (others x) P (distinct xs) (distinct_all P xs (All-tail P x xs h)))
 
-expression_known : (columns : List Column) (e : PartExpr) → IsExpression columns e → expression_column e < length columns
+pub expression_known : (columns : List Column) (e : PartExpr) → IsKeyExpression columns e → expression_column e < length columns
 expression_known columns (Plain i) is = is.0
 expression_known columns (Month i) is = is.0
 
 date_scalar : is_scalar Date ≡ true
 date_scalar = ap is_scalar_at outs-Date
 
-expression_scalar : (columns : List Column) (e : PartExpr) → IsExpression columns e → is_scalar (column_at columns (expression_column e)).ty ≡ true
+expression_scalar : (columns : List Column) (e : PartExpr) → IsKeyExpression columns e → is_scalar (column_at columns (expression_column e)).ty ≡ true
 expression_scalar columns (Plain i) is = is.1
 expression_scalar columns (Month i) is = ap is_scalar is.1 ∙ date_scalar
 
 pub key_columns_are : (columns : List Column) (partition : List PartExpr) → ArePartitionKeys columns partition → AreKeys columns (distinct (map expression_column partition))
 key_columns_are columns partition are = record {
-  known = distinct_all (λ i. i < length columns) (map expression_column partition) (All-map (λ i. i < length columns) expression_column partition (All-weaker (IsExpression columns) (λ e. expression_column e < length columns) (expression_known columns) partition are));
+  known = distinct_all (λ i. i < length columns) (map expression_column partition) (All-map (λ i. i < length columns) expression_column partition (All-weaker (IsKeyExpression columns) (λ e. expression_column e < length columns) (expression_known columns) partition are));
   scalar = distinct_all (λ i. is_scalar (column_at columns i).ty ≡ true) (map expression_column partition)
-      (All-map (λ i. is_scalar (column_at columns i).ty ≡ true) expression_column partition (All-weaker (IsExpression columns) (λ e. is_scalar (column_at columns (expression_column e)).ty ≡ true) (expression_scalar columns) partition are));
+      (All-map (λ i. is_scalar (column_at columns i).ty ≡ true) expression_column partition (All-weaker (IsKeyExpression columns) (λ e. is_scalar (column_at columns (expression_column e)).ty ≡ true) (expression_scalar columns) partition are));
 }
 
 -- ---- values of rows

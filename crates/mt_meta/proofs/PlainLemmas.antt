@@ -4,7 +4,7 @@ use Rattle.std.specs.Prelude.{codes, option_map, ◌==◌, ◌&&◌, nat_le}
 use Rattle.std.specs.Fmt.{decimal}
 use Rattle.std.specs.Str.Parse.{AllDigits}
 use Rattle.std.specs.List.{slice_split, onto_first as onto_part}
-use Rattle.std.proofs.lemmas.Bool.{eq-eqb, ne_eqb, leb-true}
+use Rattle.std.proofs.lemmas.Bool.{eq-eqb, ne_eqb, leb-true, and_from, not-true}
 use Rattle.std.proofs.lemmas.Fmt.{decimal_is_IsNumeral}
 use Rattle.std.proofs.lemmas.Str.Parse.{digit_from_value}
 use Rattle.std.proofs.lemmas.List.Splits.{slice_split-cons_yes, slice_split-cons_no}
@@ -19,20 +19,13 @@ use Rattle.mt_types.specs.declared.ty.Ty.TheOpen.{Ty-F}
 use Rattle.mt_types.specs.declared.ty.Ty.TheFolds.{fold-roll-Ty, ind-Ty}
 use Rattle.mt_types.specs.Names.{type_name, name_step, state_opening, width_text}
 use Rattle.mt_types.specs.Profile.{Kind, Whole, Day, Plain, Optional, Nested, Stored, Unknown, kind_of, kind_step, is_known, is_profile, optional_kind, array_kind, state_kind}
-use Rattle.mt_meta.specs.Splitting.{onto_first, split_once}
+use Rattle.mt_meta.specs.Splitting.{onto_before, split_once}
 use Rattle.mt_meta.specs.ColumnsReading.{lacks}
 use Rattle.mt_meta.proofs.SplitLemmas.{at_byte}
 use Rattle.mt_types.proofs.StepLemmas.{both_true as both}
 
-both_of : (a b : Bool) → a ≡ true → b ≡ true → (a && b) ≡ true
-both_of a b e f = rw (e, f) refl
-
-not_is : (b : Bool) → not b ≡ true → b ≡ false
-not_is true e = cc
-not_is false e = refl
-
 pub lacks_append : (s : ℕ) (xs ys : List ℕ) → lacks s xs ≡ true → lacks s ys ≡ true → lacks s (xs ++ ys) ≡ true
-lacks_append s xs ys e f = list_all-append (λ byte. not (byte == s)) xs ys ∙ both_of _ _ e f
+lacks_append s xs ys e f = list_all-append (λ byte. not (byte == s)) xs ys ∙ and_from _ _ e f
 
 -- ---- where a text is split
 
@@ -43,13 +36,13 @@ split_after s [] rest e = slice_split-cons_yes (at_byte s) s rest (same s)
     same s = eq-eqb s s refl
 split_after s (byte ∷ line) rest e =
     let parts = both (not (byte == s)) (lacks s line) e in
-    slice_split-cons_no (at_byte s) byte (line ++ s ∷ rest) (not_is (byte == s) parts.0) ∙ ap (onto_part byte) (split_after s line rest parts.1)
+    slice_split-cons_no (at_byte s) byte (line ++ s ∷ rest) (not-true (byte == s) parts.0) ∙ ap (onto_part byte) (split_after s line rest parts.1)
 
 pub once_after : (s : ℕ) (name rest : List ℕ) → lacks s name ≡ true → split_once s (name ++ s ∷ rest) ≡ Some (name, rest)
 once_after s [] rest e = rw (eq-eqb s s refl) refl
 once_after s (byte ∷ name) rest e =
     let parts = both (not (byte == s)) (lacks s name) e in
-    rw (not_is (byte == s) parts.0) (ap (option_map (onto_first byte)) (once_after s name rest parts.1))
+    rw (not-true (byte == s) parts.0) (ap (option_map (onto_before byte)) (once_after s name rest parts.1))
 
 -- ---- numbers
 
@@ -57,7 +50,7 @@ digits_lack : (ds : List ℕ) → AllDigits 10 ds → lacks 10 ds ≡ true
 digits_lack [] d = refl
 digits_lack (c ∷ cs) d =
     let k = digit_from_value c d.0 in
-    both_of _ _ (ap not (ne_eqb c 10 (λ e. omega (arith, k)))) (digits_lack cs d.1)
+    and_from _ _ (ap not (ne_eqb c 10 (λ e. omega (arith, k)))) (digits_lack cs d.1)
 
 pub decimal_lacks : (n : ℕ) → n < 2 ^ 64 → lacks 10 (decimal n) ≡ true
 decimal_lacks n small = digits_lack (decimal n) (decimal_is_IsNumeral n small).0.1

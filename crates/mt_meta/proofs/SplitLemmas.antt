@@ -1,27 +1,24 @@
 -- Splitting at the first separator, by its position and as lines.
-use Rattle.std.proofs.Common.{◌≡◌, ℕ, ◌+◌, ◌<◌, ◌≤◌, Bool, true, false, cond, ltb, eqb, List, [], ◌∷◌, length, take, drop, suc, Option, Some, None, refl, ap, ◌∙◌, arith, inl, inr}
+use Rattle.std.proofs.Common.{◌≡◌, ℕ, ◌+◌, ◌<◌, ◌≤◌, Bool, ltb, eqb, List, [], ◌∷◌, length, take, drop, suc, Option, Some, None, refl, ap, ◌∙◌, arith, inl, inr}
 use Rattle.std.specs.Prelude.{position, option_map}
 use Rattle.std.specs.List.{slice_split, position_or_len, onto_first as onto_part}
 use Rattle.std.proofs.lemmas.Bool.{cases_Bool, ltb-true, ltb-false}
 use Rattle.std.proofs.lemmas.Option.{cond_some}
 use Rattle.std.proofs.lemmas.List.Splits.{slice_split-cons_yes, slice_split-cons_no}
-use Rattle.mt_meta.specs.Splitting.{onto_first, split_once}
+use Rattle.mt_facts.proofs.Splits.{chosen_none}
+use Rattle.mt_meta.specs.Splitting.{onto_before, split_once}
 
 abbrev pub at_byte : ℕ → ℕ → Bool
 at_byte separator byte = eqb byte separator
 
 -- ---- by the position
 
-chosen_none : {A : Type 0} (b : Bool) (x : A) → cond b (Some x) None ≡ None → b ≡ false
-chosen_none true x e = absurd cc
-chosen_none false x e = refl
-
 none_within : (separator : ℕ) (bytes : List ℕ) → length bytes ≤ position_or_len (at_byte separator) bytes → split_once separator bytes ≡ None
 none_within separator [] h = refl
 none_within separator (byte ∷ bytes) h =
     elim (cases_Bool (eqb byte separator)) [
       | inl is ↦ absurd (let k = rw is at h in omega (arith, k))
-      | inr not ↦ rw not (ap (option_map (onto_first byte)) (none_within separator bytes (let k = rw not at h in omega (arith, k))))
+      | inr not ↦ rw not (ap (option_map (onto_before byte)) (none_within separator bytes (let k = rw not at h in omega (arith, k))))
     ]
 
 one_later : (byte : ℕ) (bytes : List ℕ) (n k : ℕ) → k ≡ n + 1
@@ -37,7 +34,7 @@ some_within separator [] h = absurd (omega arith)
 some_within separator (byte ∷ bytes) h =
     elim (cases_Bool (eqb byte separator)) [
       | inl is ↦ rw is refl
-      | inr not ↦ rw not (ap (option_map (onto_first byte)) (some_within separator bytes (let k = rw not at h in omega (arith, k)))
+      | inr not ↦ rw not (ap (option_map (onto_before byte)) (some_within separator bytes (let k = rw not at h in omega (arith, k)))
           ∙ one_later byte bytes (position_or_len (at_byte separator) bytes) _ (omega arith))
     ]
 
@@ -60,7 +57,7 @@ lines_end separator (byte ∷ bytes) e =
       | inr not ↦ let k = rw not at e in slice_split-cons_no (at_byte separator) byte bytes not ∙ ap (onto_part byte) (lines_end separator bytes (inner_none _ _ k))
     ]
   where
-    inner_none : (byte : ℕ) (o : Option (List ℕ × List ℕ)) → option_map (onto_first byte) o ≡ None → o ≡ None
+    inner_none : (byte : ℕ) (o : Option (List ℕ × List ℕ)) → option_map (onto_before byte) o ≡ None → o ≡ None
     inner_none byte None e = refl
     inner_none byte (Some x) e = cc
 
@@ -77,21 +74,8 @@ lines_more separator (byte ∷ bytes) before after e =
 
     later : (o : Option (List ℕ × List ℕ)) → split_once separator bytes ≡ o
         → ((before after : List ℕ) → split_once separator bytes ≡ Some (before, after) → slice_split (at_byte separator) bytes ≡ before ∷ slice_split (at_byte separator) after)
-        → option_map (onto_first byte) o ≡ Some (before, after) → onto_part byte (slice_split (at_byte separator) bytes) ≡ before ∷ slice_split (at_byte separator) after
+        → option_map (onto_before byte) o ≡ Some (before, after) → onto_part byte (slice_split (at_byte separator) bytes) ≡ before ∷ slice_split (at_byte separator) after
     later None is more k = cc
     later (Some (first, rest)) is more k =
         let one : (let p : List ℕ × List ℕ = (byte ∷ first, rest) in p) ≡ (before, after) = cc in
         ap (onto_part byte) (more first rest is) ∙ ap (λ (p : List ℕ × List ℕ). p.0 ∷ slice_split (at_byte separator) p.1) one
-
-onto_cons : {X : Type 0} (x : X) (parts : List (List X)) → (part : List X) × (more : List (List X)) × (onto_part x parts ≡ part ∷ more)
-onto_cons x [] = (x ∷ [], [], refl)
-onto_cons x (part ∷ parts) = (x ∷ part, parts, refl)
-
-chosen : {X : Type 0} (b : Bool) (x : X) (parts : List (List X)) → (part : List X) × (more : List (List X)) × (cond b ([] ∷ parts) (onto_part x parts) ≡ part ∷ more)
-chosen true x parts = ([], parts, refl)
-chosen false x parts = onto_cons x parts
-
--- there is always a part
-pub split_cons : {X : Type 0} (p : X → Bool) (xs : List X) → (part : List X) × (more : List (List X)) × (slice_split p xs ≡ part ∷ more)
-split_cons p [] = ([], [], refl)
-split_cons p (x ∷ xs) = chosen (p x) x (slice_split p xs)

@@ -47,13 +47,13 @@ abbrev pub if_headed : List ℕ → List ℕ → List (List ℕ) → Option (Lis
 if_headed version count lines = if bytes_eq version version_line && bytes_eq count (count_line (length lines)) then Some lines else None
 
 -- the column lines of a text's lines
-abbrev pub listing_of : List (List ℕ) → Option (List (List ℕ))
-listing_of (version ∷ count ∷ lines) = option_and_then (if_headed version count) (column_lines lines)
-listing_of _ = None
+abbrev pub listed_lines : List (List ℕ) → Option (List (List ℕ))
+listed_lines (version ∷ count ∷ lines) = option_and_then (if_headed version count) (column_lines lines)
+listed_lines _ = None
 
 -- the column lines of a text of the form (1.2)
 abbrev pub listing : List ℕ → Option (List (List ℕ))
-listing text = listing_of (slice_split (λ byte. byte == LINE_END) text)
+listing text = listed_lines (slice_split (λ byte. byte == LINE_END) text)
 
 -- ---- the columns
 

@@ -9,14 +9,14 @@ use Rattle.mt_meta.specs.declared.count.CountWhy.TheVariants.{Syntax, TooLong}
 use Rattle.mt_types.specs.Steps.{◌>>=◌, require}
 
 -- a decimal number from 1 on without leading zeros
-abbrev pub is_number : List ℕ → Bool
-is_number [] = false
-is_number (first ∷ rest) = not (first == 48) && all_ascii_digits (first ∷ rest)
+abbrev pub is_count_text : List ℕ → Bool
+is_count_text [] = false
+is_count_text (first ∷ rest) = not (first == 48) && all_ascii_digits (first ∷ rest)
 
 -- the rows that a text counts, or why it counts none (2.2 to 2.4)
 unfoldable pub count_reading : (columns : ℕ) → List ℕ → Result ℕ CountWhy
 count_reading columns text = do
-  _ ← require (is_number text) Syntax
+  _ ← require (is_count_text text) Syntax
   _ ← require (nat_le (digits_value 10 text) MAX_ROWS) TooLong
   _ ← require (nat_le (digits_value 10 text * columns) MAX_CELLS) TooLong
   Ok (digits_value 10 text)

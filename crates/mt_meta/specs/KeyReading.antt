@@ -21,12 +21,12 @@ use Rattle.mt_fault.specs.Results.{IsFault}
 -- ---- keys as lists of values
 
 -- the types of a key's columns
-abbrev pub types_of : List Column → List ℕ → List Ty
-types_of columns keys = map (λ i. (column_at columns i).ty) keys
+abbrev pub types_of_key : List Column → List ℕ → List Ty
+types_of_key columns keys = map (λ i. (column_at columns i).ty) keys
 
 -- the types of the primary key
 abbrev pub key_types : PartDef → List Ty
-key_types definition = types_of definition.columns (take definition.primary definition.sort)
+key_types definition = types_of_key definition.columns (take definition.primary definition.sort)
 
 -- one value of each type
 abbrev pub fits_key : List Ty → Row → Bool

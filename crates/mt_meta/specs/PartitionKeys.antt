@@ -13,13 +13,13 @@ use Rattle.mt_defs.specs.Rows.{Row, cell}
 use Rattle.mt_meta.specs.Keys.{is_scalar}
 
 -- an expression over a column of a key's type, or over one of dates where it asks for the month
-abbrev pub IsExpression : List Column → PartExpr → Type 0
-IsExpression columns (Plain i) = (i < length columns) × (is_scalar (column_at columns i).ty ≡ true)
-IsExpression columns (Month i) = (i < length columns) × ((column_at columns i).ty ≡ Date)
+abbrev pub IsKeyExpression : List Column → PartExpr → Type 0
+IsKeyExpression columns (Plain i) = (i < length columns) × (is_scalar (column_at columns i).ty ≡ true)
+IsKeyExpression columns (Month i) = (i < length columns) × ((column_at columns i).ty ≡ Date)
 
 -- expressions of a partition key, over these columns
 abbrev pub ArePartitionKeys : List Column → List PartExpr → Type 0
-ArePartitionKeys columns partition = All (IsExpression columns) partition
+ArePartitionKeys columns partition = All (IsKeyExpression columns) partition
 
 -- the value is a day
 abbrev pub is_day : Value → Bool

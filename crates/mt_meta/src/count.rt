@@ -1,7 +1,7 @@
 //! count.txt: the rows of a folder.
 
 ghost use Rattle.std.specs.Prelude.{◌≡◌, ◌≤◌, decimal, IfOk};
-ghost use Rattle.mt_meta.specs.CountReading.{is_number, count_reading};
+ghost use Rattle.mt_meta.specs.CountReading.{is_count_text, count_reading};
 ghost use Rattle.mt_table.specs.declared.limits.TheConstants.{MAX_COLUMNS};
 
 use crate::digits::{all_digits, magnitude};
@@ -58,7 +58,7 @@ pub fn read_count(text: &[u8], columns: u64) -> Result<u64, CountWhy>
 
 /// Whether a text is a decimal number from 1 on without leading zeros.
 fn is_number(text: &[u8]) -> bool
-    ensures { result ≡ is_number text.now }
+    ensures { result ≡ is_count_text text.now }
 {
     match text {
         [] => false,

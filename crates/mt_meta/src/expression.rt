@@ -8,7 +8,7 @@ ghost use Rattle.mt_table.specs.declared.partition.PartExpr.TheVariants.{Month};
 ghost use Rattle.mt_defs.specs.Lists.{distinct_by};
 ghost use Rattle.mt_defs.specs.Partition.{expression_bytes, expression_column, month_at};
 ghost use Rattle.mt_defs.specs.Rows.{RowFits, cell};
-ghost use Rattle.mt_meta.specs.PartitionKeys.{ArePartitionKeys, IsExpression, HasValue, HaveSameValue};
+ghost use Rattle.mt_meta.specs.PartitionKeys.{ArePartitionKeys, IsKeyExpression, HasValue, HaveSameValue};
 
 use crate::cell::cell;
 use crate::month::month_at;
@@ -73,7 +73,7 @@ fn append_value(
     row: &Row,
     out: &mut List<u8>,
 ) -> Result<(), NoMemory>
-    requires expression { IsExpression columns.now expression }
+    requires expression { IsKeyExpression columns.now expression }
     requires fits { RowFits columns.now row.now }
     ensures { OnOk result (out.new ≡
         out.old ++ expression_bytes columns.now row.now expression) }

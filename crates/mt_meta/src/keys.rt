@@ -3,7 +3,7 @@
 ghost use Rattle.std.specs.Prelude.{◌≡◌, ◌≤◌, ◌+◌, IfOk, IsTrue, List as Seq, length};
 ghost use Rattle.mt_defs.specs.Rows.{Row as Values};
 ghost use Rattle.mt_meta.specs.Keys.{AreKeys, is_scalar};
-ghost use Rattle.mt_meta.specs.KeyReading.{AreKeysOf, GivesAll, GivesKeys, IsFirstItem, IsFirstKey, ReturnsKeys, key_types, types_of};
+ghost use Rattle.mt_meta.specs.KeyReading.{AreKeysOf, GivesAll, GivesKeys, IsFirstItem, IsFirstKey, ReturnsKeys, key_types, types_of_key};
 
 use mt_fault::{FileError, Why, file_fault, granule_fault};
 use mt_item::{ItemError, read_item};
@@ -66,7 +66,7 @@ fn read_key<'a>(
     bytes: &'a [u8],
 ) -> Result<Option<(Row, &'a [u8])>, NoMemory>
     requires { AreKeys columns.now keys.now }
-    ensures { IfOk result (λ read. IsFirstKey (types_of columns.now keys.now) bytes.now read) }
+    ensures { IfOk result (λ read. IsFirstKey (types_of_key columns.now keys.now) bytes.now read) }
 {
     let mut key = List::with_capacity(alloc, keys.len())?;
     let mut rest = bytes;

@@ -1,7 +1,7 @@
 //! The names of columns and indexes as files have them.
 
 ghost use Rattle.std.specs.Prelude.{◌≡◌, ◌<◌, ◌++◌, IfOk, OnOk};
-ghost use Rattle.mt_defs.specs.FileNames.{escaped_byte};
+ghost use Rattle.mt_defs.specs.FileNames.{file_name_byte};
 ghost use Rattle.mt_defs.specs.FileNames as names;
 
 use mt_types::{List, NoMemory};
@@ -36,7 +36,7 @@ pub fn with_ending(alloc: Global, name: &[u8], ending: &[u8]) -> Result<List<u8>
 }
 
 fn append_escaped(byte: u8, out: &mut List<u8>) -> Result<(), NoMemory>
-    ensures { OnOk result (out.new ≡ out.old ++ escaped_byte byte) }
+    ensures { OnOk result (out.new ≡ out.old ++ file_name_byte byte) }
 {
     if is_word_byte(byte) {
         out.push(byte)

@@ -5,6 +5,7 @@ use Rattle.std.proofs.lemmas.Bool.{cases_Bool}
 use Rattle.mt_types.proofs.OptionLemmas.{mapped_is, then_is, some_is}
 use Rattle.mt_tokens.specs.Tokens.{Tok}
 use Rattle.mt_tokens.specs.Splits.{after_if}
+use Rattle.mt_tokens.proofs.TokenLemmas.{after_if_some}
 use Rattle.mt_phrases.specs.Phrases.{Phrase, One, ◌▹◌, ◌◃◌, ◌&◌, ◌∣◌, Maybe, Made, Kept, first_is}
 use Rattle.mt_phrases.specs.Readers.{Reader, one, after, before, both, with_tree, with_tree_if, either, either_if, maybe}
 
@@ -86,11 +87,6 @@ after_law test {P = P} {p = p} {S = S} law = after_is_read test P p S law
 
 -- ---- a phrase, then a token
 
-after_if_is : (test : Tok → Bool) (tokens rest : List Tok) → after_if test tokens ≡ Some rest → (token : Tok) × (tokens ≡ token ∷ rest) × (test token ≡ true)
-after_if_is test [] rest e = absurd cc
-after_if_is test (token ∷ tokens) rest e = elim (cases_Bool (test token)) [
-  | inl here ↦ (token, ap (λ (us : List Tok). token ∷ us) (some_is tokens rest (rw here at e)), here)
-  | inr other ↦ absurd (let k = rw other at e in cc)
 ]
 
 module _ {A : Type 0} (test : Tok → Bool) (P : Phrase A) (p : Reader A) (S : List Tok → Type 0) (law : IsRead P p S) (stops : (token : Tok) (rest : List Tok) → test token ≡ true → S (token ∷ rest)) where
@@ -98,7 +94,7 @@ module _ {A : Type 0} (test : Tok → Bool) (P : Phrase A) (p : Reader A) (S : L
   before_sound tokens x e =
       let y = then_is (λ (y : A × List Tok). option_map (λ (rest : List Tok). (y.0, rest)) (after_if test y.1)) (p tokens) x e in
       let z = mapped_is (λ (rest : List Tok). (y.0.0, rest)) (after_if test y.0.1) x y.2 in
-      let t = after_if_is test y.0.1 z.0 z.1 in
+      let t = after_if_some test y.0.1 z.0 z.1 in
       subst (λ (w : A × List Tok). (P ◃ test) tokens w.0 w.1) (sym z.2) (t.0, subst (λ (us : List Tok). P tokens y.0.0 us) t.1 (law.sound tokens y.0 y.1), t.2)
 
   before_complete : (tokens : List Tok) (tree : A) (rest : List Tok) → (P ◃ test) tokens tree rest → before p test tokens ≡ Some (tree, rest)

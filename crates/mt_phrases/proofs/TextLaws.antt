@@ -4,12 +4,13 @@ use Rattle.std.specs.Prelude.{IfOk}
 use Rattle.mt_types.proofs.OptionLemmas.{some_is}
 use Rattle.mt_tokens.specs.Tokens.{Tok}
 use Rattle.mt_tokens.specs.Lexis.{token_at, skip_blanks, AreTokens, IsTokens}
+use Rattle.mt_tokens.proofs.TokenRuns.{no_token_of_none}
 use Rattle.mt_phrases.specs.declared.error.SyntaxError.{SyntaxError}
 use Rattle.mt_phrases.specs.declared.error.SyntaxError.TheVariants as error
-use Rattle.mt_phrases.specs.Answers.{Gives, GivesSentence}
-use Rattle.mt_phrases.specs.Readers.{whole}
+use Rattle.mt_phrases.specs.Answers.{GivesPhrase, GivesSentence}
+use Rattle.mt_phrases.specs.Readers.{whole_tree}
 
-pub whole_is : {A : Type 0} (read tree : A) (tokens : List Tok) → whole read tokens ≡ Some tree → (tokens ≡ []) × (read ≡ tree)
+pub whole_is : {A : Type 0} (read tree : A) (tokens : List Tok) → whole_tree read tokens ≡ Some tree → (tokens ≡ []) × (read ≡ tree)
 whole_is read tree [] e = (refl, some_is read tree e)
 whole_is read tree (token ∷ tokens) e = absurd cc
 
@@ -19,14 +20,10 @@ taken o a b p q e f =
     let same : (let x : Tok × List ℕ = (a, p) in x) ≡ (b, q) = some_is (a, p) (b, q) (sym e ∙ f) in
     (ap (λ (x : Tok × List ℕ). x.0) same, ap (λ (x : Tok × List ℕ). x.1) same)
 
-nothing_taken : (text : List ℕ) (token : Tok) (rest : List ℕ) → text ≡ [] → token_at text ≡ Some (token, rest) → ⊥
-unfolding token_at
-nothing_taken text token rest e f = let k = sym (ap token_at e) ∙ f in cc
-
 tokens_are_one : (text : List ℕ) (a b : List Tok) → AreTokens text a → AreTokens text b → a ≡ b
 tokens_are_one text [] [] h k = refl
-tokens_are_one text [] (u ∷ us) h k = absurd (nothing_taken text u k.0 h k.1)
-tokens_are_one text (t ∷ ts) [] h k = absurd (nothing_taken text t h.0 k h.1)
+tokens_are_one text [] (u ∷ us) h k = absurd (no_token_of_none text u k.0 h k.1)
+tokens_are_one text (t ∷ ts) [] h k = absurd (no_token_of_none text t h.0 k h.1)
 tokens_are_one text (t ∷ ts) (u ∷ us) h k =
     let same = taken (token_at text) t u h.0 k.0 h.1 k.1 in
     let others = tokens_are_one (skip_blanks k.0) ts us (subst (λ (rest : List ℕ). AreTokens (skip_blanks rest) ts) same.1 h.2) k.2 in
@@ -40,16 +37,16 @@ module _ {A : Type 0} (Sentence : List Tok → A → Type 0) (sentence_at : List
   abbrev IsText : (text : List ℕ) → A → Type 0
   IsText text tree = (tokens : List Tok) × IsTokens text tokens × Sentence tokens tree
 
-  pub sentence_is_found : (text : List ℕ) (tokens : List Tok) (result : Result A SyntaxError) → IsTokens text tokens → Gives (λ (x : A). x) result (sentence_at tokens) → IfOk result (λ sentence. IsText text sentence)
+  pub sentence_is_found : (text : List ℕ) (tokens : List Tok) (result : Result A SyntaxError) → IsTokens text tokens → GivesPhrase (λ (x : A). x) result (sentence_at tokens) → IfOk result (λ sentence. IsText text sentence)
   sentence_is_found text tokens (Ok sentence) are e = (tokens, are, sound tokens sentence e)
   sentence_is_found text tokens (Err error) are e = tt
 
-  given : (tokens : List Tok) (result : Result A SyntaxError) (sentence : A) → sentence_at tokens ≡ Some sentence → Gives (λ (x : A). x) result (sentence_at tokens) → GivesSentence result sentence
+  given : (tokens : List Tok) (result : Result A SyntaxError) (sentence : A) → sentence_at tokens ≡ Some sentence → GivesPhrase (λ (x : A). x) result (sentence_at tokens) → GivesSentence result sentence
   given tokens (Ok read) sentence is e = some_is read sentence (sym e ∙ is)
   given tokens (Err error.Bad) sentence is e = let k = sym e ∙ is in absurd cc
   given tokens (Err error.NoMemory) sentence is e = tt
 
-  pub sentence_is_only : (text : List ℕ) (tokens : List Tok) (result : Result A SyntaxError) → ((others : List Tok) → IsTokens text others → others ≡ tokens) → Gives (λ (x : A). x) result (sentence_at tokens)
+  pub sentence_is_only : (text : List ℕ) (tokens : List Tok) (result : Result A SyntaxError) → ((others : List Tok) → IsTokens text others → others ≡ tokens) → GivesPhrase (λ (x : A). x) result (sentence_at tokens)
       → (sentence : A) → IsText text sentence → GivesSentence result sentence
   sentence_is_only text tokens result only e sentence h =
       let same = only h.0 h.1 in

@@ -8,9 +8,9 @@ use Rattle.std.proofs.lemmas.Slice.Eq.{bytes_eq-Decides}
 use Rattle.mt_types.specs.declared.ty.Agg.{Agg}
 use Rattle.mt_tokens.specs.declared.sign.Sign.{Sign}
 use Rattle.mt_tokens.specs.Tokens.{Tok, Word, Quoted, Text, Digits, OfSign}
-use Rattle.mt_tokens.specs.Words.{rank, is_same_in_any_case, is_keyword, is_word, is_sign, name_of}
+use Rattle.mt_tokens.specs.Words.{sign_rank, is_same_in_any_case, is_keyword, is_word, is_sign, name_of}
 use Rattle.mt_phrases.specs.Phrases.{Phrase, One, ◌▹◌, Maybe, OneEach, Perhaps, first_is, second_is}
-use Rattle.mt_phrases.specs.Terminals.{is_number, is_text, number_in, text_in, tree_if, agg_of}
+use Rattle.mt_phrases.specs.Terminals.{is_number, is_text, number_in_token, text_in_token, tree_if, agg_of}
 use Rattle.mt_phrases.proofs.PhraseLaws.{Not}
 
 -- no token passes both tests
@@ -37,12 +37,12 @@ words_apart a b differ (Text w) e = absurd cc
 words_apart a b differ (Digits w) e = absurd cc
 words_apart a b differ (OfSign s) e = absurd cc
 
-pub signs_apart : (a b : Sign) → (rank a == rank b) ≡ false → Apart (is_sign a) (is_sign b)
+pub signs_apart : (a b : Sign) → (sign_rank a == sign_rank b) ≡ false → Apart (is_sign a) (is_sign b)
 signs_apart a b differ (Word w) e = absurd cc
 signs_apart a b differ (Quoted w) e = absurd cc
 signs_apart a b differ (Text w) e = absurd cc
 signs_apart a b differ (Digits w) e = absurd cc
-signs_apart a b differ (OfSign s) e = rw (eqb-true (rank s) (rank a) e) differ
+signs_apart a b differ (OfSign s) e = rw (eqb-true (sign_rank s) (sign_rank a) e) differ
 
 pub key_no_sign : (a : List ℕ) (b : Sign) → Apart (is_keyword a) (is_sign b)
 key_no_sign a b (Word w) e = refl
@@ -79,21 +79,21 @@ name_no_sign b (Text w) tree e = refl
 name_no_sign b (Digits w) tree e = refl
 name_no_sign b (OfSign s) tree e = absurd cc
 
-pub number_is : (token : Tok) (tree : ℕ) → number_in token ≡ Some tree → is_number token ≡ true
+pub number_is : (token : Tok) (tree : ℕ) → number_in_token token ≡ Some tree → is_number token ≡ true
 number_is (Word w) tree e = absurd cc
 number_is (Quoted w) tree e = absurd cc
 number_is (Text w) tree e = absurd cc
 number_is (Digits w) tree e = refl
 number_is (OfSign s) tree e = absurd cc
 
-pub text_is : (token : Tok) (tree : List ℕ) → text_in token ≡ Some tree → is_text token ≡ true
+pub text_is : (token : Tok) (tree : List ℕ) → text_in_token token ≡ Some tree → is_text token ≡ true
 text_is (Word w) tree e = absurd cc
 text_is (Quoted w) tree e = absurd cc
 text_is (Text w) tree e = refl
 text_is (Digits w) tree e = absurd cc
 text_is (OfSign s) tree e = absurd cc
 
-pub text_no_number : Lacks text_in is_number
+pub text_no_number : Lacks text_in_token is_number
 text_no_number (Word w) tree e = absurd cc
 text_no_number (Quoted w) tree e = absurd cc
 text_no_number (Text w) tree e = refl

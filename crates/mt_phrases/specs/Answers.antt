@@ -15,6 +15,6 @@ Fails Bad read = read ≡ None
 Fails NoMemory read = Unit {0}
 
 -- what was returned, as it is seen, is what reading gives, unless memory was refused
-abbrev pub Gives : {X Y : Type 0} → (X → Y) → Result X SyntaxError → Option Y → Type 0
-Gives view (Ok x) read = read ≡ Some (view x)
-Gives view (Err error) read = Fails error read
+abbrev pub GivesPhrase : {X Y : Type 0} → (X → Y) → Result X SyntaxError → Option Y → Type 0
+GivesPhrase view (Ok x) read = read ≡ Some (view x)
+GivesPhrase view (Err error) read = Fails error read

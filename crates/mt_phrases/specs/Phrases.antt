@@ -4,7 +4,7 @@ use Rattle.std.specs.Prelude.{◌≡◌, ◌⊎◌, ℕ, List, [], ◌∷◌, Op
 use Rattle.mt_tokens.specs.declared.sign.Sign.TheVariants.{Open, Close, Comma}
 use Rattle.mt_tokens.specs.Tokens.{Tok}
 use Rattle.mt_tokens.specs.Words.{is_sign}
-use Rattle.mt_phrases.specs.Terminals.{number_in, text_in}
+use Rattle.mt_phrases.specs.Terminals.{number_in_token, text_in_token}
 
 infixr 60 ◌▹◌
 infixl 50 ◌◃◌
@@ -108,8 +108,8 @@ InParens P = is_sign Open ▹ (P ◃ is_sign Close)
 
 -- a number below 2^64
 abbrev pub IsNumber : Phrase ℕ
-IsNumber = One number_in
+IsNumber = One number_in_token
 
 -- a text in quotes, by the bytes that it stands for
 abbrev pub IsText : Phrase (List ℕ)
-IsText = One text_in
+IsText = One text_in_token

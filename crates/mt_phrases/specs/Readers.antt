@@ -4,7 +4,7 @@ use Rattle.mt_tokens.specs.Tokens.{Tok}
 use Rattle.mt_tokens.specs.Splits.{after_if}
 use Rattle.mt_tokens.specs.declared.sign.Sign.TheVariants.{Open, Close, Comma}
 use Rattle.mt_tokens.specs.Words.{is_sign}
-use Rattle.mt_phrases.specs.Terminals.{number_in, text_in}
+use Rattle.mt_phrases.specs.Terminals.{number_in_token, text_in_token}
 
 -- the tree at the front, and what follows it
 abbrev pub Reader : Type 0 → Type 0
@@ -99,13 +99,13 @@ in_parens p = after (is_sign Open) (to_close p)
 
 -- a number
 abbrev pub number_at : Reader ℕ
-number_at = one number_in
+number_at = one number_in_token
 
 -- a text, by the bytes that it stands for
-abbrev pub text_at : Reader (List ℕ)
-text_at = one text_in
+abbrev pub text_token_at : Reader (List ℕ)
+text_token_at = one text_in_token
 
 -- the tree, where no token is left
-abbrev pub whole : {A : Type 0} → A → List Tok → Option A
-whole tree [] = Some tree
-whole tree (token ∷ tokens) = None
+abbrev pub whole_tree : {A : Type 0} → A → List Tok → Option A
+whole_tree tree [] = Some tree
+whole_tree tree (token ∷ tokens) = None

@@ -22,9 +22,9 @@ is_number (Digits digits) = true
 is_number _ = false
 
 -- the number that a token is, below 2^64
-abbrev pub number_in : Tok → Option ℕ
-number_in (Digits digits) = number_of digits
-number_in _ = None
+abbrev pub number_in_token : Tok → Option ℕ
+number_in_token (Digits digits) = number_of digits
+number_in_token _ = None
 
 -- a token is a text in quotes
 abbrev pub is_text : Tok → Bool
@@ -32,9 +32,9 @@ is_text (Text text) = true
 is_text _ = false
 
 -- the bytes that a text in quotes stands for
-abbrev pub text_in : Tok → Option (List ℕ)
-text_in (Text text) = Some (unescaped text)
-text_in _ = None
+abbrev pub text_in_token : Tok → Option (List ℕ)
+text_in_token (Text text) = Some (unescaped text)
+text_in_token _ = None
 
 -- the tree, where a token passes
 abbrev pub tree_if : {A : Type 0} → (test : Tok → Bool) → (tree : A) → Tok → Option A

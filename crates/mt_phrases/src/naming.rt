@@ -3,10 +3,10 @@
 ghost use Rattle.std.specs.Prelude.{◌≡◌, [], ◌∷◌};
 ghost use Rattle.std.specs.Option.{option_copied};
 ghost use Rattle.mt_tokens.specs.declared.sign.Sign.TheVariants.{Dot};
-ghost use Rattle.mt_tokens.specs.Tokens.{plain, plains};
+ghost use Rattle.mt_tokens.specs.Tokens.{as_read, plains};
 ghost use Rattle.mt_tokens.specs.Words.{is_sign};
 ghost use Rattle.mt_tokens.specs.Splits.{after_if};
-ghost use Rattle.mt_phrases.specs.Answers.{Gives};
+ghost use Rattle.mt_phrases.specs.Answers.{GivesPhrase};
 ghost use Rattle.mt_phrases.specs.NameRules as defined;
 ghost use Rattle.mt_phrases.specs.Phrases.{second_is};
 ghost use Rattle.mt_phrases.specs.Readers.{chain, one, skip_if};
@@ -29,7 +29,7 @@ pub enum NameRule {
 
 /// Whether the token is a word that a query's clauses begin with.
 fn is_clause_word(token: Token<'_>) -> bool
-    ensures { result ≡ defined.is_clause_word (plain token.entry) }
+    ensures { result ≡ defined.is_clause_word (as_read token.entry) }
 {
     is_keyword(token, b"SELECT")
         || is_keyword(token, b"FROM")
@@ -41,7 +41,7 @@ fn is_clause_word(token: Token<'_>) -> bool
 
 /// Whether the token is a word that a condition has between its names and literals.
 fn is_cond_word(token: Token<'_>) -> bool
-    ensures { result ≡ defined.is_cond_word (plain token.entry) }
+    ensures { result ≡ defined.is_cond_word (as_read token.entry) }
 {
     is_keyword(token, b"AND")
         || is_keyword(token, b"OR")
@@ -53,7 +53,7 @@ fn is_cond_word(token: Token<'_>) -> bool
 
 /// The name that the token is in a query.
 fn name_in<'a>(token: Token<'a>) -> Option<&'a [u8]>
-    ensures { option_copied result ≡ defined.name_in (plain token.entry) }
+    ensures { option_copied result ≡ defined.name_in (as_read token.entry) }
 {
     if is_clause_word(token) {
         return None;
@@ -66,7 +66,7 @@ fn name_in<'a>(token: Token<'a>) -> Option<&'a [u8]>
 
 /// The name that the token is.
 fn name_by<'a>(rule: NameRule, token: Token<'a>) -> Option<&'a [u8]>
-    ensures { option_copied result ≡ defined.name_by rule (plain token.entry) }
+    ensures { option_copied result ≡ defined.name_by rule (as_read token.entry) }
 {
     match rule {
         NameRule::Any => name_of(token),
@@ -80,7 +80,7 @@ pub fn name<'a, 't>(
     alloc: Global,
     tokens: &'t [Token<'a>],
 ) -> Result<(List<u8>, &'t [Token<'a>]), SyntaxError>
-    ensures { Gives (λ x. (x.0, plains x.1.now)) result (one (defined.name_by rule) (plains tokens.now)) }
+    ensures { GivesPhrase (λ x. (x.0, plains x.1.now)) result (one (defined.name_by rule) (plains tokens.now)) }
 {
     let Some((first, rest)) = split_first(tokens) else {
         return Err(SyntaxError::Bad);
@@ -96,7 +96,7 @@ pub fn any_name<'a, 't>(
     rule: NameRule,
     tokens: &'t [Token<'a>],
 ) -> Result<&'t [Token<'a>], SyntaxError>
-    ensures { Gives (λ x. plains x.now) result (after_if (defined.is_name_by rule) (plains tokens.now)) }
+    ensures { GivesPhrase (λ x. plains x.now) result (after_if (defined.is_name_by rule) (plains tokens.now)) }
 {
     let Some((first, rest)) = split_first(tokens) else {
         return Err(SyntaxError::Bad);
@@ -113,7 +113,7 @@ pub fn names<'a, 't>(
     alloc: Global,
     tokens: &'t [Token<'a>],
 ) -> Result<(List<List<u8>>, &'t [Token<'a>]), SyntaxError>
-    ensures { Gives (λ x. (x.0, plains x.1.now)) result (chain (one (defined.name_by rule)) (plains tokens.now)) }
+    ensures { GivesPhrase (λ x. (x.0, plains x.1.now)) result (chain (one (defined.name_by rule)) (plains tokens.now)) }
 {
     let (first, mut rest) = name(rule, alloc, tokens)?;
     let mut names = List::new(alloc);
@@ -134,7 +134,7 @@ pub fn skip_database<'a, 't>(
     rule: NameRule,
     tokens: &'t [Token<'a>],
 ) -> Result<&'t [Token<'a>], SyntaxError>
-    ensures { Gives (λ x. plains x.now) result
+    ensures { GivesPhrase (λ x. plains x.now) result
         (skip_if (second_is (is_sign Dot)) (defined.is_name_by rule ∷ is_sign Dot ∷ []) (plains tokens.now)) }
 {
     if !second_is_sign(tokens, Sign::Dot) {

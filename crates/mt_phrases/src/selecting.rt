@@ -1,7 +1,7 @@
 //! What is selected, read: `*`, or items.
 
 ghost use Rattle.mt_tokens.specs.Tokens.{plains};
-ghost use Rattle.mt_phrases.specs.Answers.{Gives};
+ghost use Rattle.mt_phrases.specs.Answers.{GivesPhrase};
 ghost use Rattle.mt_phrases.specs.NameRules.{name_by};
 ghost use Rattle.mt_phrases.specs.Readers.{chain};
 ghost use Rattle.mt_phrases.specs.Selections.{aggregate_at, item_at, selects_at};
@@ -21,7 +21,7 @@ fn aggregate<'a, 't>(
     alloc: Global,
     tokens: &'t [Token<'a>],
 ) -> Result<(Selection, &'t [Token<'a>]), SyntaxError>
-    ensures { Gives (λ x. (x.0, plains x.1.now)) result (aggregate_at (name_by rule) (plains tokens.now)) }
+    ensures { GivesPhrase (λ x. (x.0, plains x.1.now)) result (aggregate_at (name_by rule) (plains tokens.now)) }
 {
     let (agg, rest) = agg(tokens)?;
     let rest = sign(rest, Sign::Open)?;
@@ -37,7 +37,7 @@ fn item<'a, 't>(
     alloc: Global,
     tokens: &'t [Token<'a>],
 ) -> Result<(Selection, &'t [Token<'a>]), SyntaxError>
-    ensures { Gives (λ x. (x.0, plains x.1.now)) result (item_at (name_by rule) (plains tokens.now)) }
+    ensures { GivesPhrase (λ x. (x.0, plains x.1.now)) result (item_at (name_by rule) (plains tokens.now)) }
 {
     if second_is_sign(tokens, Sign::Open) {
         if begins_with_keyword(tokens, b"count") {
@@ -55,7 +55,7 @@ fn items<'a, 't>(
     alloc: Global,
     tokens: &'t [Token<'a>],
 ) -> Result<(List<Selection>, &'t [Token<'a>]), SyntaxError>
-    ensures { Gives (λ x. (x.0, plains x.1.now)) result (chain (item_at (name_by rule)) (plains tokens.now)) }
+    ensures { GivesPhrase (λ x. (x.0, plains x.1.now)) result (chain (item_at (name_by rule)) (plains tokens.now)) }
 {
     let (first, mut rest) = item(rule, alloc, tokens)?;
     let mut items = List::new(alloc);
@@ -77,7 +77,7 @@ pub fn selects<'a, 't>(
     alloc: Global,
     tokens: &'t [Token<'a>],
 ) -> Result<(Selected, &'t [Token<'a>]), SyntaxError>
-    ensures { Gives (λ x. (x.0, plains x.1.now)) result (selects_at (name_by rule) (plains tokens.now)) }
+    ensures { GivesPhrase (λ x. (x.0, plains x.1.now)) result (selects_at (name_by rule) (plains tokens.now)) }
 {
     if begins_with_sign(tokens, Sign::Star) {
         let rest = sign(tokens, Sign::Star)?;

@@ -1,7 +1,7 @@
 //! What is selected, by a projection or a query.
 
 ghost use Rattle.mt_tokens.specs.Tokens.{plains};
-ghost use Rattle.mt_phrases.specs.Answers.{Gives};
+ghost use Rattle.mt_phrases.specs.Answers.{GivesPhrase};
 ghost use Rattle.mt_phrases.specs.Readers.{one};
 ghost use Rattle.mt_phrases.specs.Selections.{count_at};
 ghost use Rattle.mt_phrases.specs.Terminals.{agg_of};
@@ -33,7 +33,7 @@ pub enum Selection {
 
 /// `count()`.
 pub fn count<'a, 't>(tokens: &'t [Token<'a>]) -> Result<(Selection, &'t [Token<'a>]), SyntaxError>
-    ensures { Gives (λ x. (x.0, plains x.1.now)) result (count_at (plains tokens.now)) }
+    ensures { GivesPhrase (λ x. (x.0, plains x.1.now)) result (count_at (plains tokens.now)) }
 {
     let rest = keyword(tokens, b"count")?;
     let rest = sign(rest, Sign::Open)?;
@@ -43,7 +43,7 @@ pub fn count<'a, 't>(tokens: &'t [Token<'a>]) -> Result<(Selection, &'t [Token<'
 
 /// The name of an aggregate function.
 pub fn agg<'a, 't>(tokens: &'t [Token<'a>]) -> Result<(Agg, &'t [Token<'a>]), SyntaxError>
-    ensures { Gives (λ x. (x.0, plains x.1.now)) result (one agg_of (plains tokens.now)) }
+    ensures { GivesPhrase (λ x. (x.0, plains x.1.now)) result (one agg_of (plains tokens.now)) }
 {
     let Some((first, rest)) = split_first(tokens) else {
         return Err(SyntaxError::Bad);

@@ -5,8 +5,8 @@ ghost use Rattle.mt_tokens.specs.declared.sign.Sign.TheVariants.{Semicolon};
 ghost use Rattle.mt_tokens.specs.Tokens.{plains};
 ghost use Rattle.mt_tokens.specs.Splits.{after_if};
 ghost use Rattle.mt_tokens.specs.Words.{is_keyword, is_word, is_sign};
-ghost use Rattle.mt_phrases.specs.Answers.{Gives};
-ghost use Rattle.mt_phrases.specs.Readers.{number_at, skip, text_at};
+ghost use Rattle.mt_phrases.specs.Answers.{GivesPhrase};
+ghost use Rattle.mt_phrases.specs.Readers.{number_at, skip, text_token_at};
 
 use crate::error::SyntaxError;
 use mt_tokens::{
@@ -17,7 +17,7 @@ use std::alloc::Global;
 
 /// The number below 2^64 at the front, and what follows it.
 pub fn number<'a, 't>(tokens: &'t [Token<'a>]) -> Result<(u64, &'t [Token<'a>]), SyntaxError>
-    ensures { Gives (λ x. (x.0, plains x.1.now)) result (number_at (plains tokens.now)) }
+    ensures { GivesPhrase (λ x. (x.0, plains x.1.now)) result (number_at (plains tokens.now)) }
 {
     match split_first(tokens) {
         Some((Token::Digits(digits), rest)) => match number_of(digits) {
@@ -33,7 +33,7 @@ pub fn text<'a, 't>(
     alloc: Global,
     tokens: &'t [Token<'a>],
 ) -> Result<(List<u8>, &'t [Token<'a>]), SyntaxError>
-    ensures { Gives (λ x. (x.0, plains x.1.now)) result (text_at (plains tokens.now)) }
+    ensures { GivesPhrase (λ x. (x.0, plains x.1.now)) result (text_token_at (plains tokens.now)) }
 {
     match split_first(tokens) {
         Some((Token::Text(text), rest)) => Ok((unescaped(alloc, text)?, rest)),
@@ -43,7 +43,7 @@ pub fn text<'a, 't>(
 
 /// What follows the keyword.
 pub fn keyword<'a, 't>(tokens: &'t [Token<'a>], key: &[u8]) -> Result<&'t [Token<'a>], SyntaxError>
-    ensures { Gives (λ x. plains x.now) result (after_if (is_keyword key.now) (plains tokens.now)) }
+    ensures { GivesPhrase (λ x. plains x.now) result (after_if (is_keyword key.now) (plains tokens.now)) }
 {
     match after_keyword(tokens, key) {
         Some(rest) => Ok(rest),
@@ -56,7 +56,7 @@ pub fn fixed_word<'a, 't>(
     tokens: &'t [Token<'a>],
     fixed: &[u8],
 ) -> Result<&'t [Token<'a>], SyntaxError>
-    ensures { Gives (λ x. plains x.now) result (after_if (is_word fixed.now) (plains tokens.now)) }
+    ensures { GivesPhrase (λ x. plains x.now) result (after_if (is_word fixed.now) (plains tokens.now)) }
 {
     match after_word(tokens, fixed) {
         Some(rest) => Ok(rest),
@@ -66,7 +66,7 @@ pub fn fixed_word<'a, 't>(
 
 /// What follows the sign.
 pub fn sign<'a, 't>(tokens: &'t [Token<'a>], sign: Sign) -> Result<&'t [Token<'a>], SyntaxError>
-    ensures { Gives (λ x. plains x.now) result (after_if (is_sign sign) (plains tokens.now)) }
+    ensures { GivesPhrase (λ x. plains x.now) result (after_if (is_sign sign) (plains tokens.now)) }
 {
     match after_sign(tokens, sign) {
         Some(rest) => Ok(rest),
@@ -76,7 +76,7 @@ pub fn sign<'a, 't>(tokens: &'t [Token<'a>], sign: Sign) -> Result<&'t [Token<'a
 
 /// What follows `;`, where it is given.
 pub fn skip_semicolon<'a, 't>(tokens: &'t [Token<'a>]) -> Result<&'t [Token<'a>], SyntaxError>
-    ensures { Gives (λ x. plains x.now) result (skip (is_sign Semicolon) [] (plains tokens.now)) }
+    ensures { GivesPhrase (λ x. plains x.now) result (skip (is_sign Semicolon) [] (plains tokens.now)) }
 {
     match after_sign(tokens, Sign::Semicolon) {
         Some(after) => Ok(after),

@@ -8,7 +8,7 @@ use Rattle.mt_defs.specs.Rows.{Row}
 use Rattle.mt_defs.specs.Metadata.{columns_text}
 use Rattle.mt_defs.specs.PrimaryIndex.{index_rows}
 use Rattle.mt_defs.specs.WrittenColumns.{file}
-use Rattle.mt_plain.specs.NumberRows.{items_of, text_files}
+use Rattle.mt_plain.specs.NumberRows.{items_of_column, plain_text_files}
 use Rattle.mt_plain.proofs.IndexLemmas.{primary_is}
 
 -- three appends are one
@@ -19,9 +19,9 @@ three_files before one two f g h p q =
 -- what the program appends of them
 pub texts_are : (table : Table) (rows : List Row) (first second columns count index granules : List ℕ) (key : ℕ) (before one two : List FileBytes) → IsNumbersTable table
     → table.columns ≡ uint64_column first ∷ uint64_column second ∷ [] → table.sort ≡ key ∷ []
-    → columns ≡ columns_text (uint64_column first ∷ uint64_column second ∷ []) → count ≡ decimal (length rows) → index ≡ items_of key (index_rows rows granules)
+    → columns ≡ columns_text (uint64_column first ∷ uint64_column second ∷ []) → count ≡ decimal (length rows) → index ≡ items_of_column key (index_rows rows granules)
     → one ≡ before ++ file (codes "columns.txt") columns ∷ [] → two ≡ one ++ file (codes "count.txt") count ∷ []
-    → two ++ file (codes "primary.idx") index ∷ [] ≡ before ++ text_files table rows granules
+    → two ++ file (codes "primary.idx") index ∷ [] ≡ before ++ plain_text_files table rows granules
 texts_are table rows first second columns count index granules key before one two form cols sorted columns_is count_is index_is p q =
     three_files before one two _ _ _ p q
     ∙ ap (λ b. before ++ (file (codes "columns.txt") b ∷ file (codes "count.txt") count ∷ file (codes "primary.idx") index ∷ [])) (columns_is ∙ ap columns_text (sym cols))

@@ -12,7 +12,7 @@ use Rattle.mt_defs.specs.Rows.{Row, cell}
 use Rattle.mt_defs.specs.Granules.{granule_rows}
 use Rattle.mt_defs.specs.PrimaryIndex.{key_bytes, index_rows, primary_index_of}
 use Rattle.mt_defs.specs.Projections.{base_of}
-use Rattle.mt_plain.specs.NumberRows.{AreNumberRows, HasNumbers, items_of}
+use Rattle.mt_plain.specs.NumberRows.{AreNumberRows, HasNumbers, items_of_column}
 use Rattle.mt_plain.proofs.ItemLemmas.{first_numbers, second_numbers, items_append}
 
 -- ---- the first row of each granule
@@ -21,15 +21,15 @@ abbrev pub first_rows : List ℕ → List Row → List Row
 first_rows granules rows = flat_map (take 1) (granule_rows granules rows)
 
 pub first_step : (k : ℕ) (bytes new all granules later : List ℕ) (count n : ℕ) (rest granule first after : List Row) → granules ≡ count ∷ later → granule ≡ take count rest → after ≡ drop count rest
-    → n ≡ min (length granule) 1 → first ≡ take n granule → new ≡ bytes ++ items_of k first
-    → bytes ++ items_of k (first_rows granules rest) ≡ all → new ++ items_of k (first_rows later after) ≡ all
+    → n ≡ min (length granule) 1 → first ≡ take n granule → new ≡ bytes ++ items_of_column k first
+    → bytes ++ items_of_column k (first_rows granules rest) ≡ all → new ++ items_of_column k (first_rows later after) ≡ all
 first_step k bytes new all granules later count n rest granule first after here front back least one push ahead =
     let head : first ≡ take 1 (take count rest) = one ∙ ap (λ m. take m granule) (least ∙ min_comm (length granule) 1) ∙ take_min 1 granule ∙ ap (take 1) front in
-    ap (λ l. l ++ items_of k (first_rows later after)) (push ∙ ap (λ f. bytes ++ items_of k f) head)
-    ∙ append_assoc bytes (items_of k (take 1 (take count rest))) (items_of k (first_rows later after))
-    ∙ ap (λ a. bytes ++ (items_of k (take 1 (take count rest)) ++ items_of k (first_rows later a))) back
+    ap (λ l. l ++ items_of_column k (first_rows later after)) (push ∙ ap (λ f. bytes ++ items_of_column k f) head)
+    ∙ append_assoc bytes (items_of_column k (take 1 (take count rest))) (items_of_column k (first_rows later after))
+    ∙ ap (λ a. bytes ++ (items_of_column k (take 1 (take count rest)) ++ items_of_column k (first_rows later a))) back
     ∙ ap (λ l. bytes ++ l) (sym (items_append k (take 1 (take count rest)) (first_rows later (drop count rest))))
-    ∙ ap (λ g. bytes ++ items_of k (first_rows g rest)) (sym here) ∙ ahead
+    ∙ ap (λ g. bytes ++ items_of_column k (first_rows g rest)) (sym here) ∙ ahead
 
 -- ---- the definition's keys
 
@@ -38,7 +38,7 @@ key_is first second zero row inside = append-nil (item_bytes (UInt W64) (cell ro
 key_is first second (suc zero) row inside = append-nil (item_bytes (UInt W64) (cell row 1))
 key_is first second (suc (suc place)) row inside = absurd (omega (arith, inside))
 
-keys_are : (first second : List ℕ) (place : ℕ) (rows : List Row) → place < 2 → flat_map (key_bytes (uint64_column first ∷ uint64_column second ∷ []) (place ∷ [])) rows ≡ items_of place rows
+keys_are : (first second : List ℕ) (place : ℕ) (rows : List Row) → place < 2 → flat_map (key_bytes (uint64_column first ∷ uint64_column second ∷ []) (place ∷ [])) rows ≡ items_of_column place rows
 keys_are first second place [] inside = refl
 keys_are first second place (row ∷ rows) inside =
     ap (λ l. l ++ flat_map (key_bytes (uint64_column first ∷ uint64_column second ∷ []) (place ∷ [])) rows) (key_is first second place row inside)
@@ -51,9 +51,9 @@ pub key_place : (table : Table) (form : IsNumbersTable table) (k : ℕ) → tabl
 key_place table form k sorted = one_key k form.place (sym (ap (λ t. t.sort) form.is) ∙ sorted)
 
 -- the keys of the index are the definition's
-pub primary_is : (table : Table) (k : ℕ) (rows : List Row) (granules : List ℕ) → IsNumbersTable table → table.sort ≡ k ∷ [] → items_of k (index_rows rows granules) ≡ primary_index_of (base_of table) rows granules
+pub primary_is : (table : Table) (k : ℕ) (rows : List Row) (granules : List ℕ) → IsNumbersTable table → table.sort ≡ k ∷ [] → items_of_column k (index_rows rows granules) ≡ primary_index_of (base_of table) rows granules
 primary_is table k rows granules form sorted =
-    ap (λ i. items_of i (index_rows rows granules)) (sym (key_place table form k sorted))
+    ap (λ i. items_of_column i (index_rows rows granules)) (sym (key_place table form k sorted))
     ∙ sym (keys_are form.first form.second form.place (index_rows rows granules) form.in_columns)
     ∙ sym (ap (λ t. primary_index_of (base_of t) rows granules) form.is)
 

@@ -9,7 +9,7 @@ use Rattle.mt_types.specs.Items.{item_bytes}
 use Rattle.mt_table.specs.declared.definition.Table.{Table}
 use Rattle.mt_table.specs.Form.{IsNumbersTable, uint64_column}
 use Rattle.mt_defs.specs.Rows.{Row, RowFits, cell}
-use Rattle.mt_plain.specs.NumberRows.{AreNumberRows, HasNumbers, items_of}
+use Rattle.mt_plain.specs.NumberRows.{AreNumberRows, HasNumbers, items_of_column}
 
 -- ---- which rows have numbers
 
@@ -46,8 +46,8 @@ numbers_dropped k rows some n are is = subst (HasNumbers k) (sym is) (All-drop (
 
 -- ---- the items of some rows and of others
 
-pub items_append : (k : ℕ) (some others : List Row) → items_of k (some ++ others) ≡ items_of k some ++ items_of k others
+pub items_append : (k : ℕ) (some others : List Row) → items_of_column k (some ++ others) ≡ items_of_column k some ++ items_of_column k others
 items_append k [] others = refl
 items_append k (row ∷ some) others =
     ap (λ rest. item_bytes (UInt W64) (cell row k) ++ rest) (items_append k some others)
-    ∙ sym (append_assoc (item_bytes (UInt W64) (cell row k)) (items_of k some) (items_of k others))
+    ∙ sym (append_assoc (item_bytes (UInt W64) (cell row k)) (items_of_column k some) (items_of_column k others))

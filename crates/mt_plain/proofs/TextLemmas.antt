@@ -3,17 +3,9 @@ use Rattle.std.proofs.Common.{◌≡◌, ℕ, List, [], ◌∷◌, ◌++◌, ref
 use Rattle.std.specs.Prelude.{codes}
 use Rattle.std.specs.Fmt.{digits}
 use Rattle.std.proofs.lemmas.List.{append-nil}
-use Rattle.mt_types.specs.declared.ty.Ty.{Ty, map-Ty}
-use Rattle.mt_types.specs.declared.ty.Ty.TheVariants.{UInt, outs-UInt}
-use Rattle.mt_types.specs.declared.ty.Ty.TheFolds.{fold_out-Ty}
-use Rattle.mt_types.specs.declared.ty.Width.TheVariants.{W64}
-use Rattle.mt_types.specs.Names.{type_name, name_step}
 use Rattle.mt_table.specs.Form.{uint64_column}
 use Rattle.mt_defs.specs.Metadata.{column_line, columns_text}
-
-name_u64 : type_name (UInt W64) ≡ codes "UInt64"
-unfolding digits
-name_u64 = fold_out-Ty (List ℕ) name_step (UInt W64) ∙ ap (λ l. name_step (map-Ty Ty (List ℕ) type_name l)) (outs-UInt W64)
+use Rattle.mt_defs.proofs.Examples.{name_u64}
 
 line_is : (name : List ℕ) → column_line (uint64_column name) ≡ codes "`" ++ (name ++ codes "` UInt64\n")
 line_is name =

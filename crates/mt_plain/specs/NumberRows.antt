@@ -28,12 +28,12 @@ abbrev pub HasNumbers : ℕ → List Row → Type 0
 HasNumbers column_index rows = All (λ row. IsTrue (fits_of (UInt W64) (cell row column_index))) rows
 
 -- the items of a column in some rows, one after another
-abbrev pub items_of : ℕ → List Row → List ℕ
-items_of column_index rows = flat_map (item_bytes (UInt W64)) (column_values column_index rows)
+abbrev pub items_of_column : ℕ → List Row → List ℕ
+items_of_column column_index rows = flat_map (item_bytes (UInt W64)) (column_values column_index rows)
 
 -- the payload of some rows: that of the first column, and then that of the second
-abbrev pub payload_of : List Row → List ℕ
-payload_of rows = items_of 0 rows ++ items_of 1 rows
+abbrev pub rows_payload : List Row → List ℕ
+rows_payload rows = items_of_column 0 rows ++ items_of_column 1 rows
 
 -- the first granule of some rows has so many of them
 pub record IsFirstGranule (table : Table) (rows : List Row) (count : ℕ) : Type 0 where
@@ -43,24 +43,24 @@ pub record IsFirstGranule (table : Table) (rows : List Row) (count : ℕ) : Type
 
 -- the frames of a column in the rows of a granule
 abbrev pub granule_frames : ℕ → List Row → List ℕ
-granule_frames column_index rows = written_frames (items_of column_index rows)
+granule_frames column_index rows = written_frames (items_of_column column_index rows)
 
 -- the data file of a column
-abbrev pub data_of : ℕ → List ℕ → List Row → List ℕ
-data_of column_index granules rows = concat (map (granule_frames column_index) (granule_rows granules rows))
+abbrev pub column_data : ℕ → List ℕ → List Row → List ℕ
+column_data column_index granules rows = concat (map (granule_frames column_index) (granule_rows granules rows))
 
 -- the entries of a column's marks file from a granule on, whose frames begin at an offset
-abbrev pub marks_from : ℕ → ℕ → List ℕ → List Row → List ℕ
-marks_from column_index offset [] rows = entry_bytes (mark_at offset ∷ []) 0
-marks_from column_index offset (count ∷ granules) rows =
-    entry_bytes (mark_at offset ∷ []) count ++ marks_from column_index (offset + length (granule_frames column_index (take count rows))) granules (drop count rows)
+abbrev pub column_marks_from : ℕ → ℕ → List ℕ → List Row → List ℕ
+column_marks_from column_index offset [] rows = entry_bytes (mark_at offset ∷ []) 0
+column_marks_from column_index offset (count ∷ granules) rows =
+    entry_bytes (mark_at offset ∷ []) count ++ column_marks_from column_index (offset + length (granule_frames column_index (take count rows))) granules (drop count rows)
 
 -- the two files of a column
 pub record IsStream (column_index : ℕ) (granules : List ℕ) (rows : List Row) (data_bytes marks_bytes : List ℕ) : Type 0 where
-  pub framed : data_bytes ≡ data_of column_index granules rows
-  pub marked : marks_bytes ≡ marks_from column_index 0 granules rows
+  pub framed : data_bytes ≡ column_data column_index granules rows
+  pub marked : marks_bytes ≡ column_marks_from column_index 0 granules rows
 
 -- columns.txt, count.txt and primary.idx
-abbrev pub text_files : Table → List Row → List ℕ → List FileBytes
-text_files table rows granules =
+abbrev pub plain_text_files : Table → List Row → List ℕ → List FileBytes
+plain_text_files table rows granules =
     file columns_name (columns_text table.columns) ∷ file count_name (decimal (length rows)) ∷ file index_name (primary_index_of (base_of table) rows granules) ∷ []

@@ -5,7 +5,7 @@ ghost use Rattle.mt_table.specs.Form.{IsNumbersTable, uint64_column};
 ghost use Rattle.mt_defs.specs.Rows.{RowFits};
 ghost use Rattle.mt_defs.specs.WrittenColumns.{wide_files};
 ghost use Rattle.mt_defs.specs.Writer.{written_folder};
-ghost use Rattle.mt_plain.specs.NumberRows.{AreNumberRows, text_files};
+ghost use Rattle.mt_plain.specs.NumberRows.{AreNumberRows, plain_text_files};
 
 use crate::columns::{append_column, append_file};
 use crate::granules::granules_of;
@@ -42,7 +42,7 @@ fn append_texts(
 ) -> Result<(), NoMemory>
     requires { AreNumberRows table.now rows.now }
     ensures { OnOk result (files.new.items ≡
-        files.old.items ++ text_files table.now rows.now granules.now) }
+        files.old.items ++ plain_text_files table.now rows.now granules.now) }
 {
     let (first, second) = names_of(table);
     let columns = columns_text(alloc, first, second)?;

@@ -3,7 +3,7 @@
 ghost use Rattle.std.specs.Prelude.{◌≡◌, ◌≢◌, [], ◌||◌, nat_le, IfOk};
 ghost use Rattle.mt_defs.specs.WrittenGranules.{written_granules};
 ghost use Rattle.mt_defs.specs.WrittenGranules as defined;
-ghost use Rattle.mt_plain.specs.NumberRows.{AreNumberRows, HasNumbers, IsFirstGranule, payload_of};
+ghost use Rattle.mt_plain.specs.NumberRows.{AreNumberRows, HasNumbers, IsFirstGranule, rows_payload};
 
 use crate::items::append_items;
 use mt_table::{Settings, Table};
@@ -64,7 +64,7 @@ fn fills(settings: &Settings, rows: u64, bytes: u64) -> bool
 fn payload_of(alloc: Global, rows: &[Row]) -> Result<List<u8>, NoMemory>
     requires first { HasNumbers 0 rows.now }
     requires second { HasNumbers 1 rows.now }
-    ensures { IfOk result (λ payload. payload ≡ payload_of rows.now) }
+    ensures { IfOk result (λ payload. payload ≡ rows_payload rows.now) }
 {
     let mut payload = List::new(alloc);
     append_items(0, rows, &mut payload)?;

@@ -4,7 +4,7 @@ ghost use Rattle.std.specs.Prelude.{◌≡◌, ◌++◌, take, IfOk, OnOk};
 ghost use Rattle.std.specs.List.{flat_map};
 ghost use Rattle.mt_defs.specs.Granules.{granule_rows};
 ghost use Rattle.mt_defs.specs.PrimaryIndex.{index_rows};
-ghost use Rattle.mt_plain.specs.NumberRows.{HasNumbers, items_of};
+ghost use Rattle.mt_plain.specs.NumberRows.{HasNumbers, items_of_column};
 
 use crate::items::append_items;
 use mt_types::{List, NoMemory, Row};
@@ -19,7 +19,7 @@ pub(crate) fn primary_index(
     granules: &[u64],
 ) -> Result<List<u8>, NoMemory>
     requires { HasNumbers key rows.now }
-    ensures { IfOk result (λ bytes. bytes ≡ items_of key (index_rows rows.now granules.now)) }
+    ensures { IfOk result (λ bytes. bytes ≡ items_of_column key (index_rows rows.now granules.now)) }
 {
     let mut bytes = List::new(alloc);
     append_first_keys(key, rows, granules, &mut bytes)?;
@@ -37,7 +37,7 @@ fn append_first_keys(
 ) -> Result<(), NoMemory>
     requires { HasNumbers key rows.now }
     ensures { OnOk result (out.new ≡
-        out.old ++ items_of key (flat_map (take 1) (granule_rows granules.now rows.now))) }
+        out.old ++ items_of_column key (flat_map (take 1) (granule_rows granules.now rows.now))) }
 {
     let mut rest = rows;
     for count in granules {

@@ -7,7 +7,7 @@ ghost use Rattle.mt_types.specs.declared.ty.Width.TheVariants.{W64};
 ghost use Rattle.mt_types.specs.Fits.{fits_of};
 ghost use Rattle.mt_types.specs.Items.{item_bytes};
 ghost use Rattle.mt_defs.specs.Rows.{cell};
-ghost use Rattle.mt_plain.specs.NumberRows.{HasNumbers, items_of};
+ghost use Rattle.mt_plain.specs.NumberRows.{HasNumbers, items_of_column};
 
 use mt_types::{List, NoMemory, Row, Value};
 
@@ -32,7 +32,7 @@ pub(crate) fn append_items(
     out: &mut List<u8>,
 ) -> Result<(), NoMemory>
     requires { HasNumbers column_index rows.now }
-    ensures { OnOk result (out.new ≡ out.old ++ items_of column_index rows.now) }
+    ensures { OnOk result (out.new ≡ out.old ++ items_of_column column_index rows.now) }
 {
     for row in rows {
         append_cell(column_index, row, out)?;

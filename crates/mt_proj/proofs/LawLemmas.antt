@@ -1,10 +1,11 @@
 -- What the writer stores in a projection stands for its rows.
-use Rattle.std.proofs.Common.{◌≡◌, ℕ, ◌+◌, ◌<◌, Bool, true, false, cond, not, ◌||◌, List, [], ◌∷◌, ◌++◌, length, map, take, get_or, refl, ap, sym, ◌∙◌, subst, inl, inr, add-one}
+use Rattle.std.proofs.Common.{◌≡◌, ℕ, ◌+◌, Bool, true, false, cond, not, ◌||◌, List, [], ◌∷◌, ◌++◌, length, map, take, get_or, refl, ap, sym, ◌∙◌, subst, inl, inr, add-one}
 use Rattle.std.specs.Prelude.{Some, filter}
 use Rattle.std.specs.List.{list_any}
 use Rattle.std.proofs.Math.Seq.{take-append_seam}
-use Rattle.std.proofs.lemmas.Bool.{cases_Bool}
-use Rattle.std.proofs.lemmas.List.{length-map, get_or-append-add, get_or_default}
+use Rattle.std.proofs.lemmas.Bool.{cases_Bool, not-true}
+use Rattle.std.proofs.lemmas.List.{length-map, get_or-append-add}
+use Rattle.mt_facts.proofs.Lists.{any_map, filter_drops, filter_keeps}
 use Rattle.mt_types.specs.declared.value.Value.{Value, out-Value}
 use Rattle.mt_types.specs.declared.value.Value.TheVariants.{State, Null, outs-State}
 use Rattle.mt_table.specs.declared.definition.Table.{Table}
@@ -12,15 +13,13 @@ use Rattle.mt_table.specs.declared.projection.Aggregate.{Aggregate}
 use Rattle.mt_table.specs.declared.projection.Projection.{Projection}
 use Rattle.mt_table.specs.declared.projection.Projection.TheVariants.{Normal, Grouped}
 use Rattle.mt_defs.specs.Rows.{Row, cell, key_of, key_cmp}
-use Rattle.mt_defs.specs.Folds.{state_of, number_of, fold_of, merge_of}
-use Rattle.mt_defs.specs.Projections.{FoldsRows, IsProjectionOf, is_same_key, is_same_aggregate, aggregate_index, stored_key, stored_state, state_at, stored_columns, inner_of}
+use Rattle.mt_defs.specs.Folds.{state_of, number_taken, fold_of, merge_of}
+use Rattle.mt_defs.specs.Projections.{FoldsRows, IsProjectionOf, is_same_key, is_same_aggregate, aggregate_index, stored_key, stored_state, state_of_value, stored_columns, inner_of}
 use Rattle.mt_defs.specs.Sorting.{sorted_rows}
 use Rattle.mt_defs.specs.Writer.{folded_row, projection_rows}
 use Rattle.mt_agg.proofs.FoldLemmas.{joins}
-use Rattle.mt_proj.specs.Keys.{projection_at, no_projection}
-use Rattle.mt_sort.proofs.StableLemmas.{keeps, drops}
 use Rattle.mt_sort.proofs.SortedLemmas.{IsPermutation-sorted_by}
-use Rattle.mt_sort.proofs.KeyLemmas.{one_key, none_kept, same_keys, any_map}
+use Rattle.mt_sort.proofs.KeyLemmas.{one_key, none_kept, same_keys}
 use Rattle.mt_proj.proofs.RunLemmas.{has_some, any_by_filter, of_key}
 use Rattle.mt_proj.proofs.GroupLemmas.{keys_met, is_other, filter_comm, row_of}
 use Rattle.mt_proj.proofs.StandLemmas.{of_key-sorted_by}
@@ -32,21 +31,17 @@ nothing_left : {X : Type 0} (p q : X → Bool) → ((x : X) → q x ≡ true →
 nothing_left p q apart [] = refl
 nothing_left p q apart (x ∷ xs) =
     elim (cases_Bool (q x)) [
-      | inl hit ↦ ap (filter p) (keeps q x xs hit) ∙ drops p x (filter q xs) (apart x hit) ∙ nothing_left p q apart xs
-      | inr miss ↦ ap (filter p) (drops q x xs miss) ∙ nothing_left p q apart xs
+      | inl hit ↦ ap (filter p) (filter_keeps q x xs hit) ∙ filter_drops p x (filter q xs) (apart x hit) ∙ nothing_left p q apart xs
+      | inr miss ↦ ap (filter p) (filter_drops q x xs miss) ∙ nothing_left p q apart xs
     ]
 
 all_left : {X : Type 0} (p q : X → Bool) → ((x : X) → p x ≡ true → q x ≡ true) → (xs : List X) → filter q (filter p xs) ≡ filter p xs
 all_left p q passes [] = refl
 all_left p q passes (x ∷ xs) =
     elim (cases_Bool (p x)) [
-      | inl hit ↦ ap (filter q) (keeps p x xs hit) ∙ keeps q x (filter p xs) (passes x hit) ∙ ap (λ l. x ∷ l) (all_left p q passes xs) ∙ sym (keeps p x xs hit)
-      | inr miss ↦ ap (filter q) (drops p x xs miss) ∙ all_left p q passes xs ∙ sym (drops p x xs miss)
+      | inl hit ↦ ap (filter q) (filter_keeps p x xs hit) ∙ filter_keeps q x (filter p xs) (passes x hit) ∙ ap (λ l. x ∷ l) (all_left p q passes xs) ∙ sym (filter_keeps p x xs hit)
+      | inr miss ↦ ap (filter q) (filter_drops p x xs miss) ∙ all_left p q passes xs ∙ sym (filter_drops p x xs miss)
     ]
-
-not_both_keys : (b : Bool) → not b ≡ true → b ≡ false
-not_both_keys true e = cc
-not_both_keys false e = refl
 
 abbrev once : Bool → List Value → List (List Value)
 once true j = j ∷ []
@@ -61,11 +56,11 @@ met_once j (k ∷ ks) =
     elim (cases_Bool (is_same_key j k)) [
       | inl same ↦
           let is : j ≡ k = one_key j k same in
-          let alone : filter p rest ≡ [] = nothing_left p (is_other k) (λ i e. ap (λ v. is_same_key v i) is ∙ not_both_keys (is_same_key k i) e) (keys_met ks) in
-          keeps p k rest same ∙ ap (λ l. k ∷ l) alone ∙ ap (λ v. v ∷ []) (sym is) ∙ sym (ap (λ b. once (b || list_any p ks) j) same)
+          let alone : filter p rest ≡ [] = nothing_left p (is_other k) (λ i e. ap (λ v. is_same_key v i) is ∙ not-true (is_same_key k i) e) (keys_met ks) in
+          filter_keeps p k rest same ∙ ap (λ l. k ∷ l) alone ∙ ap (λ v. v ∷ []) (sym is) ∙ sym (ap (λ b. once (b || list_any p ks) j) same)
       | inr other ↦
           let passes : (i : List Value) → p i ≡ true → is_other k i ≡ true = λ i e. ap not (ap (is_same_key k) (sym (one_key j i e)) ∙ same_keys.symm k j ∙ other) in
-          drops p k rest other ∙ filter_comm p (is_other k) (keys_met ks) ∙ all_left p (is_other k) passes (keys_met ks) ∙ met_once j ks ∙ sym (ap (λ b. once (b || list_any p ks) j) other)
+          filter_drops p k rest other ∙ filter_comm p (is_other k) (keys_met ks) ∙ all_left p (is_other k) passes (keys_met ks) ∙ met_once j ks ∙ sym (ap (λ b. once (b || list_any p ks) j) other)
     ]
 
 -- ---- keys of one length
@@ -109,7 +104,7 @@ state_there keys aggs a k rows long among =
     let i = aggregate_index aggs a in
     let at_place : get_or (k ++ map f aggs) (length keys + i) Null ≡ f a =
     ap (λ n. get_or (k ++ map f aggs) (n + i) Null) (sym long) ∙ get_or-append-add k (map f aggs) i Null ∙ aggregate_at f aggs a Null among in
-    ap (λ v. state_at (out-Value v)) at_place ∙ ap state_at (outs-State (fold_of rows a))
+    ap (λ v. state_of_value (out-Value v)) at_place ∙ ap state_of_value (outs-State (fold_of rows a))
 
 append_nothing : {X : Type 0} (xs : List X) → xs ++ [] ≡ xs
 append_nothing [] = refl
@@ -117,7 +112,7 @@ append_nothing (x ∷ xs) = ap (λ l. x ∷ l) (append_nothing xs)
 
 -- one state merges to itself
 merge_one : (a : Aggregate) (rows : List Row) → merge_of a (Some (fold_of rows a) ∷ []) ≡ Some (fold_of rows a)
-merge_one a rows = joins a (map (number_of a) rows) [] ∙ ap (λ ns. Some (state_of a ns)) (append_nothing (map (number_of a) rows))
+merge_one a rows = joins a (map (number_taken a) rows) [] ∙ ap (λ ns. Some (state_of a ns)) (append_nothing (map (number_taken a) rows))
 
 -- ---- a row for each key
 
@@ -180,8 +175,3 @@ module _ (keys : List ℕ) (aggs : List Aggregate) (name : List ℕ) (rows : Lis
 pub written_stand : (table : Table) (projection : Projection) (rows : List Row) → IsProjectionOf table projection rows (projection_rows table projection rows)
 written_stand table (Normal name columns sort) rows = IsPermutation-sorted_by (key_cmp (inner_of table (Normal name columns sort)).sort) (map (key_of (stored_columns table columns)) rows)
 written_stand table (Grouped name keys aggs) rows = grouped_stands keys aggs name rows
-
--- a projection that was read by its place
-pub read_at : (table : Table) (place : ℕ) (all : List Projection) (read projection : Projection) → place < length table.projections → all ≡ table.projections → read ≡ get_or all place read → read ≡ projection
-    → projection ≡ projection_at table place
-read_at table place all read projection inside all_are read_is is = sym is ∙ read_is ∙ ap (λ l. get_or l place read) all_are ∙ get_or_default table.projections place read no_projection inside

@@ -6,18 +6,19 @@ use Rattle.std.specs.Cmp.Lexicographic.{slice_cmp, lists_total}
 use Rattle.std.specs.FinMap.{slice_cmp-IsAntisymmetric}
 use Rattle.std.proofs.lemmas.Cmp.{eq_by_cmp_equiv}
 use Rattle.std.proofs.lemmas.List.Sorted.{IsPermutation-trans, IsPermutation-sym}
+use Rattle.mt_facts.proofs.Orderings.{equal_from}
 use Rattle.mt_types.specs.declared.value.Value.{Value}
 use Rattle.mt_types.specs.Order.{values_cmp}
 use Rattle.mt_types.specs.Ordered.{values_total, exact_lists}
 use Rattle.mt_defs.specs.Rows.{Row, key_of}
 use Rattle.mt_defs.specs.Sorting.{sorted_by}
 use Rattle.mt_sort.proofs.SortedLemmas.{IsPermutation-sorted_by, map-sorted_by}
-use Rattle.mt_sort.proofs.KeyLemmas.{equal_if, sorted_same}
+use Rattle.mt_sort.proofs.KeyLemmas.{sorted_same}
 use Rattle.mt_proj.proofs.RunLemmas.{by_key}
 
 -- lists of rows that tie are the same
 same_lists : (xs ys : List (List Value)) → is_eq (slice_cmp values_cmp xs ys) ≡ true → xs ≡ ys
-same_lists xs ys e = slice_cmp-IsAntisymmetric exact_lists xs ys (equal_if (slice_cmp values_cmp xs ys) e)
+same_lists xs ys e = slice_cmp-IsAntisymmetric exact_lists xs ys (equal_from (slice_cmp values_cmp xs ys) e)
 
 tied_self : (xs : List (List Value)) → is_eq (slice_cmp values_cmp xs xs) ≡ true
 tied_self xs = (eq_by_cmp_equiv (lists_total values_total)).refl xs

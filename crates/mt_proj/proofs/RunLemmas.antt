@@ -8,13 +8,15 @@ use Rattle.std.specs.declared.cmp.Ordering.TheVariants.{Less, Equal, Greater}
 use Rattle.std.specs.Cmp.{IsTotalOrder, IsEquivalence}
 use Rattle.std.proofs.lemmas.Bool.{cases_Bool}
 use Rattle.std.proofs.lemmas.Cmp.{eq_by_cmp_equiv, on_total}
+use Rattle.mt_facts.proofs.Lists.{filter_drops, filter_keeps}
+use Rattle.mt_facts.proofs.Truth.{never_both}
 use Rattle.mt_types.specs.declared.value.Value.{Value}
 use Rattle.mt_types.specs.Order.{values_cmp}
 use Rattle.mt_types.specs.Ordered.{values_total}
 use Rattle.mt_defs.specs.Rows.{Row}
 use Rattle.mt_defs.specs.Projections.{is_same_key}
-use Rattle.mt_proj.specs.Runs.{alike_at_front, run_of, IsInOrder}
-use Rattle.mt_sort.proofs.StableLemmas.{keeps, drops, not_both, Starts, Rises, rises}
+use Rattle.mt_proj.specs.Runs.{alike_at_front, run_of_key, IsInOrder}
+use Rattle.mt_sort.proofs.StableLemmas.{Starts, Rises, rises}
 use Rattle.mt_sort.proofs.KeyLemmas.{one_key, none_kept, same_keys}
 
 -- whether a list has an element
@@ -95,10 +97,10 @@ module _ (key : Row → List Value) where
   after_other first y ys e = ap (λ b. drop (cond b (alike_at_front key first ys + 1) 0) (y ∷ ys)) e
 
   -- a run is its first row and those at the front that have its key
-  pub run_parts : (x : Row) (xs : List Row) → run_of key (x ∷ xs) ≡ x ∷ front_of x xs
+  pub run_parts : (x : Row) (xs : List Row) → run_of_key key (x ∷ xs) ≡ x ∷ front_of x xs
   run_parts x xs = take_one_more (alike_at_front key x xs) x xs
 
-  pub after_run : (x : Row) (xs : List Row) → drop (length (run_of key (x ∷ xs))) (x ∷ xs) ≡ after_front x xs
+  pub after_run : (x : Row) (xs : List Row) → drop (length (run_of_key key (x ∷ xs))) (x ∷ xs) ≡ after_front x xs
   after_run x xs = drop_taken (alike_at_front key x xs + 1) (x ∷ xs) ∙ drop_one_more (alike_at_front key x xs) x xs
 
   pub rises_after : (x : Row) (xs : List Row) → Rising (x ∷ xs) → Rising (after_front x xs)
@@ -116,7 +118,7 @@ module _ (key : Row → List Value) where
       elim (cases_Bool (is_same_key (key x) (key z))) [
         | inl same ↦
             let back : by_key y z ≡ Greater = ap (values_cmp (key y)) (sym (one_key (key x) (key z) same)) ∙ values_total.antisymm (key y) (key x) ∙ ap ordering_reverse less in
-            not_both (is_gt (by_key y z)) (ap is_gt back) up.0
+            never_both (is_gt (by_key y z)) (ap is_gt back) up.0
         | inr other ↦ ap (λ b. b || list_any (λ row. is_same_key (key x) (key row)) zs) other ∙ none_above x y zs less up.1
       ]
 
@@ -136,13 +138,13 @@ module _ (key : Row → List Value) where
   front_all x (y ∷ ys) none =
       elim (cases_Bool (is_same_key (key x) (key y))) [
         | inl same ↦
-            keeps (λ row. is_same_key (key x) (key row)) y ys same ∙ ap (λ rows. y ∷ rows) (front_all x ys (subst (HasNone x) (after_same x y ys same) none)) ∙ sym (front_same x y ys same)
+            filter_keeps (λ row. is_same_key (key x) (key row)) y ys same ∙ ap (λ rows. y ∷ rows) (front_all x ys (subst (HasNone x) (after_same x y ys same) none)) ∙ sym (front_same x y ys same)
         | inr other ↦ none_kept (λ row. is_same_key (key x) (key row)) (y ∷ ys) (subst (HasNone x) (after_other x y ys other) none) ∙ sym (front_other x y ys other)
       ]
 
   -- the rows of a run's key
   pub of_key_here : (x : Row) (xs : List Row) → HasNone x (after_front x xs) → of_key (key x) (x ∷ xs) ≡ x ∷ front_of x xs
-  of_key_here x xs none = keeps (λ row. is_same_key (key x) (key row)) x xs (same_keys.refl (key x)) ∙ ap (λ rows. x ∷ rows) (front_all x xs none)
+  of_key_here x xs none = filter_keeps (λ row. is_same_key (key x) (key row)) x xs (same_keys.refl (key x)) ∙ ap (λ rows. x ∷ rows) (front_all x xs none)
 
   others_after : (j : List Value) (x : Row) (xs : List Row) → is_same_key j (key x) ≡ false → of_key j xs ≡ of_key j (after_front x xs)
   others_after j x [] apart = refl
@@ -150,13 +152,13 @@ module _ (key : Row → List Value) where
       elim (cases_Bool (is_same_key (key x) (key y))) [
         | inl same ↦
             let away : is_same_key j (key y) ≡ false = ap (is_same_key j) (sym (one_key (key x) (key y) same)) ∙ apart in
-            drops (λ row. is_same_key j (key row)) y ys away ∙ others_after j x ys apart ∙ sym (ap (of_key j) (after_same x y ys same))
+            filter_drops (λ row. is_same_key j (key row)) y ys away ∙ others_after j x ys apart ∙ sym (ap (of_key j) (after_same x y ys same))
         | inr other ↦ sym (ap (of_key j) (after_other x y ys other))
       ]
 
   -- the rows of other keys stand after the run
   pub of_key_there : (j : List Value) (x : Row) (xs : List Row) → is_same_key j (key x) ≡ false → of_key j (x ∷ xs) ≡ of_key j (after_front x xs)
-  of_key_there j x xs apart = drops (λ row. is_same_key j (key row)) x xs apart ∙ others_after j x xs apart
+  of_key_there j x xs apart = filter_drops (λ row. is_same_key j (key row)) x xs apart ∙ others_after j x xs apart
 
   among : (j : List Value) (x : Row) (xs : List Row) → Following x xs → list_any (λ row. is_same_key j (key row)) xs ≡ true → is_gt (values_cmp (key x) j) ≡ false
   among j x [] up there = cc

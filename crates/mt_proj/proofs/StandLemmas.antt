@@ -3,6 +3,7 @@ use Rattle.std.proofs.Common.{◌≡◌, ℕ, ◌<◌, ◌↔◌, true, false, �
 use Rattle.std.specs.Prelude.{Some}
 use Rattle.std.specs.List.{list_any}
 use Rattle.std.proofs.lemmas.Bool.{cases_Bool}
+use Rattle.mt_facts.proofs.Truth.{never_both}
 use Rattle.mt_types.specs.declared.value.Value.{Value}
 use Rattle.mt_types.specs.Order.{values_cmp}
 use Rattle.mt_types.specs.Ordered.{values_total}
@@ -11,8 +12,8 @@ use Rattle.mt_defs.specs.Rows.{Row, key_of}
 use Rattle.mt_defs.specs.Folds.{fold_of, merge_of}
 use Rattle.mt_defs.specs.Projections.{FoldsRows, is_same_key, stored_key, stored_state}
 use Rattle.mt_defs.specs.Sorting.{sorted_by}
-use Rattle.mt_proj.specs.Runs.{run_of, RunStands, HaveOneKey}
-use Rattle.mt_sort.proofs.StableLemmas.{tie, not_both}
+use Rattle.mt_proj.specs.Runs.{run_of_key, RunStands, HaveOneKey}
+use Rattle.mt_sort.proofs.StableLemmas.{tie}
 use Rattle.mt_sort.proofs.SortedLemmas.{filter-sorted_by}
 use Rattle.mt_sort.proofs.KeyLemmas.{one_key, none_kept, same_keys}
 use Rattle.mt_proj.proofs.RunLemmas.{Rising, not_above, any_by_filter, has_some, by_key, of_key, front_of, after_front, HasNone, run_parts, after_run, none_after, of_key_here, of_key_there, first_least}
@@ -59,12 +60,12 @@ module _ (keys : List ℕ) (aggs : List Aggregate) where
   -- a stored row whose key no row has
   pub stored_alone : (q : Row) (qs : List Row) → FoldsRows keys aggs [] (q ∷ qs) → ⊥
   stored_alone q qs f =
-      not_both (list_any (λ row. is_same_key (part_key q) (part_key row)) (q ∷ qs)) (ap (λ b. b || list_any (λ row. is_same_key (part_key q) (part_key row)) qs) (same_keys.refl (part_key q))) (f.same_keys (part_key q))
+      never_both (list_any (λ row. is_same_key (part_key q) (part_key row)) (q ∷ qs)) (ap (λ b. b || list_any (λ row. is_same_key (part_key q) (part_key row)) qs) (same_keys.refl (part_key q))) (f.same_keys (part_key q))
 
   -- a row whose key no stored row has
   pub row_alone : (x : Row) (xs : List Row) → FoldsRows keys aggs (x ∷ xs) [] → ⊥
   row_alone x xs f =
-      not_both (list_any (λ row. is_same_key (row_key x) (row_key row)) (x ∷ xs)) (ap (λ b. b || list_any (λ row. is_same_key (row_key x) (row_key row)) xs) (same_keys.refl (row_key x))) (sym (f.same_keys (row_key x)))
+      never_both (list_any (λ row. is_same_key (row_key x) (row_key row)) (x ∷ xs)) (ap (λ b. b || list_any (λ row. is_same_key (row_key x) (row_key row)) xs) (same_keys.refl (row_key x))) (sym (f.same_keys (row_key x)))
 
   module _ (x : Row) (xs : List Row) (q : Row) (qs : List Row) (up : Rising row_key (x ∷ xs)) (stored_up : Rising part_key (q ∷ qs)) where
     abbrev whole : List Row
@@ -95,20 +96,20 @@ module _ (keys : List ℕ) (aggs : List Aggregate) where
         one_key (row_key x) (part_key q) (tie (values_cmp (row_key x) (part_key q)) (values_cmp (part_key q) (row_key x)) (values_total.antisymm (row_key x) (part_key q)) above below)
 
     module _ (one : row_key x ≡ part_key q) where
-      run_here : of_key row_key (row_key x) whole ≡ run_of row_key whole
+      run_here : of_key row_key (row_key x) whole ≡ run_of_key row_key whole
       run_here = of_key_here row_key x xs none ∙ sym (run_parts row_key x xs)
 
-      parts_here : of_key part_key (row_key x) parts ≡ run_of part_key parts
+      parts_here : of_key part_key (row_key x) parts ≡ run_of_key part_key parts
       parts_here = ap (λ k. of_key part_key k parts) one ∙ of_key_here part_key q qs stored_none ∙ sym (run_parts part_key q qs)
 
       parts_there : (j : List Value) → is_same_key j (row_key x) ≡ false → of_key part_key j parts ≡ of_key part_key j later
       parts_there j apart = of_key_there part_key j q qs (ap (is_same_key j) (sym one) ∙ apart)
 
       -- the first runs stand
-      first_stands : FoldsRows keys aggs whole parts → RunStands keys aggs (run_of row_key whole) (run_of part_key parts)
+      first_stands : FoldsRows keys aggs whole parts → RunStands keys aggs (run_of_key row_key whole) (run_of_key part_key parts)
       first_stands f = record {
         one_key =
-            subst (λ run. HaveOneKey keys run (run_of part_key parts)) (sym (run_parts row_key x xs)) (subst (λ some. HaveOneKey keys (x ∷ front_of row_key x xs) some) (sym (run_parts part_key q qs)) one);
+            subst (λ run. HaveOneKey keys run (run_of_key part_key parts)) (sym (run_parts row_key x xs)) (subst (λ some. HaveOneKey keys (x ∷ front_of row_key x xs) some) (sym (run_parts part_key q qs)) one);
         merged = λ a e. ap (λ some. merge_of a (map (stored_state keys aggs a) some)) (sym parts_here) ∙ f.folds (row_key x) a e ∙ ap (λ run. Some (fold_of run a)) run_here;
       }
 
@@ -133,7 +134,7 @@ module _ (keys : List ℕ) (aggs : List Aggregate) where
       }
 
       -- the first runs and what follows them make the whole
-      whole_stands : RunStands keys aggs (run_of row_key whole) (run_of part_key parts) → FoldsRows keys aggs rest later → FoldsRows keys aggs whole parts
+      whole_stands : RunStands keys aggs (run_of_key row_key whole) (run_of_key part_key parts) → FoldsRows keys aggs rest later → FoldsRows keys aggs whole parts
       whole_stands r f = record {
         same_keys = λ j. elim (cases_Bool (is_same_key j (row_key x))) [
           | inl same ↦
@@ -151,34 +152,34 @@ module _ (keys : List ℕ) (aggs : List Aggregate) where
         ];
       }
 
-    one_from : RunStands keys aggs (run_of row_key whole) (run_of part_key parts) → row_key x ≡ part_key q
+    one_from : RunStands keys aggs (run_of_key row_key whole) (run_of_key part_key parts) → row_key x ≡ part_key q
     one_from r =
-        subst (λ some. HaveOneKey keys (x ∷ front_of row_key x xs) some) (run_parts part_key q qs) (subst (λ run. HaveOneKey keys run (run_of part_key parts)) (run_parts row_key x xs) r.one_key)
+        subst (λ some. HaveOneKey keys (x ∷ front_of row_key x xs) some) (run_parts part_key q qs) (subst (λ run. HaveOneKey keys run (run_of_key part_key parts)) (run_parts row_key x xs) r.one_key)
 
-    pub run_fails : (RunStands keys aggs (run_of row_key whole) (run_of part_key parts) → ⊥) → FoldsRows keys aggs whole parts → ⊥
+    pub run_fails : (RunStands keys aggs (run_of_key row_key whole) (run_of_key part_key parts) → ⊥) → FoldsRows keys aggs whole parts → ⊥
     run_fails fails f = fails (first_stands (heads f) f)
 
-    pub run_holds : RunStands keys aggs (run_of row_key whole) (run_of part_key parts)
-        → FoldsRows keys aggs (drop (length (run_of row_key whole)) whole) (drop (length (run_of part_key parts)) parts) ↔ FoldsRows keys aggs whole parts
+    pub run_holds : RunStands keys aggs (run_of_key row_key whole) (run_of_key part_key parts)
+        → FoldsRows keys aggs (drop (length (run_of_key row_key whole)) whole) (drop (length (run_of_key part_key parts)) parts) ↔ FoldsRows keys aggs whole parts
     run_holds r =
         let one = one_from r in
         let both : FoldsRows keys aggs rest later ↔ FoldsRows keys aggs whole parts = (whole_stands one r, rest_stands one) in
-        subst (λ left. FoldsRows keys aggs left (drop (length (run_of part_key parts)) parts) ↔ FoldsRows keys aggs whole parts) (sym (after_run row_key x xs))
+        subst (λ left. FoldsRows keys aggs left (drop (length (run_of_key part_key parts)) parts) ↔ FoldsRows keys aggs whole parts) (sym (after_run row_key x xs))
         (subst (λ left. FoldsRows keys aggs rest left ↔ FoldsRows keys aggs whole parts) (sym (after_run part_key q qs)) both)
 
   -- ---- at any place of a walk
 
   -- a run that doesn't stand
   pub walk_fails : (rows stored : List Row) → Rising row_key rows → Rising part_key stored → 0 < length rows
-      → (RunStands keys aggs (run_of row_key rows) (run_of part_key stored) → ⊥) → FoldsRows keys aggs rows stored → ⊥
+      → (RunStands keys aggs (run_of_key row_key rows) (run_of_key part_key stored) → ⊥) → FoldsRows keys aggs rows stored → ⊥
   walk_fails [] stored up stored_up some fails f = absurd (omega (arith, some))
   walk_fails (x ∷ xs) [] up stored_up some fails f = row_alone x xs f
   walk_fails (x ∷ xs) (q ∷ qs) up stored_up some fails f = run_fails x xs q qs up stored_up fails f
 
   -- a run that stands
   pub walk_holds : (rows stored : List Row) → Rising row_key rows → Rising part_key stored → 0 < length rows
-      → RunStands keys aggs (run_of row_key rows) (run_of part_key stored)
-      → FoldsRows keys aggs (drop (length (run_of row_key rows)) rows) (drop (length (run_of part_key stored)) stored) ↔ FoldsRows keys aggs rows stored
+      → RunStands keys aggs (run_of_key row_key rows) (run_of_key part_key stored)
+      → FoldsRows keys aggs (drop (length (run_of_key row_key rows)) rows) (drop (length (run_of_key part_key stored)) stored) ↔ FoldsRows keys aggs rows stored
   walk_holds [] stored up stored_up some r = absurd (omega (arith, some))
   walk_holds (x ∷ xs) [] up stored_up some r = absurd (subst (λ run. HaveOneKey keys run []) (run_parts row_key x xs) r.one_key)
   walk_holds (x ∷ xs) (q ∷ qs) up stored_up some r = run_holds x xs q qs up stored_up r

@@ -1,14 +1,16 @@
 -- Stored rows stand for rows exactly where the tests say so.
-use Rattle.std.proofs.Common.{◌≡◌, ℕ, ℤ, ◌↔◌, Bool, true, false, ◌&&◌, ◌||◌, ◌==◌, List, [], ◌∷◌, map, Option, Some, None, refl, ap, sym, ◌∙◌, inl, inr}
+use Rattle.std.proofs.Common.{◌≡◌, ℕ, ℤ, ◌↔◌, Bool, true, false, ◌&&◌, ◌||◌, List, [], ◌∷◌, map, Option, Some, None, refl, ap, sym, ◌∙◌, inl, inr}
 use Rattle.std.specs.List.{list_all, list_any}
 use Rattle.std.specs.Ordering.{is_eq, int_cmp}
 use Rattle.std.specs.Option.{option_cmp}
 use Rattle.std.specs.Cmp.Lexicographic.{options_total}
 use Rattle.std.specs.FinMap.{nat_cmp-IsAntisymmetric, int_cmp-IsAntisymmetric}
 use Rattle.std.specs.declared.cmp.Ordering.TheVariants.{Equal}
-use Rattle.std.proofs.lemmas.Bool.{and_from, and_parts, cases_Bool, eqb-true, eq-eqb}
+use Rattle.std.proofs.lemmas.Bool.{and_from, and_parts, cases_Bool, or_right}
 use Rattle.std.proofs.lemmas.Cmp.{eq_by_cmp_equiv, nat_cmp_total, int_cmp_total}
 use Rattle.std.proofs.lemmas.List.Folds.{list_all-append}
+use Rattle.mt_facts.proofs.Orderings.{equal_from}
+use Rattle.std.specs.Cmp.{both_ways}
 use Rattle.mt_types.specs.declared.ty.Agg.{Agg}
 use Rattle.mt_types.specs.declared.ty.Agg.TheVariants.{Sum, Min, Max}
 use Rattle.mt_types.specs.declared.value.AggState.{AggState}
@@ -17,14 +19,15 @@ use Rattle.mt_types.specs.declared.value.Value.{Value}
 use Rattle.mt_types.specs.Order.{state_cmp}
 use Rattle.mt_table.specs.declared.definition.Table.{Table}
 use Rattle.mt_table.specs.declared.projection.Aggregate.{Aggregate}
-use Rattle.mt_table.specs.declared.projection.Aggregate.TheVariants.{Count, Of}
+use Rattle.mt_table.specs.declared.projection.Aggregate.TheVariants.{Count}
 use Rattle.mt_table.specs.declared.projection.Projection.{Projection}
 use Rattle.mt_table.specs.declared.projection.Projection.TheVariants.{Normal, Grouped}
 use Rattle.mt_defs.specs.Rows.{Row, key_of}
 use Rattle.mt_defs.specs.Folds.{fold_of, merge_of}
 use Rattle.mt_defs.specs.Projections.{FoldsRows, IsProjectionOf, folds_key, folds_rows, has_key, has_stored_key, is_projection_of, is_same_agg, is_same_aggregate, is_same_key, is_state, merged_state, stored_columns, stored_key, stored_state, with_key}
-use Rattle.mt_sort.proofs.KeyLemmas.{equal_if, one_key, none_kept, same_keys}
+use Rattle.mt_sort.proofs.KeyLemmas.{one_key, none_kept, same_keys}
 use Rattle.mt_proj.proofs.NormalLemmas.{sorted_alike}
+use Rattle.mt_proj.proofs.WalkLemmas.{one_aggregate, same_aggregate_self}
 
 -- ---- states
 
@@ -49,38 +52,17 @@ tied_state (state.Greatest m) = (eq_by_cmp_equiv (options_total int_cmp_total)).
 
 state_is : (s : AggState) (merged : Option AggState) → is_state s merged ≡ true → merged ≡ Some s
 state_is s None e = cc
-state_is s (Some merged) e = ap Some (one_state merged s (equal_if (state_cmp merged s) e))
+state_is s (Some merged) e = ap Some (one_state merged s (equal_from (state_cmp merged s) e))
 
 is_state_of : (s : AggState) (merged : Option AggState) → merged ≡ Some s → is_state s merged ≡ true
 is_state_of s merged e = ap (is_state s) e ∙ tied_state s
 
 -- ---- aggregates
 
-one_agg : (f g : Agg) → is_same_agg f g ≡ true → f ≡ g
-one_agg Sum Sum e = refl
-one_agg Min Min e = refl
-one_agg Max Max e = refl
-one_agg _ _ e = cc
-
-one_aggregate : (a b : Aggregate) → is_same_aggregate a b ≡ true → a ≡ b
-one_aggregate Count Count e = refl
-one_aggregate (Of f i) (Of g j) e =
-    let both = and_parts (is_same_agg f g) (i == j) e in
-    ap (λ h. Of h i) (one_agg f g both.0) ∙ ap (Of g) (eqb-true i j both.1)
-one_aggregate _ _ e = cc
-
 same_agg : (f : Agg) → is_same_agg f f ≡ true
 same_agg Sum = refl
 same_agg Min = refl
 same_agg Max = refl
-
-same_aggregate : (a : Aggregate) → is_same_aggregate a a ≡ true
-same_aggregate Count = refl
-same_aggregate (Of f i) = and_from (is_same_agg f f) (i == i) (same_agg f) (eq-eqb i i refl)
-
-either : (a b : Bool) → b ≡ true → (a || b) ≡ true
-either true b e = refl
-either false b e = e
 
 -- a test that all pass is passed by one that is among them
 passed : (p : Aggregate → Bool) (a : Aggregate) (aggs : List Aggregate) → list_all p aggs ≡ true → list_any (λ b. is_same_aggregate b a) aggs ≡ true → p a ≡ true
@@ -95,8 +77,8 @@ passed p a (b ∷ aggs) all there =
 all_pass : (p : Aggregate → Bool) (aggs : List Aggregate) → ((a : Aggregate) → list_any (λ b. is_same_aggregate b a) aggs ≡ true → p a ≡ true) → list_all p aggs ≡ true
 all_pass p [] each = refl
 all_pass p (b ∷ aggs) each =
-    and_from (p b) (list_all p aggs) (each b (ap (λ c. c || list_any (λ o. is_same_aggregate o b) aggs) (same_aggregate b)))
-    (all_pass p aggs (λ a there. each a (either (is_same_aggregate b a) (list_any (λ o. is_same_aggregate o a) aggs) there)))
+    and_from (p b) (list_all p aggs) (each b (ap (λ c. c || list_any (λ o. is_same_aggregate o b) aggs) (same_aggregate_self b)))
+    (all_pass p aggs (λ a there. each a (or_right (is_same_aggregate b a) (list_any (λ o. is_same_aggregate o a) aggs) there)))
 
 -- ---- keys
 
@@ -114,13 +96,7 @@ keys_pass : (p : List Value → Bool) (key : Row → List Value) (rows : List Ro
 keys_pass p key [] each = refl
 keys_pass p key (row ∷ rows) each =
     and_from (p (key row)) (list_all p (map key rows)) (each (key row) (ap (λ c. c || list_any (λ other. is_same_key (key row) (key other)) rows) (same_keys.refl (key row))))
-    (keys_pass p key rows (λ j there. each j (either (is_same_key j (key row)) (list_any (λ other. is_same_key j (key other)) rows) there)))
-
--- two tests of which each follows from the other are the same
-pub same_tests : (a b : Bool) → (a ≡ true → b ≡ true) → (b ≡ true → a ≡ true) → a ≡ b
-same_tests true b there back = sym (there refl)
-same_tests false true there back = back refl
-same_tests false false there back = refl
+    (keys_pass p key rows (λ j there. each j (or_right (is_same_key j (key row)) (list_any (λ other. is_same_key j (key other)) rows) there)))
 
 module _ (keys : List ℕ) (aggs : List Aggregate) (rows stored : List Row) where
   abbrev holds : List Value → Bool
@@ -147,7 +123,7 @@ module _ (keys : List ℕ) (aggs : List Aggregate) (rows stored : List Row) wher
   stands_from e =
       let all = parts e in
       let same : (key : List Value) → has_stored_key keys key stored ≡ has_key keys key rows = λ key.
-      same_tests (has_stored_key keys key stored) (has_key keys key rows) (λ there. (has_parts key (key_passed holds (stored_key keys) key stored all.1 there)).0)
+      both_ways (has_stored_key keys key stored) (has_key keys key rows) (λ there. (has_parts key (key_passed holds (stored_key keys) key stored all.1 there)).0)
       (λ there. (has_parts key (key_passed holds (key_of keys) key rows all.0 there)).1) in
       record {
         same_keys = same;
@@ -179,4 +155,4 @@ projections_tested table (Grouped name keys aggs) rows stored = (stands_from key
 pub answers_tested : (table : Table) (projection : Projection) (rows stored : List Row) (stands : Bool) → (stands ≡ true) ↔ IsProjectionOf table projection rows stored → stands ≡ is_projection_of table projection rows stored
 answers_tested table projection rows stored stands right =
     let test = projections_tested table projection rows stored in
-    same_tests stands (is_projection_of table projection rows stored) (λ e. test.1 (right.0 e)) (λ e. right.1 (test.0 e))
+    both_ways stands (is_projection_of table projection rows stored) (λ e. test.1 (right.0 e)) (λ e. right.1 (test.0 e))

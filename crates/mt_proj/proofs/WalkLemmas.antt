@@ -1,16 +1,18 @@
 -- A step of a walk from run to run, and of the loops inside a run.
-use Rattle.std.proofs.Common.{◌≡◌, ℕ, zero, suc, ◌+◌, ◌<◌, ◌≤◌, ◌↔◌, Bool, true, false, cond, ◌||◌, ◌&&◌, ◌==◌, List, [], ◌∷◌, ◌++◌, length, map, take, drop, get_or, refl, ap, sym, ◌∙◌, subst, inl, inr, arith, append_assoc}
+use Rattle.std.proofs.Common.{◌≡◌, ℕ, zero, suc, ◌+◌, ◌<◌, ◌≤◌, ◌↔◌, Bool, true, false, cond, ◌||◌, ◌==◌, List, [], ◌∷◌, ◌++◌, length, map, take, drop, get_or, refl, ap, sym, ◌∙◌, subst, inl, inr, arith, append_assoc}
 use Rattle.std.specs.Prelude.{Option, Some, IsTrue, filter, codes}
 use Rattle.std.specs.Borrow.{Bor}
 use Rattle.std.specs.List.{list_any, range_with_len}
 use Rattle.std.specs.Ordering.{is_eq}
 use Rattle.std.specs.Cmp.Lexicographic.{slice_cmp}
 use Rattle.std.proofs.lemmas.Cmp.{on_total}
-use Rattle.std.proofs.Math.Seq.{drop-cons, drop-nil}
-use Rattle.std.proofs.lemmas.Bool.{cases_Bool, eqb-true, eq-eqb}
+use Rattle.std.proofs.Math.Seq.{drop-cons}
+use Rattle.std.proofs.lemmas.Bool.{cases_Bool, eqb-true, eq-eqb, and_parts as parts}
 use Rattle.std.proofs.lemmas.List.{length-map, length-drop, drop-map, drop_all, take_more}
 use Rattle.std.proofs.lemmas.List.Elements.{filter-append}
 use Rattle.std.proofs.lemmas.List.Folds.{list_any-append}
+use Rattle.mt_facts.proofs.Lists.{drop_sum}
+use Rattle.mt_facts.proofs.Truth.{never_both}
 use Rattle.mt_types.specs.declared.ty.Agg.{Agg}
 use Rattle.mt_types.specs.declared.ty.Agg.TheVariants.{Sum, Min, Max}
 use Rattle.mt_types.specs.declared.value.AggState.{AggState}
@@ -20,25 +22,20 @@ use Rattle.mt_types.specs.Ordered.{values_total}
 use Rattle.mt_table.specs.declared.projection.Aggregate.{Aggregate}
 use Rattle.mt_table.specs.declared.projection.Aggregate.TheVariants.{Count, Of}
 use Rattle.mt_table.specs.declared.projection.Projection.TheVariants.{Grouped}
+use Rattle.mt_table.proofs.PlaceLemmas.{from_more}
 use Rattle.mt_defs.specs.Rows.{Row, cell, key_of}
 use Rattle.mt_defs.specs.Folds.{fold_of, merge_of, merge_upon, join}
-use Rattle.mt_defs.specs.Projections.{FoldsRows, aggregate_index, state_at, is_same_agg, is_same_aggregate, stored_key, stored_state}
+use Rattle.mt_defs.specs.Projections.{FoldsRows, aggregate_index, state_of_value, is_same_agg, is_same_aggregate, stored_key, stored_state}
 use Rattle.mt_defs.specs.Sorting.{sorted_by, sorted_rows}
 use Rattle.mt_defs.specs.Writer.{folded_row}
 use Rattle.mt_defs.proofs.Sorted.{IsSorted-sorted_by}
 use Rattle.mt_sort.specs.References.{rows_in}
-use Rattle.mt_proj.specs.Runs.{IsInOrder, run_of, rows_by_key, HaveOneKey, MergeToFolds, RunStands}
-use Rattle.mt_sort.proofs.StableLemmas.{not_both}
+use Rattle.mt_proj.specs.Runs.{IsInOrder, run_of_key, rows_by_key, HaveOneKey, MergeToFolds, RunStands}
 use Rattle.mt_proj.proofs.RunLemmas.{by_key, Rising, rising, rising_drop, HasNone, after_front, none_after, after_run}
 use Rattle.mt_proj.proofs.GroupLemmas.{row_of, first_row, keys_met}
 use Rattle.mt_proj.proofs.StandLemmas.{of_key-sorted_by, folds_sorted, nothing_stands, stored_alone, walk_fails, walk_holds}
 
 -- ---- lists
-
-drop_sum : {X : Type 0} (m n : ℕ) (xs : List X) → drop (m + n) xs ≡ drop n (drop m xs)
-drop_sum zero n xs = let e : 0 + n ≡ n = omega arith in ap (λ k. drop k xs) e
-drop_sum (suc m) n [] = drop-nil (suc m + n) ∙ sym (drop-nil n)
-drop_sum (suc m) n (x ∷ xs) = let e : suc m + n ≡ suc (m + n) = omega arith in ap (λ k. drop k (x ∷ xs)) e ∙ drop_sum m n xs
 
 pub length_rows_in : (rows : List (Bor Row)) → length (rows_in rows) ≡ length rows
 length_rows_in rows = length-map rows (λ row. row.now)
@@ -55,15 +52,15 @@ pub some_left : (n : ℕ) (rows : List (Bor Row)) → n < length rows → 0 < le
 some_left n rows inside = omega (arith, inside, length_rows_in (drop n rows), length-drop n rows)
 
 -- what is left after a run
-pub left_behind : (key : Row → List Value) (rows run : List (Bor Row)) (start : ℕ) → rows_in run ≡ run_of key (rows_in (drop start rows))
-    → rows_in (drop (start + length run) rows) ≡ drop (length (run_of key (rows_in (drop start rows)))) (rows_in (drop start rows))
+pub left_behind : (key : Row → List Value) (rows run : List (Bor Row)) (start : ℕ) → rows_in run ≡ run_of_key key (rows_in (drop start rows))
+    → rows_in (drop (start + length run) rows) ≡ drop (length (run_of_key key (rows_in (drop start rows)))) (rows_in (drop start rows))
 left_behind key rows run start is =
     ap rows_in (drop_sum start (length run) rows) ∙ drop_rows_in (length run) (drop start rows) ∙ ap (λ n. drop n (rows_in (drop start rows))) (sym (length_rows_in run) ∙ ap length is)
 
 -- ---- a row for each run
 
 pub group_step : (keys : List ℕ) (aggs : List Aggregate) (sorted run : List (Bor Row)) (start : ℕ) (first : Bor Row) (made more : List Row) (row : Row)
-    → IsInOrder (key_of keys) (rows_in sorted) → start < length sorted → first ≡ get_or sorted start first → rows_in run ≡ run_of (key_of keys) (rows_in (drop start sorted))
+    → IsInOrder (key_of keys) (rows_in sorted) → start < length sorted → first ≡ get_or sorted start first → rows_in run ≡ run_of_key (key_of keys) (rows_in (drop start sorted))
     → row ≡ row_of aggs (key_of keys first.now) (rows_in run) → more ≡ made ++ row ∷ []
     → made ++ rows_by_key keys aggs (rows_in (drop start sorted)) ≡ rows_by_key keys aggs (rows_in sorted)
     → more ++ rows_by_key keys aggs (rows_in (drop (start + length run) sorted)) ≡ rows_by_key keys aggs (rows_in sorted)
@@ -73,8 +70,8 @@ group_step keys aggs sorted run start first made more row up inside is run_is ro
     let parts : rows_in (drop start sorted) ≡ first.now ∷ tail = ap rows_in (drop-cons sorted start first inside) ∙ ap (λ (r : Bor Row). r.now ∷ tail) (sym is) in
     let none : HasNone key first.now (after_front key first.now tail) = none_after key first.now tail (subst (Rising key) parts (rising_from key start sorted up)) in
     let left : rows_in (drop (start + length run) sorted) ≡ after_front key first.now tail =
-    left_behind key sorted run start run_is ∙ ap (λ rows. drop (length (run_of key rows)) rows) parts ∙ after_run key first.now tail in
-    let made_row : row ≡ row_of aggs (key first.now) (run_of key (first.now ∷ tail)) = row_is ∙ ap (row_of aggs (key first.now)) (run_is ∙ ap (run_of key) parts) in
+    left_behind key sorted run start run_is ∙ ap (λ rows. drop (length (run_of_key key rows)) rows) parts ∙ after_run key first.now tail in
+    let made_row : row ≡ row_of aggs (key first.now) (run_of_key key (first.now ∷ tail)) = row_is ∙ ap (row_of aggs (key first.now)) (run_is ∙ ap (run_of_key key) parts) in
     let rest = rows_by_key keys aggs (after_front key first.now tail) in
     let step : row ∷ rest ≡ rows_by_key keys aggs (rows_in (drop start sorted)) =
     ap (λ r. r ∷ rest) made_row ∙ sym (first_row keys aggs first.now tail none) ∙ sym (ap (rows_by_key keys aggs) parts) in
@@ -84,30 +81,30 @@ group_step keys aggs sorted run start first made more row up inside is run_is ro
 
 pub step_fails : (keys : List ℕ) (aggs : List Aggregate) (rows stored run parts : List (Bor Row)) (start stored_start : ℕ)
     → IsInOrder (key_of keys) (rows_in rows) → IsInOrder (stored_key keys) (rows_in stored) → start < length rows
-    → rows_in run ≡ run_of (key_of keys) (rows_in (drop start rows)) → rows_in parts ≡ run_of (stored_key keys) (rows_in (drop stored_start stored))
+    → rows_in run ≡ run_of_key (key_of keys) (rows_in (drop start rows)) → rows_in parts ≡ run_of_key (stored_key keys) (rows_in (drop stored_start stored))
     → (RunStands keys aggs (rows_in run) (rows_in parts) → ⊥)
     → FoldsRows keys aggs (rows_in (drop start rows)) (rows_in (drop stored_start stored)) → ⊥
 step_fails keys aggs rows stored run parts start stored_start up stored_up inside run_is parts_are fails =
     walk_fails keys aggs (rows_in (drop start rows)) (rows_in (drop stored_start stored)) (rising_from (key_of keys) start rows up) (rising_from (stored_key keys) stored_start stored stored_up) (some_left start rows inside)
-    (λ r. fails (subst (λ some. RunStands keys aggs (rows_in run) some) (sym parts_are) (subst (λ some. RunStands keys aggs some (run_of (stored_key keys) (rows_in (drop stored_start stored)))) (sym run_is) r)))
+    (λ r. fails (subst (λ some. RunStands keys aggs (rows_in run) some) (sym parts_are) (subst (λ some. RunStands keys aggs some (run_of_key (stored_key keys) (rows_in (drop stored_start stored)))) (sym run_is) r)))
 
 pub step_holds : (keys : List ℕ) (aggs : List Aggregate) (rows stored run parts : List (Bor Row)) (start stored_start : ℕ)
     → IsInOrder (key_of keys) (rows_in rows) → IsInOrder (stored_key keys) (rows_in stored) → start < length rows
-    → rows_in run ≡ run_of (key_of keys) (rows_in (drop start rows)) → rows_in parts ≡ run_of (stored_key keys) (rows_in (drop stored_start stored))
+    → rows_in run ≡ run_of_key (key_of keys) (rows_in (drop start rows)) → rows_in parts ≡ run_of_key (stored_key keys) (rows_in (drop stored_start stored))
     → RunStands keys aggs (rows_in run) (rows_in parts)
     → FoldsRows keys aggs (rows_in (drop start rows)) (rows_in (drop stored_start stored)) ↔ FoldsRows keys aggs (rows_in rows) (rows_in stored)
     → FoldsRows keys aggs (rows_in (drop (start + length run) rows)) (rows_in (drop (stored_start + length parts) stored)) ↔ FoldsRows keys aggs (rows_in rows) (rows_in stored)
 step_holds keys aggs rows stored run parts start stored_start up stored_up inside run_is parts_are r ahead =
     let here = rows_in (drop start rows) in
     let there = rows_in (drop stored_start stored) in
-    let stands : RunStands keys aggs (run_of (key_of keys) here) (run_of (stored_key keys) there) =
-    subst (λ some. RunStands keys aggs (run_of (key_of keys) here) some) parts_are (subst (λ some. RunStands keys aggs some (rows_in parts)) run_is r) in
+    let stands : RunStands keys aggs (run_of_key (key_of keys) here) (run_of_key (stored_key keys) there) =
+    subst (λ some. RunStands keys aggs (run_of_key (key_of keys) here) some) parts_are (subst (λ some. RunStands keys aggs some (rows_in parts)) run_is r) in
     let step = walk_holds keys aggs here there (rising_from (key_of keys) start rows up) (rising_from (stored_key keys) stored_start stored stored_up) (some_left start rows inside) stands in
     let left = left_behind (key_of keys) rows run start run_is in
     let stored_left = left_behind (stored_key keys) stored parts stored_start parts_are in
     let F : List Row → List Row → Type 0 = λ some others. FoldsRows keys aggs some others in (
-      λ f. ahead.0 (step.0 (subst (λ some. F some (drop (length (run_of (stored_key keys) there)) there)) left (subst (λ some. F (rows_in (drop (start + length run) rows)) some) stored_left f))),
-      λ f. subst (λ some. F (rows_in (drop (start + length run) rows)) some) (sym stored_left) (subst (λ some. F some (drop (length (run_of (stored_key keys) there)) there)) (sym left) (step.1 (ahead.1 f))),
+      λ f. ahead.0 (step.0 (subst (λ some. F some (drop (length (run_of_key (stored_key keys) there)) there)) left (subst (λ some. F (rows_in (drop (start + length run) rows)) some) stored_left f))),
+      λ f. subst (λ some. F (rows_in (drop (start + length run) rows)) some) (sym stored_left) (subst (λ some. F some (drop (length (run_of_key (stored_key keys) there)) there)) (sym left) (step.1 (ahead.1 f))),
     )
 
 all_read : (keys : List ℕ) (aggs : List Aggregate) (stored : List Row) (b : Bool) → (b ≡ true → length stored ≡ 0) → (b ≡ false → 0 < length stored) → IsTrue b ↔ FoldsRows keys aggs [] stored
@@ -133,7 +130,7 @@ walk_ends keys aggs rows stored start stored_start b ended none some ahead =
 -- ---- inside a run
 
 pub some_rows : (rows : List (Bor Row)) (b : Bool) → b ≡ (length rows == 0) → b ≡ false → 0 < length rows
-some_rows [] b is e = not_both b is e
+some_rows [] b is e = never_both b is e
 some_rows (r ∷ rs) b is e = omega arith
 
 pub one_key_at : (keys : List ℕ) (rows stored : List (Bor Row)) (row part : Bor Row) → 0 < length rows → 0 < length stored → row ≡ get_or rows 0 row → part ≡ get_or stored 0 part
@@ -154,11 +151,7 @@ merge_more state_in merged (q ∷ qs) zero n d e inside = sym (ap (λ k. merge_u
 merge_more state_in merged (q ∷ qs) (suc i) n d e inside =
     ap (join (state_in q.now)) (merge_more state_in merged qs i (suc i) d refl (omega (arith, inside))) ∙ sym (ap (λ k. merge_upon merged (map state_in (rows_in (take k (q ∷ qs))))) e)
 
-parts : (b c : Bool) → (b && c) ≡ true → (b ≡ true) × (c ≡ true)
-parts true c e = (refl, e)
-parts false c e = cc
-
-one_agg : (f g : Agg) → is_same_agg f g ≡ true → f ≡ g
+pub one_agg : (f g : Agg) → is_same_agg f g ≡ true → f ≡ g
 one_agg Sum Sum e = refl
 one_agg Min Min e = refl
 one_agg Max Max e = refl
@@ -228,17 +221,10 @@ rows_end columns rows values i b ended none some =
 
 -- ---- columns
 
-range_more : (a n : ℕ) → range_with_len a (n + 1) ≡ range_with_len a n ++ (a + n) ∷ []
-range_more a zero = let e : a + 0 ≡ a = omega arith in ap (λ k. k ∷ []) (sym e)
-range_more a (suc n) =
-    let e : suc n + 1 ≡ suc (n + 1) = omega arith in
-    let f : a + 1 + n ≡ a + suc n = omega arith in
-    ap (range_with_len a) e ∙ ap (λ l. a ∷ l) (range_more (a + 1) n ∙ ap (λ k. range_with_len (a + 1) n ++ k ∷ []) f)
-
 pub filter_range_more : (p : ℕ → Bool) (n : ℕ) → filter p (range_with_len 0 (n + 1)) ≡ filter p (range_with_len 0 n) ++ cond (p n) (n ∷ []) []
 filter_range_more p n =
     let e : 0 + n ≡ n = omega arith in
-    ap (filter p) (range_more 0 n ∙ ap (λ k. range_with_len 0 n ++ k ∷ []) e) ∙ filter-append p (range_with_len 0 n) (n ∷ [])
+    ap (filter p) (from_more 0 n ∙ ap (λ k. range_with_len 0 n ++ k ∷ []) e) ∙ filter-append p (range_with_len 0 n) (n ∷ [])
 
 -- ---- what was sorted
 
@@ -267,9 +253,9 @@ stands_sorted keys aggs rows stored wanted found b wanted_is found_is test =
 
 -- an aggregate whose states don't merge to its fold
 pub one_fails : (keys : List ℕ) (aggs : List Aggregate) (rows stored : List Row) (i : ℕ) (d : Aggregate) (place : ℕ) (b : Bool) → i < length aggs → place ≡ aggregate_index aggs (get_or aggs i d)
-    → IsTrue b ↔ (merge_of (get_or aggs i d) (map (λ row. state_at (out-Value (cell row (length keys + place)))) stored) ≡ Some (fold_of rows (get_or aggs i d)))
+    → IsTrue b ↔ (merge_of (get_or aggs i d) (map (λ row. state_of_value (out-Value (cell row (length keys + place)))) stored) ≡ Some (fold_of rows (get_or aggs i d)))
     → b ≡ false → MergeToFolds aggs keys aggs rows stored → ⊥
 one_fails keys aggs rows stored i d place b inside is test fails merge =
     let a = get_or aggs i d in
-    let P : ℕ → Type 0 = λ n. merge_of a (map (λ row. state_at (out-Value (cell row (length keys + n)))) stored) ≡ Some (fold_of rows a) in
-    not_both b (test.1 (subst P (sym is) (merge a (among_self aggs i d inside)))) fails
+    let P : ℕ → Type 0 = λ n. merge_of a (map (λ row. state_of_value (out-Value (cell row (length keys + n)))) stored) ≡ Some (fold_of rows a) in
+    never_both b (test.1 (subst P (sym is) (merge a (among_self aggs i d inside)))) fails

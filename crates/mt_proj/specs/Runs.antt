@@ -26,8 +26,8 @@ run_length key [] = 0
 run_length key (row ∷ rows) = alike_at_front key row rows + 1
 
 -- the rows at the front that have the key of the first
-abbrev pub run_of : (Row → List Value) → List Row → List Row
-run_of key rows = take (run_length key rows) rows
+abbrev pub run_of_key : (Row → List Value) → List Row → List Row
+run_of_key key rows = take (run_length key rows) rows
 
 -- a row for each key, where it first appears: the key, and the states over its rows
 abbrev pub rows_by_key : List ℕ → List Aggregate → List Row → List Row

@@ -7,7 +7,7 @@ ghost use Rattle.mt_table.specs.declared.projection.Aggregate.{Aggregate};
 ghost use Rattle.mt_table.specs.declared.projection.Projection.TheVariants.{Grouped};
 ghost use Rattle.mt_defs.specs.Folds.{fold_of};
 ghost use Rattle.mt_defs.specs.Folds as folds;
-ghost use Rattle.mt_defs.specs.Projections.{FoldsRows, state_at, stored_key};
+ghost use Rattle.mt_defs.specs.Projections.{FoldsRows, state_of_value, stored_key};
 ghost use Rattle.mt_defs.specs.Projections as defined;
 ghost use Rattle.mt_defs.specs.Rows.{cell, key_of};
 ghost use Rattle.mt_defs.specs.Writer.{projection_rows};
@@ -153,7 +153,7 @@ fn merge_to_folds(columns: &[usize], aggs: &[Aggregate], rows: &[&Row], stored: 
 /// Whether the states of an aggregate in a column merge to its fold over the rows.
 fn merges_to_fold(aggregate: &Aggregate, column: usize, rows: &[&Row], stored: &[&Row]) -> bool
     ensures { IsTrue result ↔ (folds.merge_of aggregate.now
-        (map (λ row. state_at (out-Value (cell row column))) (rows_in stored.now))
+        (map (λ row. state_of_value (out-Value (cell row column))) (rows_in stored.now))
         ≡ Some (folds.fold_of (rows_in rows.now) aggregate.now)) }
 {
     match merge_of(aggregate, column, stored) {

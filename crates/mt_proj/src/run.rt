@@ -14,7 +14,7 @@ pub fn run_at<'a, 'b>(key: &Key, rows: &'a [&'b Row], start: usize) -> &'a [&'b 
     requires { start ≤ length rows.now }
     ensures within { start + length result.now ≤ length rows.now }
     ensures some { start < length rows.now → 0 < length result.now }
-    ensures run { rows_in result.now ≡ defined.run_of (key_in key.now) (rows_in (drop start rows.now)) }
+    ensures run { rows_in result.now ≡ defined.run_of_key (key_in key.now) (rows_in (drop start rows.now)) }
 {
     let (_, rest) = rows.split_at(start);
     let (run, _) = rest.split_at(run_length(key, rest));

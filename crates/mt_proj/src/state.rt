@@ -4,7 +4,7 @@ ghost use Rattle.std.specs.Prelude.{◌≡◌, ℕ, List, map};
 ghost use Rattle.mt_types.specs.declared.value.Value.{out-Value};
 ghost use Rattle.mt_table.specs.declared.projection.Aggregate.{Aggregate};
 ghost use Rattle.mt_defs.specs.Folds as defined;
-ghost use Rattle.mt_defs.specs.Projections.{state_at};
+ghost use Rattle.mt_defs.specs.Projections.{state_of_value};
 ghost use Rattle.mt_defs.specs.Rows.{cell};
 ghost use Rattle.mt_sort.specs.References.{rows_in};
 
@@ -25,7 +25,7 @@ pub fn fold_of(aggregate: &Aggregate, rows: &[&Row]) -> AggState
 
 /// The number that an aggregate takes of a row; a count takes any.
 fn number_of(aggregate: &Aggregate, row: &Row) -> i128
-    ensures { result ≡ defined.number_of aggregate.now row.now }
+    ensures { result ≡ defined.number_taken aggregate.now row.now }
 {
     match aggregate {
         Aggregate::Count => 0,
@@ -39,7 +39,7 @@ fn number_of(aggregate: &Aggregate, row: &Row) -> i128
 /// The stored states of an aggregate together, or none where one of them is of another kind.
 pub fn merge_of(aggregate: &Aggregate, column: usize, stored: &[&Row]) -> Option<AggState>
     ensures { result ≡ defined.merge_of aggregate.now
-        (map (λ row. state_at (out-Value (cell row column))) (rows_in stored.now)) }
+        (map (λ row. state_of_value (out-Value (cell row column))) (rows_in stored.now)) }
 {
     let mut merged = Some(AggState::empty(aggregate));
     let mut left = stored.len();
@@ -52,7 +52,7 @@ pub fn merge_of(aggregate: &Aggregate, column: usize, stored: &[&Row]) -> Option
 
 /// The state that a row has in a column.
 fn stored_state(row: &Row, column: usize) -> Option<AggState>
-    ensures { result ≡ state_at (out-Value (cell row.now column)) }
+    ensures { result ≡ state_of_value (out-Value (cell row.now column)) }
 {
     match row.as_slice().get(column) {
         Some(Value::State(state)) => Some(*state),

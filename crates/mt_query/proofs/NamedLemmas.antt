@@ -30,12 +30,12 @@ use Rattle.mt_query.specs.declared.why.QueryError.{QueryError}
 use Rattle.mt_query.specs.declared.why.QueryWhy.{QueryWhy}
 use Rattle.mt_query.specs.declared.why.QueryWhy.TheVariants.{BadAggregate, BadLiteral, NoSuchColumn, NotGrouped}
 use Rattle.mt_query.specs.Columns.{column_of, place_of}
-use Rattle.mt_query.specs.Conditions.{cond_of, cond_step, given, given_cond, given_is_present, joined, null_test_of}
+use Rattle.mt_query.specs.Conditions.{cond_of, cond_step, given, given_cond, given_is_present, joined_conditions, null_test_on}
 use Rattle.mt_query.specs.Lists.{all_of}
-use Rattle.mt_query.specs.Literals.{element_of, prefix_of, value_of}
+use Rattle.mt_query.specs.Literals.{element_value_of, prefix_of, literal_value_of}
 use Rattle.mt_query.specs.Named.{columns_step, cond_passes, given_cond_passes, is_place, item_passes, query_passes}
 use Rattle.mt_query.specs.Queries.{GivesQuery}
-use Rattle.mt_query.specs.Rules.{are_grouped, is_over, item_of, items_of, judged, judged_items}
+use Rattle.mt_query.specs.Rules.{are_grouped, is_over, item_of, items_of, judged_query, judged_items}
 
 -- ---- conditions by their variants
 
@@ -91,14 +91,14 @@ module _ (columns : List Column) where
       let two = then_is (λ (x : X). let o : Option Cond = Some (make one.0.0 x) in o) (suit one.0.1) made one.2 in
       subst Passes (some_is (make one.0.0 two.0) made two.2) (passes one.0.0 two.0 ∙ column_is name one.0 one.1)
 
-  null_test_is : (name : List ℕ) (negated : Bool) (made : Cond) → null_test_of columns name negated ≡ Some made → Passes made
+  null_test_is : (name : List ℕ) (negated : Bool) (made : Cond) → null_test_on columns name negated ≡ Some made → Passes made
   null_test_is name negated made e =
       let one = then_is (λ (place : ℕ). let o : Option Cond = Some (IsNull place negated) in o) (place_of columns name) made e in
       subst Passes (some_is (IsNull one.0 negated) made one.2)
       (passes_at (is_place columns) (IsNull one.0 negated) (Cond-F.IsNull one.0 negated) (outs-IsNull one.0 negated) ∙ place_is name one.0 one.1)
 
   joined_is : (join : Cond → Cond → Cond) → ((a b : Cond) → cond_passes (is_place columns) (join a b) ≡ (cond_passes (is_place columns) a && cond_passes (is_place columns) b)) → (left right : Option Cond) (made : Cond)
-      → joined join left right ≡ Some made → ((a : Cond) → left ≡ Some a → Passes a) → ((b : Cond) → right ≡ Some b → Passes b) → Passes made
+      → joined_conditions join left right ≡ Some made → ((a : Cond) → left ≡ Some a → Passes a) → ((b : Cond) → right ≡ Some b → Passes b) → Passes made
   joined_is join passes left right made e l r =
       let one = then_is (λ (a : Cond). option_and_then (λ (b : Cond). let o : Option Cond = Some (join a b) in o) right) left made e in
       let two = then_is (λ (b : Cond). let o : Option Cond = Some (join one.0 b) in o) right made one.2 in
@@ -119,14 +119,14 @@ module _ (columns : List Column) where
 
   level_holds : (level : CondText-F Known) (made : Cond) → cond_step columns (map-CondText CondText (Option Cond) (cond_of columns) (plain level)) ≡ Some made → Passes made
   level_holds (CondText-F.Cmp name op literal) made e =
-      suits_is name (λ ty. value_of ty literal) (λ place value. Cmp place op value) (λ place value. passes_at (is_place columns) (Cmp place op value) (Cond-F.Cmp place op value) (outs-Cmp place op value)) made e
+      suits_is name (λ ty. literal_value_of ty literal) (λ place value. Cmp place op value) (λ place value. passes_at (is_place columns) (Cmp place op value) (Cond-F.Cmp place op value) (outs-Cmp place op value)) made e
   level_holds (CondText-F.OneOf name literals) made e =
-      suits_is name (λ ty. all_of (value_of ty) literals) OneOf (λ place values. passes_at (is_place columns) (OneOf place values) (Cond-F.OneOf place values) (outs-OneOf place values)) made e
+      suits_is name (λ ty. all_of (literal_value_of ty) literals) OneOf (λ place values. passes_at (is_place columns) (OneOf place values) (Cond-F.OneOf place values) (outs-OneOf place values)) made e
   level_holds (CondText-F.IsNull name negated) made e = null_test_is name negated made e
   level_holds (CondText-F.Starts name prefix) made e =
       suits_is name (λ ty. prefix_of ty prefix) Starts (λ place text. passes_at (is_place columns) (Starts place text) (Cond-F.Starts place text) (outs-Starts place text)) made e
   level_holds (CondText-F.Has name literal) made e =
-      suits_is name (λ ty. element_of ty literal) Has (λ place value. passes_at (is_place columns) (Has place value) (Cond-F.Has place value) (outs-Has place value)) made e
+      suits_is name (λ ty. element_value_of ty literal) Has (λ place value. passes_at (is_place columns) (Has place value) (Cond-F.Has place value) (outs-Has place value)) made e
   level_holds (CondText-F.And a b) made e = joined_is And (passes-And (is_place columns)) (cond_of columns a.0) (cond_of columns b.0) made e a.1 b.1
   level_holds (CondText-F.Or a b) made e = joined_is Or (passes-Or (is_place columns)) (cond_of columns a.0) (cond_of columns b.0) made e a.1 b.1
   level_holds (CondText-F.Not a) made e =
@@ -180,8 +180,8 @@ module _ (columns : List Column) where
       (both_of (list_all (item_passes (is_place columns)) items) (given_cond_passes (is_place columns) cond && list_all (is_place columns) keys) of_items
       (both_of (given_cond_passes (is_place columns) cond) (list_all (is_place columns) keys) (given_holds text.cond cond (found BadLiteral (given_cond columns text.cond) cond is)) of_keys)))))
 
-  judged_query_passes : (text : QueryText) (query : Query) → judged columns text ≡ Ok query → query_passes (is_place columns) query ≡ true
-  unfolding judged
+  judged_query_passes : (text : QueryText) (query : Query) → judged_query columns text ≡ Ok query → query_passes (is_place columns) query ≡ true
+  unfolding judged_query
   judged_query_passes text query e =
       ok_then (ok_or NoSuchColumn (items_of columns text.items)) _ query e (λ items is e1.
       ok_then (ok_or NoSuchColumn (all_of (place_of columns) text.group)) _ query e1 (λ keys are e2.
@@ -189,6 +189,6 @@ module _ (columns : List Column) where
       items_query_passes text items keys query (items_hold text.items items (found NoSuchColumn (items_of columns text.items) items is))
       (all_pass (place_of columns) (is_place columns) place_is text.group keys (found NoSuchColumn (all_of (place_of columns) text.group) keys are)) e3)))
 
-  pub query_is_within : (text : QueryText) (r : Result Query QueryError) → GivesQuery r (judged columns text) → IfOk r (λ query. IsTrue (query_passes (is_place columns) query))
+  pub query_is_within : (text : QueryText) (r : Result Query QueryError) → GivesQuery r (judged_query columns text) → IfOk r (λ query. IsTrue (query_passes (is_place columns) query))
   query_is_within text (Ok query) e = judged_query_passes text query e
   query_is_within text (Err why) e = tt

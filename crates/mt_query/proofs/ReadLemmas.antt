@@ -12,7 +12,7 @@ use Rattle.mt_query.specs.declared.why.QueryError.TheVariants as error
 use Rattle.mt_query.specs.declared.why.QueryWhy.{QueryWhy}
 use Rattle.mt_query.specs.declared.why.QueryWhy.TheVariants.{Syntax}
 use Rattle.mt_query.specs.Queries.{Asks, AsksBySentence, GivesQuery, IsNoSentence}
-use Rattle.mt_query.specs.Rules.{judged}
+use Rattle.mt_query.specs.Rules.{judged_query}
 
 by_answer : (r : Result Query QueryError) (answer other : Result Query QueryWhy) → other ≡ answer → GivesQuery r other → GivesQuery r answer
 by_answer r answer other same gives = subst (GivesQuery r) same gives
@@ -21,10 +21,10 @@ module _ (text : List ℕ) (table : Table) where
   -- ---- it is a sentence
 
   module _ (sentence : QueryText) (r : Result Query QueryError) (short : length text ≤ MAX_QUERY_TEXT) (is : IsQueryText text sentence) where
-    pub sentence_is_only : GivesQuery r (judged table.columns sentence) → (answer : Result Query QueryWhy) → Asks text table answer → GivesQuery r answer
+    pub sentence_is_only : GivesQuery r (judged_query table.columns sentence) → (answer : Result Query QueryWhy) → Asks text table answer → GivesQuery r answer
     sentence_is_only gives answer (inl asks) = let long = asks.0 in absurd (omega (arith, long, short))
     sentence_is_only gives answer (inr (le, inl (other, is_other, asks))) =
-        by_answer r answer (judged table.columns sentence) (ap (judged table.columns) (one_query text sentence other is is_other) ∙ asks) gives
+        by_answer r answer (judged_query table.columns sentence) (ap (judged_query table.columns) (one_query text sentence other is is_other) ∙ asks) gives
     sentence_is_only gives answer (inr (le, inr asks)) = absurd (asks.0 sentence is)
 
   -- ---- it is none
@@ -42,7 +42,7 @@ module _ (text : List ℕ) (table : Table) where
 
 -- of a text that is not too long
 one_of_short : (text : List ℕ) (table : Table) (a b : Result Query QueryWhy) → AsksBySentence text table a ⊎ (IsNoSentence text × (a ≡ Err Syntax)) → AsksBySentence text table b ⊎ (IsNoSentence text × (b ≡ Err Syntax)) → a ≡ b
-one_of_short text table a b (inl h) (inl k) = sym h.2 ∙ ap (judged table.columns) (one_query text h.0 k.0 h.1 k.1) ∙ k.2
+one_of_short text table a b (inl h) (inl k) = sym h.2 ∙ ap (judged_query table.columns) (one_query text h.0 k.0 h.1 k.1) ∙ k.2
 one_of_short text table a b (inl h) (inr k) = absurd (k.0 h.0 h.1)
 one_of_short text table a b (inr h) (inl k) = absurd (h.0 k.0 k.1)
 one_of_short text table a b (inr h) (inr k) = h.1 ∙ sym k.1

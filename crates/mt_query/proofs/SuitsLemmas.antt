@@ -33,12 +33,12 @@ use Rattle.mt_query.specs.declared.why.QueryError.{QueryError}
 use Rattle.mt_query.specs.declared.why.QueryWhy.{QueryWhy}
 use Rattle.mt_query.specs.declared.why.QueryWhy.TheVariants.{BadAggregate, BadLiteral, NoSuchColumn, NotGrouped}
 use Rattle.mt_query.specs.Columns.{column_of, place_of}
-use Rattle.mt_query.specs.Conditions.{cond_of, cond_step, given, given_cond, given_is_present, joined, null_test_of}
+use Rattle.mt_query.specs.Conditions.{cond_of, cond_step, given, given_cond, given_is_present, joined_conditions, null_test_on}
 use Rattle.mt_query.specs.Lists.{all_of}
-use Rattle.mt_query.specs.Literals.{date_value, element_at, element_of, fixed_value, inside_at, integer_value, moment_value, prefix_at, prefix_of, text_value, value_at, value_of}
-use Rattle.mt_query.specs.Suits.{cond_suits, cond_suits_step, given_cond_suits, is_number, literal_step, prefix_step, takes_item_at, takes_literal, takes_prefix}
+use Rattle.mt_query.specs.Literals.{date_literal_value, element_value_at, element_value_of, fixed_value, inside_at, integer_value, moment_value, prefix_at, prefix_of, text_value, value_at, literal_value_of}
+use Rattle.mt_query.specs.Suits.{cond_suits, cond_suits_step, given_cond_suits, is_number_value, literal_step, prefix_step, takes_item_at, takes_literal, takes_prefix}
 use Rattle.mt_query.specs.Queries.{GivesQuery}
-use Rattle.mt_query.specs.Rules.{are_grouped, is_over, items_of, judged, judged_items}
+use Rattle.mt_query.specs.Rules.{are_grouped, is_over, items_of, judged_query, judged_items}
 use Rattle.mt_query.proofs.NamedLemmas.{all_pass}
 
 -- ---- literals
@@ -49,27 +49,27 @@ literal_at ty level is v = ap (λ (f : Value → Bool). f v) (fold_out-Ty (Value
 prefix_level : (ty : Ty) (level : Ty-F Ty) → out-Ty ty ≡ level → (p : List ℕ) → takes_prefix ty p ≡ prefix_step (map-Ty Ty (List ℕ → Bool) takes_prefix level) p
 prefix_level ty level is p = ap (λ (f : List ℕ → Bool). f p) (fold_out-Ty (List ℕ → Bool) prefix_step ty) ∙ ap (λ l. prefix_step (map-Ty Ty (List ℕ → Bool) takes_prefix l) p) is
 
-numbers_are : (n : ℕ) → is_number (number_value (pos n)) ≡ true
+numbers_are : (n : ℕ) → is_number_value (number_value (pos n)) ≡ true
 numbers_are n = by (nat_lt n (2 ^ 127))
   where
-    by : (b : Bool) → is_number (if b then Num (pos n) else Huge n) ≡ true
+    by : (b : Bool) → is_number_value (if b then Num (pos n) else Huge n) ≡ true
     by true = rw (outs-Num (pos n)) refl
     by false = rw (outs-Huge n) refl
 
-num_is_number : (n : ℤ) → is_number (Num n) ≡ true
+num_is_number : (n : ℤ) → is_number_value (Num n) ≡ true
 num_is_number n = rw (outs-Num n) refl
 
-an_integer : (given : Literal) (v : Value) → integer_value given ≡ Some v → is_number v ≡ true
-an_integer (literal.Number number) v e = let m = mapped_is (λ n. number_value (pos n)) number v e in subst (λ w. is_number w ≡ true) (sym m.2) (numbers_are m.0)
-an_integer (literal.Negative number) v e = let m = mapped_is Num number v e in subst (λ w. is_number w ≡ true) (sym m.2) (num_is_number m.0)
+an_integer : (given : Literal) (v : Value) → integer_value given ≡ Some v → is_number_value v ≡ true
+an_integer (literal.Number number) v e = let m = mapped_is (λ n. number_value (pos n)) number v e in subst (λ w. is_number_value w ≡ true) (sym m.2) (numbers_are m.0)
+an_integer (literal.Negative number) v e = let m = mapped_is Num number v e in subst (λ w. is_number_value w ≡ true) (sym m.2) (num_is_number m.0)
 an_integer (literal.Text text) v e = cc
 
-a_day : (given : Literal) (v : Value) → date_value given ≡ Some v → is_number v ≡ true
-a_day (literal.Text text) v e = let m = mapped_is (λ day. Num (pos day)) (date_of text) v e in subst (λ w. is_number w ≡ true) (sym m.2) (num_is_number (pos m.0))
+a_day : (given : Literal) (v : Value) → date_literal_value given ≡ Some v → is_number_value v ≡ true
+a_day (literal.Text text) v e = let m = mapped_is (λ day. Num (pos day)) (date_of text) v e in subst (λ w. is_number_value w ≡ true) (sym m.2) (num_is_number (pos m.0))
 a_day given v e = cc
 
-a_second : (given : Literal) (v : Value) → moment_value given ≡ Some v → is_number v ≡ true
-a_second (literal.Text text) v e = let m = mapped_is (λ second. Num (pos second)) (moment_of text) v e in subst (λ w. is_number w ≡ true) (sym m.2) (num_is_number (pos m.0))
+a_second : (given : Literal) (v : Value) → moment_value given ≡ Some v → is_number_value v ≡ true
+a_second (literal.Text text) v e = let m = mapped_is (λ second. Num (pos second)) (moment_of text) v e in subst (λ w. is_number_value w ≡ true) (sym m.2) (num_is_number (pos m.0))
 a_second given v e = cc
 
 a_text : (given : Literal) (v : Value) → text_value given ≡ Some v → text_at (λ bytes. true) (out-Value v) ≡ true
@@ -100,17 +100,17 @@ plain_suits Ty-F.Str given v e = a_text given v e
 plain_suits (Ty-F.FixedString size) given v e = a_fixed size given v e
 plain_suits level given v e = cc
 
-value_suits : (ty : Ty) (given : Literal) (v : Value) → value_of ty given ≡ Some v → takes_literal ty v ≡ true
+value_suits : (ty : Ty) (given : Literal) (v : Value) → literal_value_of ty given ≡ Some v → takes_literal ty v ≡ true
 value_suits ty given v e = by (out-Ty ty) refl e
   where
     by : (level : Ty-F Ty) → out-Ty ty ≡ level → value_at (out-Ty (inside_at ty level)) given ≡ Some v → takes_literal ty v ≡ true
     by (Ty-F.Nullable inner) is e = literal_at ty (Ty-F.Nullable inner) is v ∙ literal_at inner (out-Ty inner) refl v ∙ plain_suits (out-Ty inner) given v e
     by level is e = literal_at ty level is v ∙ plain_suits level given v (subst (λ l. value_at l given ≡ Some v) is e)
 
-element_suits : (ty : Ty) (given : Literal) (v : Value) → element_of ty given ≡ Some v → takes_item_at (out-Ty ty) v ≡ true
+element_suits : (ty : Ty) (given : Literal) (v : Value) → element_value_of ty given ≡ Some v → takes_item_at (out-Ty ty) v ≡ true
 element_suits ty given v e = by (out-Ty ty) e
   where
-    by : (level : Ty-F Ty) → element_at level given ≡ Some v → takes_item_at level v ≡ true
+    by : (level : Ty-F Ty) → element_value_at level given ≡ Some v → takes_item_at level v ≡ true
     by (Ty-F.Array inner) e = value_suits inner given v e
     by level e = cc
 
@@ -151,13 +151,13 @@ module _ (columns : List Column) where
       let fits : test (column_at columns one.0.0).ty two.0 ≡ test one.0.1 two.0 = ap (λ (c : ℕ × Ty). test (column_at columns c.0).ty two.0) m.2 ∙ ap (λ (c : ℕ × Ty). test c.1 two.0) (sym m.2) in
       subst Suits (some_is (make one.0.0 two.0) made two.2) (means one.0.0 two.0 ∙ fits ∙ of_type)
 
-  null_suits : (name : List ℕ) (negated : Bool) (made : Cond) → null_test_of columns name negated ≡ Some made → Suits made
+  null_suits : (name : List ℕ) (negated : Bool) (made : Cond) → null_test_on columns name negated ≡ Some made → Suits made
   null_suits name negated made e =
       let one = then_is (λ (place : ℕ). let o : Option Cond = Some (IsNull place negated) in o) (place_of columns name) made e in
       subst Suits (some_is (IsNull one.0 negated) made one.2) (suits_at (IsNull one.0 negated) (Cond-F.IsNull one.0 negated) (outs-IsNull one.0 negated))
 
   joined_suits : (join : Cond → Cond → Cond) → ((a b : Cond) → cond_suits columns (join a b) ≡ (cond_suits columns a && cond_suits columns b)) → (left right : Option Cond) (made : Cond)
-      → joined join left right ≡ Some made → ((a : Cond) → left ≡ Some a → Suits a) → ((b : Cond) → right ≡ Some b → Suits b) → Suits made
+      → joined_conditions join left right ≡ Some made → ((a : Cond) → left ≡ Some a → Suits a) → ((b : Cond) → right ≡ Some b → Suits b) → Suits made
   joined_suits join means left right made e l r =
       let one = then_is (λ (a : Cond). option_and_then (λ (b : Cond). let o : Option Cond = Some (join a b) in o) right) left made e in
       let two = then_is (λ (b : Cond). let o : Option Cond = Some (join one.0 b) in o) right made one.2 in
@@ -178,17 +178,17 @@ module _ (columns : List Column) where
 
   level_holds : (level : CondText-F Known) (made : Cond) → cond_step columns (map-CondText CondText (Option Cond) (cond_of columns) (plain level)) ≡ Some made → Suits made
   level_holds (CondText-F.Cmp name op given) made e =
-      column_suits name (λ ty. value_of ty given) takes_literal (λ place value. Cmp place op value) (λ ty value. value_suits ty given value)
+      column_suits name (λ ty. literal_value_of ty given) takes_literal (λ place value. Cmp place op value) (λ ty value. value_suits ty given value)
       (λ place value. suits_at (Cmp place op value) (Cond-F.Cmp place op value) (outs-Cmp place op value)) made e
   level_holds (CondText-F.OneOf name literals) made e =
-      column_suits name (λ ty. all_of (value_of ty) literals) (λ ty. list_all (takes_literal ty)) OneOf (λ ty values. all_pass (value_of ty) (takes_literal ty) (value_suits ty) literals values)
+      column_suits name (λ ty. all_of (literal_value_of ty) literals) (λ ty. list_all (takes_literal ty)) OneOf (λ ty values. all_pass (literal_value_of ty) (takes_literal ty) (value_suits ty) literals values)
       (λ place values. suits_at (OneOf place values) (Cond-F.OneOf place values) (outs-OneOf place values)) made e
   level_holds (CondText-F.IsNull name negated) made e = null_suits name negated made e
   level_holds (CondText-F.Starts name prefix) made e =
       column_suits name (λ ty. prefix_of ty prefix) takes_prefix Starts (λ ty text. prefix_suits ty prefix text)
       (λ place text. suits_at (Starts place text) (Cond-F.Starts place text) (outs-Starts place text)) made e
   level_holds (CondText-F.Has name given) made e =
-      column_suits name (λ ty. element_of ty given) (λ ty. takes_item_at (out-Ty ty)) Has (λ ty value. element_suits ty given value)
+      column_suits name (λ ty. element_value_of ty given) (λ ty. takes_item_at (out-Ty ty)) Has (λ ty value. element_suits ty given value)
       (λ place value. suits_at (Has place value) (Cond-F.Has place value) (outs-Has place value)) made e
   level_holds (CondText-F.And a b) made e = joined_suits And (λ l r. suits_at (And l r) (Cond-F.And l r) (outs-And l r)) (cond_of columns a.0) (cond_of columns b.0) made e a.1 b.1
   level_holds (CondText-F.Or a b) made e = joined_suits Or (λ l r. suits_at (Or l r) (Cond-F.Or l r) (outs-Or l r)) (cond_of columns a.0) (cond_of columns b.0) made e a.1 b.1
@@ -229,13 +229,13 @@ module _ (columns : List Column) where
       let made : Query = record { items = items; cond = cond; keys = keys; limit = text.limit } in
       subst (λ (q : Query). given_cond_suits columns q.cond ≡ true) (sym (ok_one made query e3)) (given_holds text.cond cond (found BadLiteral (given_cond columns text.cond) cond is)))))
 
-  judged_query_suits : (text : QueryText) (query : Query) → judged columns text ≡ Ok query → given_cond_suits columns query.cond ≡ true
-  unfolding judged
+  judged_query_suits : (text : QueryText) (query : Query) → judged_query columns text ≡ Ok query → given_cond_suits columns query.cond ≡ true
+  unfolding judged_query
   judged_query_suits text query e =
       ok_then (ok_or NoSuchColumn (items_of columns text.items)) _ query e (λ items is e1.
       ok_then (ok_or NoSuchColumn (all_of (place_of columns) text.group)) _ query e1 (λ keys are e2.
       required (given_is_present columns text.cond) NoSuchColumn _ query e2 (λ present e3. items_query_suits text items keys query e3)))
 
-  pub query_suits : (text : QueryText) (r : Result Query QueryError) → GivesQuery r (judged columns text) → IfOk r (λ query. IsTrue (given_cond_suits columns query.cond))
+  pub query_suits : (text : QueryText) (r : Result Query QueryError) → GivesQuery r (judged_query columns text) → IfOk r (λ query. IsTrue (given_cond_suits columns query.cond))
   query_suits text (Ok query) e = judged_query_suits text query e
   query_suits text (Err why) e = tt

@@ -26,9 +26,9 @@ integer_value (literal.Negative number) = option_map Num number
 integer_value (literal.Text text) = None
 
 -- the day of a text YYYY-MM-DD
-abbrev pub date_value : Literal → Option Value
-date_value (literal.Text text) = option_map (λ day. Num (pos day)) (date_of text)
-date_value _ = None
+abbrev pub date_literal_value : Literal → Option Value
+date_literal_value (literal.Text text) = option_map (λ day. Num (pos day)) (date_of text)
+date_literal_value _ = None
 
 -- the second of a text YYYY-MM-DD hh:mm:ss
 abbrev pub moment_value : Literal → Option Value
@@ -50,24 +50,24 @@ fixed_value size _ = None
 abbrev pub value_at : Ty-F Ty → Literal → Option Value
 value_at (Ty-F.UInt width) given = integer_value given
 value_at (Ty-F.Int width) given = integer_value given
-value_at Ty-F.Date given = date_value given
+value_at Ty-F.Date given = date_literal_value given
 value_at Ty-F.Moment given = moment_value given
 value_at Ty-F.Str given = text_value given
 value_at (Ty-F.FixedString size) given = fixed_value size given
 value_at _ given = None
 
 -- the value that a literal is beside a column of this type, if it suits it
-abbrev pub value_of : Ty → Literal → Option Value
-value_of ty given = value_at (out-Ty (inside ty)) given
+abbrev pub literal_value_of : Ty → Literal → Option Value
+literal_value_of ty given = value_at (out-Ty (inside ty)) given
 
 -- the value that a literal is beside the elements of an array, if it suits them
-abbrev pub element_at : Ty-F Ty → Literal → Option Value
-element_at (Ty-F.Array inner) given = value_of inner given
-element_at _ given = None
+abbrev pub element_value_at : Ty-F Ty → Literal → Option Value
+element_value_at (Ty-F.Array inner) given = literal_value_of inner given
+element_value_at _ given = None
 
 -- the same of a column of this type
-abbrev pub element_of : Ty → Literal → Option Value
-element_of ty given = element_at (out-Ty ty) given
+abbrev pub element_value_of : Ty → Literal → Option Value
+element_value_of ty given = element_value_at (out-Ty ty) given
 
 -- what a column's texts may begin with: a text, for FixedString(N) of at most N bytes
 abbrev pub prefix_at : Ty-F Ty → List ℕ → Option (List ℕ)

@@ -9,12 +9,12 @@ use Rattle.mt_query.specs.declared.why.QueryError.{QueryError}
 use Rattle.mt_query.specs.declared.why.QueryError.TheVariants as error
 use Rattle.mt_query.specs.declared.why.QueryWhy.{QueryWhy}
 use Rattle.mt_query.specs.declared.why.QueryWhy.TheVariants.{Syntax, TooMany}
-use Rattle.mt_query.specs.Rules.{judged}
+use Rattle.mt_query.specs.Rules.{judged_query}
 
 -- the text is a sentence, whose query or first broken rule this is
 abbrev pub AsksBySentence : List ℕ → Table → Result Query QueryWhy → Type 0
 AsksBySentence text table answer =
-    (sentence : QueryText) × IsQueryText text sentence × (judged table.columns sentence ≡ answer)
+    (sentence : QueryText) × IsQueryText text sentence × (judged_query table.columns sentence ≡ answer)
 
 -- the text is no sentence
 abbrev pub IsNoSentence : List ℕ → Type 0

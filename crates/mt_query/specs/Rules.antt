@@ -73,8 +73,8 @@ judged_items columns text items keys = do
   Ok (record { items = items; cond = cond; keys = keys; limit = text.limit })
 
 -- the query of a sentence over some columns, or the first rule that the sentence breaks
-unfoldable pub judged : List Column → QueryText → Result Query QueryWhy
-judged columns text = do
+unfoldable pub judged_query : List Column → QueryText → Result Query QueryWhy
+judged_query columns text = do
   items ← ok_or NoSuchColumn (items_of columns text.items)
   keys ← ok_or NoSuchColumn (all_of (place_of columns) text.group)
   _ ← require (given_is_present columns text.cond) NoSuchColumn

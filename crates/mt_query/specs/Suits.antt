@@ -16,20 +16,20 @@ use Rattle.mt_query.specs.declared.cond.Cond.TheFolds.{fold-Cond}
 -- ---- literals beside types
 
 -- the value is a number
-abbrev pub number_at : Level → Bool
-number_at (Value-F.Num n) = true
-number_at (Value-F.Huge n) = true
-number_at _ = false
+abbrev pub is_number_level : Level → Bool
+is_number_level (Value-F.Num n) = true
+is_number_level (Value-F.Huge n) = true
+is_number_level _ = false
 
-abbrev pub is_number : Value → Bool
-is_number value = number_at (out-Value value)
+abbrev pub is_number_value : Value → Bool
+is_number_value value = is_number_level (out-Value value)
 
 -- a number beside integers, dates and times, a text beside texts, of as many bytes as FixedString has; a Nullable goes by its inside
 abbrev pub literal_step : Ty-F (Value → Bool) → Value → Bool
-literal_step (Ty-F.UInt width) value = is_number value
-literal_step (Ty-F.Int width) value = is_number value
-literal_step Ty-F.Date value = is_number value
-literal_step Ty-F.Moment value = is_number value
+literal_step (Ty-F.UInt width) value = is_number_value value
+literal_step (Ty-F.Int width) value = is_number_value value
+literal_step Ty-F.Date value = is_number_value value
+literal_step Ty-F.Moment value = is_number_value value
 literal_step (Ty-F.FixedString size) value = text_at (λ bytes. length bytes == size) (out-Value value)
 literal_step Ty-F.Str value = text_at (λ bytes. true) (out-Value value)
 literal_step (Ty-F.Nullable inner) value = inner value

@@ -18,7 +18,7 @@ fn all_of(
     left: Option<Boxed<Cond>>,
     right: Option<Boxed<Cond>>,
 ) -> Result<Option<Boxed<Cond>>, NoMemory>
-    ensures { IfOk result (λ cond. cond ≡ conditions.joined made.And left right) }
+    ensures { IfOk result (λ cond. cond ≡ conditions.joined_conditions made.And left right) }
 {
     let Some(left) = left else {
         return Ok(None);
@@ -36,7 +36,7 @@ fn any_of(
     left: Option<Boxed<Cond>>,
     right: Option<Boxed<Cond>>,
 ) -> Result<Option<Boxed<Cond>>, NoMemory>
-    ensures { IfOk result (λ cond. cond ≡ conditions.joined made.Or left right) }
+    ensures { IfOk result (λ cond. cond ≡ conditions.joined_conditions made.Or left right) }
 {
     let Some(left) = left else {
         return Ok(None);
@@ -95,7 +95,7 @@ impl<'c> Columns<'c> {
         literal: &Literal,
     ) -> Result<Option<Boxed<Cond>>, NoMemory>
         ensures { IfOk result (λ cond. cond
-            ≡ conditions.comparison_of self.now.list.now name.now op literal.now) }
+            ≡ conditions.comparison_on self.now.list.now name.now op literal.now) }
     {
         let Some((column, ty)) = self.column(name.as_slice()) else {
             return Ok(None);
@@ -140,7 +140,7 @@ impl<'c> Columns<'c> {
         negated: bool,
     ) -> Result<Option<Boxed<Cond>>, NoMemory>
         ensures { IfOk result (λ cond. cond
-            ≡ conditions.null_test_of self.now.list.now name.now negated) }
+            ≡ conditions.null_test_on self.now.list.now name.now negated) }
     {
         match self.place(name.as_slice()) {
             Some(column) => Ok(Some(Boxed::new(alloc, Cond::IsNull { column, negated })?)),
@@ -157,7 +157,7 @@ impl<'c> Columns<'c> {
         prefix: &List<u8>,
     ) -> Result<Option<Boxed<Cond>>, NoMemory>
         ensures { IfOk result (λ cond. cond
-            ≡ conditions.starts_of self.now.list.now name.now prefix.now) }
+            ≡ conditions.starts_on self.now.list.now name.now prefix.now) }
     {
         let Some((column, ty)) = self.column(name.as_slice()) else {
             return Ok(None);
@@ -177,7 +177,7 @@ impl<'c> Columns<'c> {
         literal: &Literal,
     ) -> Result<Option<Boxed<Cond>>, NoMemory>
         ensures { IfOk result (λ cond. cond
-            ≡ conditions.has_of self.now.list.now name.now literal.now) }
+            ≡ conditions.has_on self.now.list.now name.now literal.now) }
     {
         let Some((column, ty)) = self.column(name.as_slice()) else {
             return Ok(None);

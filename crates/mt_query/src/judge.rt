@@ -1,7 +1,7 @@
 //! The rules behind the grammar, in order, and the query of a sentence that keeps them.
 
 ghost use Rattle.mt_query.specs.Queries.{GivesQuery};
-ghost use Rattle.mt_query.specs.Rules.{judged, judged_items};
+ghost use Rattle.mt_query.specs.Rules.{judged_query, judged_items};
 
 use crate::columns::Columns;
 use crate::group::are_grouped;
@@ -41,9 +41,9 @@ impl<'c> Columns<'c> {
     }
 
     /// The query of a sentence, or the first rule that it breaks.
-    #[tactic(auto, unfolding(crate::specs::Rules::judged))]
+    #[tactic(auto, unfolding(crate::specs::Rules::judged_query))]
     pub(crate) fn judge(&self, alloc: Global, text: &QueryText) -> Result<Query, QueryError>
-        ensures { GivesQuery result (judged self.now.list.now text.now) }
+        ensures { GivesQuery result (judged_query self.now.list.now text.now) }
     {
         let Some(items) = self.items(alloc, &text.items)? else {
             return Err(QueryError::Bad(QueryWhy::NoSuchColumn));

@@ -33,7 +33,7 @@ fn integer_value(literal: &Literal) -> Option<Value>
 
 /// The day of a text YYYY-MM-DD.
 fn date_value(literal: &Literal) -> Option<Value>
-    ensures { result ≡ literals.date_value literal.now }
+    ensures { result ≡ literals.date_literal_value literal.now }
 {
     match literal {
         Literal::Number(_) | Literal::Negative(_) => None,
@@ -109,7 +109,7 @@ fn plain_value(alloc: Global, ty: &Ty, literal: &Literal) -> Result<Option<Value
 
 /// The value that a literal is beside a column of this type, if it suits it.
 pub(crate) fn value_of(alloc: Global, ty: &Ty, literal: &Literal) -> Result<Option<Value>, NoMemory>
-    ensures { IfOk result (λ value. value ≡ literals.value_of ty.now literal.now) }
+    ensures { IfOk result (λ value. value ≡ literals.literal_value_of ty.now literal.now) }
 {
     plain_value(alloc, inside(ty), literal)
 }
@@ -120,7 +120,7 @@ pub(crate) fn values_of(
     ty: &Ty,
     given: &[Literal],
 ) -> Result<Option<List<Value>>, NoMemory>
-    ensures { IfOk result (λ values. values ≡ all_of (literals.value_of ty.now) given.now) }
+    ensures { IfOk result (λ values. values ≡ all_of (literals.literal_value_of ty.now) given.now) }
 {
     let mut values = List::with_capacity(alloc, given.len())?;
     for literal in given {
@@ -138,7 +138,7 @@ pub(crate) fn element_of(
     ty: &Ty,
     literal: &Literal,
 ) -> Result<Option<Value>, NoMemory>
-    ensures { IfOk result (λ value. value ≡ literals.element_of ty.now literal.now) }
+    ensures { IfOk result (λ value. value ≡ literals.element_value_of ty.now literal.now) }
 {
     match ty {
         Ty::Array(inner) => value_of(alloc, inner.get(), literal),

@@ -1,8 +1,8 @@
 //! The clauses behind a table's name.
 
 ghost use Rattle.mt_tokens.specs.Tokens.{plains};
-ghost use Rattle.mt_phrases.specs.Answers.{Gives};
-ghost use Rattle.mt_query_syntax.specs.Reading.{clauses_at, group_at, limit_at, order_at, where_at};
+ghost use Rattle.mt_phrases.specs.Answers.{GivesPhrase};
+ghost use Rattle.mt_query_syntax.specs.Reading.{query_clauses_at, query_group_at, limit_at, query_order_at, where_at};
 
 use mt_cond_syntax::{CondText, cond};
 use mt_phrases::{NameRule, SyntaxError, keyword, names, number};
@@ -26,7 +26,7 @@ fn where_cond<'a, 't>(
     alloc: Global,
     tokens: &'t [Token<'a>],
 ) -> Result<(Option<CondText>, &'t [Token<'a>]), SyntaxError>
-    ensures { Gives (λ x. (x.0, plains x.1.now)) result (where_at (plains tokens.now)) }
+    ensures { GivesPhrase (λ x. (x.0, plains x.1.now)) result (where_at (plains tokens.now)) }
 {
     match after_keyword(tokens, b"WHERE") {
         Some(after) => {
@@ -42,7 +42,7 @@ fn group<'a, 't>(
     alloc: Global,
     tokens: &'t [Token<'a>],
 ) -> Result<(Option<List<List<u8>>>, &'t [Token<'a>]), SyntaxError>
-    ensures { Gives (λ x. (x.0, plains x.1.now)) result (group_at (plains tokens.now)) }
+    ensures { GivesPhrase (λ x. (x.0, plains x.1.now)) result (query_group_at (plains tokens.now)) }
 {
     match after_keyword(tokens, b"GROUP") {
         Some(after) => {
@@ -56,7 +56,7 @@ fn group<'a, 't>(
 
 /// The number of LIMIT, where it is given.
 fn limit<'a, 't>(tokens: &'t [Token<'a>]) -> Result<(Option<u64>, &'t [Token<'a>]), SyntaxError>
-    ensures { Gives (λ x. (x.0, plains x.1.now)) result (limit_at (plains tokens.now)) }
+    ensures { GivesPhrase (λ x. (x.0, plains x.1.now)) result (limit_at (plains tokens.now)) }
 {
     match after_keyword(tokens, b"LIMIT") {
         Some(after) => {
@@ -69,7 +69,7 @@ fn limit<'a, 't>(tokens: &'t [Token<'a>]) -> Result<(Option<u64>, &'t [Token<'a>
 
 /// ORDER BY ALL, and the number of LIMIT.
 fn order<'a, 't>(tokens: &'t [Token<'a>]) -> Result<(Option<u64>, &'t [Token<'a>]), SyntaxError>
-    ensures { Gives (λ x. (x.0, plains x.1.now)) result (order_at (plains tokens.now)) }
+    ensures { GivesPhrase (λ x. (x.0, plains x.1.now)) result (query_order_at (plains tokens.now)) }
 {
     let rest = keyword(tokens, b"ORDER")?;
     let rest = keyword(rest, b"BY")?;
@@ -82,7 +82,7 @@ pub(crate) fn read_clauses<'a, 't>(
     alloc: Global,
     tokens: &'t [Token<'a>],
 ) -> Result<(Clauses, &'t [Token<'a>]), SyntaxError>
-    ensures { Gives (λ x. ((x.0.cond, (x.0.group, x.0.limit)), plains x.1.now)) result (clauses_at (plains tokens.now)) }
+    ensures { GivesPhrase (λ x. ((x.0.cond, (x.0.group, x.0.limit)), plains x.1.now)) result (query_clauses_at (plains tokens.now)) }
 {
     let (cond, rest) = where_cond(alloc, tokens)?;
     let (group, rest) = group(alloc, rest)?;

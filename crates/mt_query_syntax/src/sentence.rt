@@ -2,8 +2,8 @@
 
 ghost use Rattle.std.specs.Prelude.{◌≡◌};
 ghost use Rattle.mt_tokens.specs.Tokens.{plains};
-ghost use Rattle.mt_phrases.specs.Answers.{Gives};
-ghost use Rattle.mt_query_syntax.specs.Reading.{from_at, query_at, sentence_at};
+ghost use Rattle.mt_phrases.specs.Answers.{GivesPhrase};
+ghost use Rattle.mt_query_syntax.specs.Reading.{from_at, query_at, query_sentence_at};
 ghost use Rattle.mt_query_syntax.specs.Trees.{query_of};
 
 use crate::clause::{Clauses, read_clauses};
@@ -20,7 +20,7 @@ fn from<'a, 't>(
     alloc: Global,
     tokens: &'t [Token<'a>],
 ) -> Result<(Clauses, &'t [Token<'a>]), SyntaxError>
-    ensures { Gives (λ x. ((x.0.cond, (x.0.group, x.0.limit)), plains x.1.now)) result (from_at (plains tokens.now)) }
+    ensures { GivesPhrase (λ x. ((x.0.cond, (x.0.group, x.0.limit)), plains x.1.now)) result (from_at (plains tokens.now)) }
 {
     let rest = keyword(tokens, b"FROM")?;
     let rest = skip_database(NameRule::Unreserved, rest)?;
@@ -50,7 +50,7 @@ fn query<'a, 't>(
     alloc: Global,
     tokens: &'t [Token<'a>],
 ) -> Result<(QueryText, &'t [Token<'a>]), SyntaxError>
-    ensures { Gives (λ x. (x.0, plains x.1.now)) result (query_at (plains tokens.now)) }
+    ensures { GivesPhrase (λ x. (x.0, plains x.1.now)) result (query_at (plains tokens.now)) }
 {
     let rest = keyword(tokens, b"SELECT")?;
     let (items, rest) = selects(NameRule::Unreserved, alloc, rest)?;
@@ -59,9 +59,9 @@ fn query<'a, 't>(
 }
 
 /// The sentence that the tokens are.
-#[tactic(auto, unfolding(crate::specs::Reading::sentence_at))]
+#[tactic(auto, unfolding(crate::specs::Reading::query_sentence_at))]
 pub(crate) fn sentence(alloc: Global, tokens: &[Token<'_>]) -> Result<QueryText, SyntaxError>
-    ensures { Gives (λ x. x) result (sentence_at (plains tokens.now)) }
+    ensures { GivesPhrase (λ x. x) result (query_sentence_at (plains tokens.now)) }
 {
     let (query, rest) = query(alloc, tokens)?;
     let rest = skip_semicolon(rest)?;

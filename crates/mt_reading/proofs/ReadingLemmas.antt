@@ -3,7 +3,7 @@ use Rattle.std.proofs.Common.{◌≡◌, inl, inr, ℕ, List, Option, Some, None
 use Rattle.mt_table.specs.declared.definition.Table.{Table}
 use Rattle.mt_shelf.specs.Files.{Files}
 use Rattle.mt_definition.specs.declared.accepted.Accepted.{Accepted}
-use Rattle.mt_command.specs.Outcomes.{Outcomes, Returns, ◌>>=◌, gives}
+use Rattle.mt_command.specs.Outcomes.{Outcomes, ReturnsOutcome, ◌>>=◌, gives}
 use Rattle.mt_command.specs.Parts.{table_part_steps}
 use Rattle.mt_command.specs.declared.status.Status.{Status}
 
@@ -12,8 +12,8 @@ abbrev pub text_steps : (Table × Accepted → List ℕ) → List ℕ → List �
 text_steps text path part files = table_part_steps path part files >>= λ read. gives (Ok (text read))
 
 -- the part isn't read
-pub read_refused : (text : Table × Accepted → List ℕ) (path part : List ℕ) (status : Status) (files : Option Files) → IfSome files (λ f. Returns (let r : Result (Table × Accepted) Status = Err status in r) (table_part_steps path part f))
-    → IfSome files (λ f. Returns (let r : Result (List ℕ) Status = Err status in r) (text_steps text path part f))
+pub read_refused : (text : Table × Accepted → List ℕ) (path part : List ℕ) (status : Status) (files : Option Files) → IfSome files (λ f. ReturnsOutcome (let r : Result (Table × Accepted) Status = Err status in r) (table_part_steps path part f))
+    → IfSome files (λ f. ReturnsOutcome (let r : Result (List ℕ) Status = Err status in r) (text_steps text path part f))
 read_refused text path part status None gives = tt
 read_refused text path part status (Some f) gives = λ inside. inr (status, gives inside, refl)
 

@@ -5,7 +5,7 @@ ghost use Rattle.mt_shelf.specs.Paths.{is_path};
 ghost use Rattle.mt_shelf.specs.State.{files_of};
 ghost use Rattle.mt_tsv.specs.Printing.{rows_text};
 ghost use Rattle.mt_command.specs.Commands.{PrintsTextOf};
-ghost use Rattle.mt_command.specs.Outcomes.{Returns};
+ghost use Rattle.mt_command.specs.Outcomes.{ReturnsOutcome};
 ghost use Rattle.mt_command.specs.Plans.{world};
 ghost use Rattle.mt_command.specs.Steps.{StepCausedBy, of_shelf};
 ghost use Rattle.mt_reading.specs.Reading.{accepted_line, check_steps, rows_steps};
@@ -53,7 +53,7 @@ fn check_text<F: Shelf>(
 ) -> Result<List<u8>, Status>
     requires path { IsTrue (is_path path.now) }
     requires part { IsTrue (is_path part.now) }
-    ensures gives { IfSome (files_of (F.state shelf.old)) (λ files. Returns result (check_steps path.now part.now files)) }
+    ensures gives { IfSome (files_of (F.state shelf.old)) (λ files. ReturnsOutcome result (check_steps path.now part.now files)) }
     ensures files { files_of (F.state shelf.new) ≡ files_of (F.state shelf.old) }
     ensures cause { StepCausedBy result (of_shelf (F.faults shelf.old)) (of_shelf (F.faults shelf.new)) }
 {
@@ -76,7 +76,7 @@ fn lines_of_part<F: Shelf>(
 ) -> Result<List<u8>, Status>
     requires path { IsTrue (is_path path.now) }
     requires part { IsTrue (is_path part.now) }
-    ensures gives { IfSome (files_of (F.state shelf.old)) (λ files. Returns result (rows_steps path.now part.now files)) }
+    ensures gives { IfSome (files_of (F.state shelf.old)) (λ files. ReturnsOutcome result (rows_steps path.now part.now files)) }
     ensures files { files_of (F.state shelf.new) ≡ files_of (F.state shelf.old) }
     ensures cause { StepCausedBy result (of_shelf (F.faults shelf.old)) (of_shelf (F.faults shelf.new)) }
 {

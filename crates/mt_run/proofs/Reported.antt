@@ -8,7 +8,7 @@ use Rattle.mt_command.proofs.ReportedLemmas.{performs_reported, prints_reported,
 use Rattle.mt_merging.specs.Merge.{merge_steps}
 use Rattle.mt_select.specs.Select.{select_steps}
 use Rattle.mt_show.specs.Show.{show_steps}
-use Rattle.mt_command.specs.Status.{is_outside}
+use Rattle.mt_command.specs.Status.{is_outside_fault}
 use Rattle.mt_trial.specs.Trial.{PrintsTrial, trial_text}
 use Rattle.mt_run.specs.Commands.{Command, Write, Check, Rows, Show, Select, Merge, Trial, Runs}
 use Rattle.mt_note.specs.Notes.{IsReported}
@@ -17,9 +17,9 @@ use Rattle.mt_writing.specs.Write.{write_plan}
 
 -- ---- a trial
 
-done_or_outside : (status reported : Status) → IsReported status reported → (status ≡ Done) ⊎ (is_outside status ≡ true) → (reported ≡ Done) ⊎ (is_outside reported ≡ true)
-done_or_outside status reported (inl same) ended = subst (λ s. (s ≡ Done) ⊎ (is_outside s ≡ true)) (sym same) ended
-done_or_outside status reported (inr (memory, other)) ended = inr (ap is_outside memory)
+done_or_outside : (status reported : Status) → IsReported status reported → (status ≡ Done) ⊎ (is_outside_fault status ≡ true) → (reported ≡ Done) ⊎ (is_outside_fault reported ≡ true)
+done_or_outside status reported (inl same) ended = subst (λ s. (s ≡ Done) ⊎ (is_outside_fault s ≡ true)) (sym same) ended
+done_or_outside status reported (inr (memory, other)) ended = inr (ap is_outside_fault memory)
 
 was_done : (status reported : Status) → IsReported status reported → reported ≡ Done → status ≡ Done
 was_done status reported (inl same) done = sym same ∙ done

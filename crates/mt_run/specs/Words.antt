@@ -4,7 +4,7 @@ use Rattle.std.specs.List.{list_all}
 use Rattle.std.specs.Str.{bytes_eq}
 use Rattle.mt_shelf.specs.Paths.{is_path}
 use Rattle.mt_command.specs.declared.limits.TheConstants.{MAX_WORKERS, MAX_INPUTS}
-use Rattle.mt_trial.specs.Words.{number_in, rows_in}
+use Rattle.mt_trial.specs.Words.{number_in_word, row_count_in}
 use Rattle.mt_run.specs.Commands.{Command, Write, Check, Rows, Show, Select, Merge, Trial}
 
 -- a digit from 1 to 9, in ASCII
@@ -71,7 +71,7 @@ trial_of number rows = None
 
 -- trial NUMBER ROWS WORKERS
 abbrev pub trial_command : List (List ℕ) → Option Command
-trial_command (number ∷ rows ∷ workers ∷ []) = if is_some (workers_in workers) then trial_of (number_in number) (rows_in rows) else None
+trial_command (number ∷ rows ∷ workers ∷ []) = if is_some (workers_in workers) then trial_of (number_in_word number) (row_count_in rows) else None
 trial_command operands = None
 
 -- the command of a name, where the words after it have its form

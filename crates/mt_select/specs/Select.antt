@@ -12,9 +12,9 @@ use Rattle.mt_command.specs.Tables.{table_in}
 use Rattle.mt_command.specs.declared.status.Status.TheVariants.{BadQuery}
 
 -- what a text asks of a table: its query, or the first rule that it breaks
-abbrev pub query_of : Table → (text : List ℕ) → Outcomes Query
-query_of table text (Ok query) = Asks text table (Ok query)
-query_of table text (Err status) = (why : QueryWhy) × Asks text table (Err why) × (status ≡ BadQuery why)
+abbrev pub query_asked : Table → (text : List ℕ) → Outcomes Query
+query_asked table text (Ok query) = Asks text table (Ok query)
+query_asked table text (Err status) = (why : QueryWhy) × Asks text table (Err why) × (status ≡ BadQuery why)
 
 -- the lines of a query's answer over the rows of a part
 abbrev pub answer_steps : Table → Query → (part : List ℕ) → Files → Outcomes (List ℕ)
@@ -26,5 +26,5 @@ answer_steps table query part files = do
 abbrev pub select_steps : (path part text : List ℕ) → Files → Outcomes (List ℕ)
 select_steps path part text files = do
   table ← gives (table_in path files)
-  query ← query_of table text
+  query ← query_asked table text
   answer_steps table query part files

@@ -4,7 +4,7 @@ ghost use Rattle.std.specs.Prelude.{◌≡◌, IfSome, IsTrue};
 ghost use Rattle.mt_shelf.specs.Paths.{is_path};
 ghost use Rattle.mt_shelf.specs.State.{files_of};
 ghost use Rattle.mt_command.specs.Commands.{PrintsTextOf};
-ghost use Rattle.mt_command.specs.Outcomes.{Returns};
+ghost use Rattle.mt_command.specs.Outcomes.{ReturnsOutcome};
 ghost use Rattle.mt_command.specs.Plans.{world};
 ghost use Rattle.mt_command.specs.Steps.{StepCausedBy, of_shelf};
 ghost use Rattle.mt_select.specs.Select.{answer_steps, select_steps};
@@ -28,7 +28,7 @@ fn answer_of<F: Shelf>(
 ) -> Result<List<u8>, Status>
     requires { IsTrue (is_path part.now) }
     ensures gives { IfSome (files_of (F.state shelf.old))
-        (λ files. Returns result (answer_steps table.now query.now part.now files)) }
+        (λ files. ReturnsOutcome result (answer_steps table.now query.now part.now files)) }
     ensures files { files_of (F.state shelf.new) ≡ files_of (F.state shelf.old) }
     ensures cause { StepCausedBy result (of_shelf (F.faults shelf.old)) (of_shelf (F.faults shelf.new)) }
 {
@@ -53,7 +53,7 @@ fn select_text<F: Shelf>(
     requires path { IsTrue (is_path path.now) }
     requires part { IsTrue (is_path part.now) }
     ensures gives { IfSome (files_of (F.state shelf.old))
-        (λ files. Returns result (select_steps path.now part.now query.now files)) }
+        (λ files. ReturnsOutcome result (select_steps path.now part.now query.now files)) }
     ensures files { files_of (F.state shelf.new) ≡ files_of (F.state shelf.old) }
     ensures cause { StepCausedBy result (of_shelf (F.faults shelf.old)) (of_shelf (F.faults shelf.new)) }
 {

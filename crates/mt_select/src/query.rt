@@ -1,8 +1,8 @@
 //! The step that reads a query over a table.
 
-ghost use Rattle.mt_command.specs.Outcomes.{Returns};
+ghost use Rattle.mt_command.specs.Outcomes.{ReturnsOutcome};
 ghost use Rattle.mt_command.specs.Steps.{StepCausedBy, of_nothing};
-ghost use Rattle.mt_select.specs.Select.{query_of};
+ghost use Rattle.mt_select.specs.Select.{query_asked};
 
 use mt_command::Status;
 use mt_query::{Query, QueryError};
@@ -14,7 +14,7 @@ use std::alloc::Global;
 /// # Errors
 /// `BadQuery` with the first rule that the text breaks; `NoMemory`.
 pub fn read_query(alloc: Global, table: &Table, text: &str) -> Result<Query, Status>
-    ensures gives { Returns result (query_of table.now text.now) }
+    ensures gives { ReturnsOutcome result (query_asked table.now text.now) }
     ensures cause { StepCausedBy result of_nothing of_nothing }
 {
     match Query::read(alloc, text.as_bytes(), table) {

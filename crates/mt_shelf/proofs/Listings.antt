@@ -4,7 +4,7 @@ use Rattle.std.proofs.Math.Seq.{take-suc, split_at, set-append_seam}
 use Rattle.std.proofs.Math.ListN.{drop_of_length-le}
 use Rattle.std.proofs.lemmas.List.{take_all}
 use Rattle.std.proofs.Math.Dec.{T}
-use Rattle.std.specs.Cmp.{tied_itself, nat_cmp_total}
+use Rattle.std.specs.Cmp.{tied_itself}
 use Rattle.std.specs.Option.{option_map}
 use Rattle.std.specs.FinMap.Entries.{below_all}
 use Rattle.std.proofs.lemmas.Option.{slice_get_read}
@@ -14,13 +14,15 @@ use Rattle.std.specs.FinMap.{put, is_sorted, entries, entries-insert, entries_so
 use Rattle.mt_shelf.specs.Paths.{joined_path, name_below, is_path, is_relative}
 use Rattle.std.specs.Str.{is_utf8, IsUtf8}
 use Rattle.mt_shelf.specs.Files.{Files, entry_of, entries_below, is_file_path, HasPaths, IsListing}
-use Rattle.mt_shelf.proofs.Puts.{joined_below, first_true, second_true, both_true, good_name_below}
+use Rattle.mt_shelf.proofs.Puts.{joined_below, first_true, second_true, good_name_below}
 use Rattle.mt_shelf.specs.KeptPaths.{entries-empty}
 use Rattle.std.specs.List.{list_any, list_all, insert, filter_map, cons_option}
 use Rattle.std.specs.Ordering.{nat_cmp, ordering_then, is_lt}
 use Rattle.std.specs.Cmp.Lexicographic.{slice_cmp}
 use Rattle.std.specs.declared.cmp.Ordering.{Ordering}
 use Rattle.std.specs.declared.cmp.Ordering.TheVariants.{Less, Equal, Greater}
+use Rattle.std.proofs.lemmas.Bool.{and_from}
+use Rattle.mt_facts.proofs.Orderings.{nat_cmp_same}
 use Rattle.mt_shelf.specs.Held.{by_order, with_entry, with_entry_if, with_entry_of, names_in, files_in, pair_of}
 use Rattle.mt_shelf.specs.declared.file.Entry.{Entry}
 use Rattle.mt_fault.specs.declared.file.FileBytes.{FileBytes}
@@ -76,10 +78,6 @@ put_last name size i es past before =
     ∙ ap (λ (front : List Entry). front ++ with_entry name size (drop i es)) (take_all i es past)
     ∙ ap (λ (back : List Entry). es ++ with_entry name size back) (drop_of_length-le es past)
 
--- the names of two paths below a part compare as the paths do
-nat_same : (p : ℕ) → nat_cmp p p ≡ Equal
-nat_same p = tied_itself nat_cmp_total p
-
 pub first : (a b : Bool) → T (a && b) → T a
 first true b p = tt
 first false b p = absurd p
@@ -101,13 +99,13 @@ pub less_is : (r : Ordering) → r ≡ Less → T (is_lt r)
 less_is r e = subst (λ o. T (is_lt o)) (sym e) tt
 
 cmp_joined : (part n m : List ℕ) → slice_cmp nat_cmp (joined_path part n) (joined_path part m) ≡ slice_cmp nat_cmp n m
-cmp_joined [] n m = ap (λ (o : Ordering). ordering_then o (slice_cmp nat_cmp n m)) (nat_same 47)
-cmp_joined (p ∷ part) n m = ap (λ (o : Ordering). ordering_then o (slice_cmp nat_cmp (joined_path part n) (joined_path part m))) (nat_same p) ∙ cmp_joined part n m
+cmp_joined [] n m = ap (λ (o : Ordering). ordering_then o (slice_cmp nat_cmp n m)) (nat_cmp_same 47)
+cmp_joined (p ∷ part) n m = ap (λ (o : Ordering). ordering_then o (slice_cmp nat_cmp (joined_path part n) (joined_path part m))) (nat_cmp_same p) ∙ cmp_joined part n m
 
 cmp_below : (part k q n m : List ℕ) → name_below part k ≡ Some n → name_below part q ≡ Some m → slice_cmp nat_cmp k q ≡ slice_cmp nat_cmp n m
 cmp_below part k q n m kn qm = ap (λ (x : List ℕ). slice_cmp nat_cmp x q) (joined_below part k n kn) ∙ ap (slice_cmp nat_cmp (joined_path part n)) (joined_below part q m qm) ∙ cmp_joined part n m
 
-abbrev Pair : Type 0
+abbrev pub Pair : Type 0
 Pair = List ℕ × List ℕ
 
 abbrev shown : List ℕ → List Pair → List Entry
@@ -219,7 +217,7 @@ names-shown part utf8 form (e ∷ es) good = by_name (name_below part e.0) refl 
   where
     by_name : (o : Option (List ℕ)) → name_below part e.0 ≡ o → list_all good_name (shown part es) ≡ true → list_all good_name (cons_option (named_entry o (length e.1)) (shown part es)) ≡ true
     by_name None is later = later
-    by_name (Some n) is later = both_true (is_utf8 n && is_relative n) (list_all good_name (shown part es)) (good_name_below part e.0 n utf8 form (first_true (is_file_path e.0) (list_all is_file_path (map (λ f. f.0) es)) good) is) later
+    by_name (Some n) is later = and_from (is_utf8 n && is_relative n) (list_all good_name (shown part es)) (good_name_below part e.0 n utf8 form (first_true (is_file_path e.0) (list_all is_file_path (map (λ f. f.0) es)) good) is) later
 
 pub is_listing : (part : List ℕ) (files : Files) → IsUtf8 part → is_path part ≡ true → HasPaths files → IsListing (entries_below part files)
 is_listing part files utf8 form paths = record {

@@ -1,6 +1,6 @@
 -- Drafts by whole paths.
 use Rattle.std.proofs.Common.{◌≡◌, ℕ, suc, zero, Bool, true, false, cond, ◌&&◌, ◌==◌, List, [], ◌∷◌, ◌++◌, Option, Some, None, is_some, refl, sym, ◌∙◌, ap, subst, arith, rules, get_or, length, drop, ◌<◌, ◌+◌, length-append}
-use Rattle.std.proofs.lemmas.Bool.{eqb-true, eq-eqb}
+use Rattle.std.proofs.lemmas.Bool.{eqb-true, eq-eqb, and_from}
 use Rattle.std.proofs.lemmas.Str.{IsUtf8-append, is_utf8-from_IsUtf8, IsUtf8-from_is_utf8, IsUtf8-from_ascii, IsUtf8-drop, IsCharBoundary-after_ascii}
 use Rattle.std.proofs.Math.Seq.{get_or-append_seam, drop-append-add}
 use Rattle.std.proofs.lemmas.List.Folds.{list_all-append}
@@ -9,7 +9,7 @@ use Rattle.std.specs.Option.{option_map}
 use Rattle.std.specs.List.{list_all, cons_option}
 use Rattle.std.specs.Prelude.{All}
 use Rattle.std.specs.FinMap.{insert}
-use Rattle.mt_shelf.specs.Paths.{names_of, onto_first, is_name, is_relative, is_path, joined_path, name_below}
+use Rattle.mt_shelf.specs.Paths.{path_names, onto_first_name, is_entry_name, is_relative, is_path, joined_path, name_below}
 use Rattle.mt_shelf.specs.Files.{Files, gained_files, is_file_path, is_file_name}
 use Rattle.mt_shelf.specs.Held.{all_paths, put_of, draft_in, with_files, is_put, HasName}
 use Rattle.mt_fault.specs.declared.file.FileBytes.{FileBytes}
@@ -40,14 +40,11 @@ pub second_true : (a b : Bool) → (a && b) ≡ true → b ≡ true
 second_true true b e = e
 second_true false b e = cc
 
-pub both_true : (a b : Bool) → a ≡ true → b ≡ true → (a && b) ≡ true
-both_true a b p q = rw (p, q) refl
-
 pub paths-puts : (target : List ℕ) (draft : List FileBytes) → list_all (is_put target) draft ≡ true → all_paths draft ≡ true
 paths-puts target [] good = refl
 paths-puts target (file ∷ draft) good =
     let head : is_put target file ≡ true = first_true (is_put target file) (list_all (is_put target) draft) good in
-    both_true (is_file_path file.name) (all_paths draft) (first_true (is_file_path file.name) (is_some (name_below target file.name)) head) (paths-puts target draft (second_true (is_put target file) (list_all (is_put target) draft) good))
+    and_from (is_file_path file.name) (all_paths draft) (first_true (is_file_path file.name) (is_some (name_below target file.name)) head) (paths-puts target draft (second_true (is_put target file) (list_all (is_put target) draft) good))
 
 -- to write a draft below its target is to put each file in its place
 pub gained_files-draft_in : (target : List ℕ) (draft : List FileBytes) (files : Files) → list_all (is_put target) draft ≡ true → gained_files target (draft_in target draft) files ≡ with_files draft files
@@ -76,33 +73,33 @@ draft_in-push target (f ∷ draft) file name is = ap (cons_option (put_of target
     moved None = refl
     moved (Some p) = refl
 
-onto-append : (c : ℕ) (xs ys : List (List ℕ)) (x : List ℕ) → onto_first c ((x ∷ xs) ++ ys) ≡ onto_first c (x ∷ xs) ++ ys
+onto-append : (c : ℕ) (xs ys : List (List ℕ)) (x : List ℕ) → onto_first_name c ((x ∷ xs) ++ ys) ≡ onto_first_name c (x ∷ xs) ++ ys
 onto-append c xs ys x = refl
 
 -- names_of is never empty
-some_names : (path : List ℕ) → (x : List ℕ) × (xs : List (List ℕ)) × (names_of path ≡ x ∷ xs)
+some_names : (path : List ℕ) → (x : List ℕ) × (xs : List (List ℕ)) × (path_names path ≡ x ∷ xs)
 some_names [] = ([], [], refl)
 some_names (c ∷ path) = by_test (c == 47)
   where
-    onto : (names : List (List ℕ)) → (x : List ℕ) × (xs : List (List ℕ)) × (onto_first c names ≡ x ∷ xs)
+    onto : (names : List (List ℕ)) → (x : List ℕ) × (xs : List (List ℕ)) × (onto_first_name c names ≡ x ∷ xs)
     onto [] = (c ∷ [], [], refl)
     onto (n ∷ names) = (c ∷ n, names, refl)
 
-    by_test : (b : Bool) → (x : List ℕ) × (xs : List (List ℕ)) × (cond b ([] ∷ names_of path) (onto_first c (names_of path)) ≡ x ∷ xs)
-    by_test true = ([], names_of path, refl)
-    by_test false = onto (names_of path)
+    by_test : (b : Bool) → (x : List ℕ) × (xs : List (List ℕ)) × (cond b ([] ∷ path_names path) (onto_first_name c (path_names path)) ≡ x ∷ xs)
+    by_test true = ([], path_names path, refl)
+    by_test false = onto (path_names path)
 
-pub names-joined_path : (part name : List ℕ) → names_of (joined_path part name) ≡ names_of part ++ names_of name
+pub names-joined_path : (part name : List ℕ) → path_names (joined_path part name) ≡ path_names part ++ path_names name
 names-joined_path [] name = refl
 names-joined_path (c ∷ part) name = by_test (c == 47) (names-joined_path part name) (some_names part)
   where
-    by_test : (b : Bool) → names_of (joined_path part name) ≡ names_of part ++ names_of name → (x : List ℕ) × (xs : List (List ℕ)) × (names_of part ≡ x ∷ xs)
-        → cond b ([] ∷ names_of (joined_path part name)) (onto_first c (names_of (joined_path part name))) ≡ cond b ([] ∷ names_of part) (onto_first c (names_of part)) ++ names_of name
+    by_test : (b : Bool) → path_names (joined_path part name) ≡ path_names part ++ path_names name → (x : List ℕ) × (xs : List (List ℕ)) × (path_names part ≡ x ∷ xs)
+        → cond b ([] ∷ path_names (joined_path part name)) (onto_first_name c (path_names (joined_path part name))) ≡ cond b ([] ∷ path_names part) (onto_first_name c (path_names part)) ++ path_names name
     by_test true later some = ap (λ (names : List (List ℕ)). [] ∷ names) later
-    by_test false later some = ap (onto_first c) (later ∙ ap (λ (names : List (List ℕ)). names ++ names_of name) some.2) ∙ ap (λ (names : List (List ℕ)). onto_first c names ++ names_of name) (sym some.2)
+    by_test false later some = ap (onto_first_name c) (later ∙ ap (λ (names : List (List ℕ)). names ++ path_names name) some.2) ∙ ap (λ (names : List (List ℕ)). onto_first_name c names ++ path_names name) (sym some.2)
 
 relative_joined : (part name : List ℕ) → is_relative part ≡ true → is_relative name ≡ true → is_relative (joined_path part name) ≡ true
-relative_joined part name p n = ap (list_all is_name) (names-joined_path part name) ∙ list_all-append is_name (names_of part) (names_of name) ∙ both_true (is_relative part) (is_relative name) p n
+relative_joined part name p n = ap (list_all is_entry_name) (names-joined_path part name) ∙ list_all-append is_entry_name (path_names part) (path_names name) ∙ and_from (is_relative part) (is_relative name) p n
 
 pub path_joined : (part name : List ℕ) → is_path part ≡ true → is_relative name ≡ true → is_path (joined_path part name) ≡ true
 path_joined [] name p n = cc
@@ -113,7 +110,7 @@ path_joined (c ∷ part) name p n = by_test (c == 47) p
     by_test false q = relative_joined (c ∷ part) name q n
 
 pub is_file_path-from : (path : List ℕ) → IsUtf8 path → is_path path ≡ true → is_file_path path ≡ true
-is_file_path-from path utf8 form = both_true (is_utf8 path) (is_path path) (is_utf8-from_IsUtf8 path utf8) form
+is_file_path-from path utf8 form = and_from (is_utf8 path) (is_path path) (is_utf8-from_IsUtf8 path utf8) form
 
 slash_utf8 : IsUtf8 (47 ∷ [])
 slash_utf8 = IsUtf8-from_ascii (47 ∷ []) (search rules)
@@ -124,13 +121,13 @@ is_put-joined_path target name file is path utf8 form =
     let target_utf8 : IsUtf8 target = IsUtf8-from_is_utf8 target (first_true (is_utf8 target) (is_path target) path) in
     let whole_utf8 : IsUtf8 (joined_path target name) = IsUtf8-append target (47 ∷ name) target_utf8 (IsUtf8-append (47 ∷ []) name slash_utf8 utf8) in
     let good : is_file_path (joined_path target name) ≡ true = is_file_path-from (joined_path target name) whole_utf8 (path_joined target name (second_true (is_utf8 target) (is_path target) path) form) in
-    both_true (is_file_path file.name) (is_some (name_below target file.name)) (ap is_file_path is ∙ good) (ap (λ (p : List ℕ). is_some (name_below target p)) is ∙ ap is_some (below_joined target name))
+    and_from (is_file_path file.name) (is_some (name_below target file.name)) (ap is_file_path is ∙ good) (ap (λ (p : List ℕ). is_some (name_below target p)) is ∙ ap is_some (below_joined target name))
 
 pub puts-push : (target : List ℕ) (draft : List FileBytes) (file : FileBytes) → list_all (is_put target) draft ≡ true → is_put target file ≡ true → list_all (is_put target) (draft ++ file ∷ []) ≡ true
-puts-push target draft file good one = list_all-append (is_put target) draft (file ∷ []) ∙ both_true (list_all (is_put target) draft) (is_put target file && true) good (both_true (is_put target file) true one refl)
+puts-push target draft file good one = list_all-append (is_put target) draft (file ∷ []) ∙ and_from (list_all (is_put target) draft) (is_put target file && true) good (and_from (is_put target file) true one refl)
 
 relative_below : (part name : List ℕ) → is_relative (joined_path part name) ≡ true → is_relative name ≡ true
-relative_below part name whole = second_true (is_relative part) (is_relative name) (sym (ap (list_all is_name) (names-joined_path part name) ∙ list_all-append is_name (names_of part) (names_of name)) ∙ whole)
+relative_below part name whole = second_true (is_relative part) (is_relative name) (sym (ap (list_all is_entry_name) (names-joined_path part name) ∙ list_all-append is_entry_name (path_names part) (path_names name)) ∙ whole)
 
 path_below : (part name : List ℕ) → is_path (joined_path part name) ≡ true → is_relative name ≡ true
 path_below [] name whole = whole
@@ -155,7 +152,7 @@ good_name_below part path name utf8 form good is =
     let whole : path ≡ joined_path part name = joined_below part path name is in
     let P : List ℕ → Type 0 = λ p. is_file_path p ≡ true in
     let joined_good : is_file_path (joined_path part name) ≡ true = subst P whole good in
-    both_true (is_utf8 name) (is_relative name)
+    and_from (is_utf8 name) (is_relative name)
     (is_utf8-from_IsUtf8 name (utf8_below part name (IsUtf8-from_is_utf8 (joined_path part name) (first_true (is_utf8 (joined_path part name)) (is_path (joined_path part name)) joined_good))))
     (path_below part name (second_true (is_utf8 (joined_path part name)) (is_path (joined_path part name)) joined_good))
 
@@ -179,5 +176,5 @@ pub HasName-all : (files : List FileBytes) → All HasName files → list_all (�
 HasName-all [] names = refl
 HasName-all (file ∷ files) names =
     let name : HasName file = names 0 file (omega arith) in
-    let good : is_file_name file.name ≡ true = both_true (is_utf8 file.name) (is_relative file.name) (is_utf8-from_IsUtf8 file.name name.utf8) name.form in
-    both_true (is_file_name file.name) (list_all (λ f. is_file_name f.name) files) good (HasName-all files (λ k d inside. names (suc k) d (omega arith)))
+    let good : is_file_name file.name ≡ true = and_from (is_utf8 file.name) (is_relative file.name) (is_utf8-from_IsUtf8 file.name name.utf8) name.form in
+    and_from (is_file_name file.name) (list_all (λ f. is_file_name f.name) files) good (HasName-all files (λ k d inside. names (suc k) d (omega arith)))

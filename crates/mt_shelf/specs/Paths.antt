@@ -3,14 +3,14 @@ use Rattle.std.specs.Prelude.{ℕ, Bool, true, false, not, ◌&&◌, ◌==◌, L
 use Rattle.std.specs.List.{list_all}
 
 -- one byte more at the start of the first name
-abbrev pub onto_first : ℕ → List (List ℕ) → List (List ℕ)
-onto_first byte [] = (byte ∷ []) ∷ []
-onto_first byte (name ∷ names) = (byte ∷ name) ∷ names
+abbrev pub onto_first_name : ℕ → List (List ℕ) → List (List ℕ)
+onto_first_name byte [] = (byte ∷ []) ∷ []
+onto_first_name byte (name ∷ names) = (byte ∷ name) ∷ names
 
 -- the names of a path
-abbrev pub names_of : List ℕ → List (List ℕ)
-names_of [] = [] ∷ []
-names_of (byte ∷ path) = if byte == 47 then [] ∷ names_of path else onto_first byte (names_of path)
+abbrev pub path_names : List ℕ → List (List ℕ)
+path_names [] = [] ∷ []
+path_names (byte ∷ path) = if byte == 47 then [] ∷ path_names path else onto_first_name byte (path_names path)
 
 -- no byte, `.` or `..`
 abbrev pub is_dots : List ℕ → Bool
@@ -24,12 +24,12 @@ abbrev pub has_no_zero : List ℕ → Bool
 has_no_zero name = list_all (λ byte. not (byte == 0)) name
 
 -- a name of a file or folder
-abbrev pub is_name : List ℕ → Bool
-is_name name = not (is_dots name) && has_no_zero name
+abbrev pub is_entry_name : List ℕ → Bool
+is_entry_name name = not (is_dots name) && has_no_zero name
 
 -- names with `/` between them
 abbrev pub is_relative : List ℕ → Bool
-is_relative path = list_all is_name (names_of path)
+is_relative path = list_all is_entry_name (path_names path)
 
 -- the same, after a `/` or none
 abbrev pub is_path : List ℕ → Bool

@@ -2,7 +2,7 @@
 ghost use Rattle.std.specs.Prelude.{◌≡◌, IfOk};
 ghost use Rattle.std.specs.Option.{option_copied};
 ghost use Rattle.mt_shelf.specs.Files.{is_file_name};
-ghost use Rattle.mt_shelf.specs.Paths.{is_name, is_relative, is_path, is_dots, has_no_zero, name_below, is_at_or_below, joined_path};
+ghost use Rattle.mt_shelf.specs.Paths.{is_entry_name, is_relative, is_path, is_dots, has_no_zero, name_below, is_at_or_below, joined_path};
 
 use crate::bytes::{rest_from, subslice};
 use mt_types::NoMemory;
@@ -26,7 +26,7 @@ fn has_no_zero(name: &[u8]) -> bool
 }
 
 fn is_name(name: &[u8]) -> bool
-    ensures { result ≡ is_name name.now }
+    ensures { result ≡ is_entry_name name.now }
 {
     !is_dots(name) && has_no_zero(name)
 }

@@ -4,13 +4,10 @@ use Rattle.std.specs.Prelude.{IsSomeAnd}
 use Rattle.std.specs.FinMap.{get}
 use Rattle.std.proofs.Math.Seq.{take-add}
 use Rattle.std.proofs.lemmas.List.{drop-drop}
-use Rattle.mt_shelf.specs.Causes.{grown_count}
 use Rattle.mt_shelf.specs.Files.{Files}
 use Rattle.mt_shelf.specs.State.{State, after_read, ReadsUpTo}
+use Rattle.mt_shelf.proofs.WholeFiles.{grown_twice}
 use Rattle.mt_shelf_frame.specs.Taking.{KnownBytes}
-
-pub grown_twice : (t a b : ℕ) → grown_count (grown_count t a) b ≡ grown_count t (a + b)
-grown_twice t a b = omega arith
 
 pub read_twice : (s : State) (a b : ℕ) → after_read b (after_read a s) ≡ after_read (a + b) s
 read_twice s a b = ap (λ (n : ℕ). let t : State = record s { taken = n } in t) (grown_twice s.taken a b)

@@ -10,7 +10,7 @@ use Rattle.mt_defs.specs.Folder.{Folder, folder_of}
 use Rattle.mt_defs.specs.Projections.{inner_of}
 use Rattle.mt_definition.specs.DefinitionReading.{definition_reading}
 use Rattle.mt_show.specs.declared.shape.Size.{Size}
-use Rattle.mt_show.specs.Shape.{size_in, size_or_none, sizes_in}
+use Rattle.mt_show.specs.Shape.{size_of_projection, size_or_none, sizes_in}
 
 -- the folders of projections by their files
 abbrev pub folders_of : List (Option (List FileBytes)) → List (Option Folder)
@@ -18,14 +18,14 @@ folders_of = map (option_map folder_of)
 
 -- the size of a projection that is there, by its files
 pub size_is : (table : Table) (projection : Projection) (size : Size) (files : Option (List FileBytes)) (found bytes : List FileBytes) → files ≡ Some found → bytes ≡ found
-    → size ≡ size_or_none (definition_reading (inner_of table projection) (folder_of bytes)) → (let it : Option Size = Some size in it) ≡ size_in table projection (option_map folder_of files)
+    → size ≡ size_or_none (definition_reading (inner_of table projection) (folder_of bytes)) → (let it : Option Size = Some size in it) ≡ size_of_projection table projection (option_map folder_of files)
 size_is table projection size files found bytes there same is =
     ap (λ (s : Size). let it : Option Size = Some s in it) (is ∙ ap (λ bs. size_or_none (definition_reading (inner_of table projection) (folder_of bs))) same)
-    ∙ ap (λ (fs : Option (List FileBytes)). size_in table projection (option_map folder_of fs)) (sym there)
+    ∙ ap (λ (fs : Option (List FileBytes)). size_of_projection table projection (option_map folder_of fs)) (sym there)
 
 -- the size of one projection more
 pub sizes_step : (table : Table) (folders : List (Option (List FileBytes))) (i : ℕ) (files : Option (List FileBytes)) (size : Option Size) (out new whole : List (Option Size)) → length folders ≡ length table.projections → i < length folders
-    → files ≡ get_or folders i files → size ≡ size_in table (projection_at table i) (option_map folder_of files) → new ≡ out ++ size ∷ []
+    → files ≡ get_or folders i files → size ≡ size_of_projection table (projection_at table i) (option_map folder_of files) → new ≡ out ++ size ∷ []
     → out ++ sizes_in table (drop i table.projections) (folders_of (drop i folders)) ≡ whole → new ++ sizes_in table (drop (i + 1) table.projections) (folders_of (drop (i + 1) folders)) ≡ whole
 sizes_step table folders i files size out new whole long inside at is pushed so_far =
     let rest = sizes_in table (drop (i + 1) table.projections) (folders_of (drop (i + 1) folders)) in

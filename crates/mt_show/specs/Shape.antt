@@ -24,12 +24,12 @@ size_or_none (Ok stored) = record { rows = length stored.rows; granules = length
 size_or_none (Err fault) = record { rows = 0; granules = 0 }
 
 -- how much a projection's folder holds, if it is there
-abbrev pub size_in : Table → Projection → Option Folder → Option Size
-size_in table projection folder = option_map (λ found. size_or_none (definition_reading (inner_of table projection) found)) folder
+abbrev pub size_of_projection : Table → Projection → Option Folder → Option Size
+size_of_projection table projection folder = option_map (λ found. size_or_none (definition_reading (inner_of table projection) found)) folder
 
 -- the same of projections, each by its folder
 abbrev pub sizes_in : Table → List Projection → List (Option Folder) → List (Option Size)
-sizes_in table (projection ∷ projections) (folder ∷ folders) = size_in table projection folder ∷ sizes_in table projections folders
+sizes_in table (projection ∷ projections) (folder ∷ folders) = size_of_projection table projection folder ∷ sizes_in table projections folders
 sizes_in table _ _ = []
 
 -- the columns in the order of a folder's files

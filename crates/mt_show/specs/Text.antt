@@ -23,17 +23,17 @@ abbrev pub kind_line : (compact : Bool) → List ℕ
 kind_line compact = if compact then codes "kind Compact\n" else codes "kind Wide\n"
 
 -- how many there are of what a word names
-abbrev pub count_line : (word : List ℕ) → (count : ℕ) → List ℕ
-count_line word count = word ++ decimal count ++ codes "\n"
+abbrev pub shown_count : (word : List ℕ) → (count : ℕ) → List ℕ
+shown_count word count = word ++ decimal count ++ codes "\n"
 
 -- ---- columns, skip indexes and projections
 
-abbrev pub column_line : Column → List ℕ
-column_line column = codes "column " ++ column.name ++ codes " " ++ type_name column.ty ++ codes "\n"
+abbrev pub shown_column : Column → List ℕ
+shown_column column = codes "column " ++ column.name ++ codes " " ++ type_name column.ty ++ codes "\n"
 
 -- the columns of these indexes, in this order
-abbrev pub column_lines : List Column → (order : List ℕ) → List ℕ
-column_lines columns order = flat_map (λ i. column_line (column_at columns i)) order
+abbrev pub shown_columns : List Column → (order : List ℕ) → List ℕ
+shown_columns columns order = flat_map (λ i. shown_column (column_at columns i)) order
 
 -- what an index keeps; of a set the most rows of distinct values
 abbrev pub kind_text : SkipKind → List ℕ
@@ -90,11 +90,11 @@ last_line key rows = codes "last" ++ first_key key (drop (length rows - 1) rows)
 
 -- the layout, and how much there is
 abbrev pub head_lines : (compact : Bool) → Accepted → List ℕ
-head_lines compact accepted = kind_line compact ++ count_line (codes "rows ") (length accepted.rows) ++ count_line (codes "granules ") (length accepted.granules)
+head_lines compact accepted = kind_line compact ++ shown_count (codes "rows ") (length accepted.rows) ++ shown_count (codes "granules ") (length accepted.granules)
 
 -- what is stored
 abbrev pub stored_lines : Table → Shape → List ℕ
-stored_lines table shape = column_lines table.columns shape.order ++ pair_lines skip_line table.skips shape.skips ++ pair_lines projection_line table.projections shape.projections
+stored_lines table shape = shown_columns table.columns shape.order ++ pair_lines skip_line table.skips shape.skips ++ pair_lines projection_line table.projections shape.projections
 
 -- the granules, and the last row
 abbrev pub row_lines : Key → Accepted → List ℕ

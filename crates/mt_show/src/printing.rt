@@ -5,7 +5,7 @@ ghost use Rattle.mt_shelf.specs.Files.{IsListing, entries_below};
 ghost use Rattle.mt_shelf.specs.Paths.{is_path};
 ghost use Rattle.mt_shelf.specs.State.{files_of};
 ghost use Rattle.mt_command.specs.Commands.{PrintsTextOf};
-ghost use Rattle.mt_command.specs.Outcomes.{Returns};
+ghost use Rattle.mt_command.specs.Outcomes.{ReturnsOutcome};
 ghost use Rattle.mt_command.specs.Plans.{world};
 ghost use Rattle.mt_command.specs.Steps.{StepCausedBy, of_shelf};
 ghost use Rattle.mt_show.specs.Show.{listed_text, part_text, show_steps};
@@ -28,7 +28,7 @@ fn listed_text<F: Shelf>(
     requires path { IsTrue (is_path part.now) }
     requires form { IsListing listing.now }
     requires known { IfSome (files_of (F.state shelf.old)) (λ files. listing.now ≡ entries_below part.now files) }
-    ensures gives { IfSome (files_of (F.state shelf.old)) (λ files. Returns result (listed_text table.now part.now files)) }
+    ensures gives { IfSome (files_of (F.state shelf.old)) (λ files. ReturnsOutcome result (listed_text table.now part.now files)) }
     ensures files { files_of (F.state shelf.new) ≡ files_of (F.state shelf.old) }
     ensures cause { StepCausedBy result (of_shelf (F.faults shelf.old)) (of_shelf (F.faults shelf.new)) }
 {
@@ -54,7 +54,7 @@ fn part_text<F: Shelf>(
     part: &str,
 ) -> Result<List<u8>, Status>
     requires { IsTrue (is_path part.now) }
-    ensures gives { IfSome (files_of (F.state shelf.old)) (λ files. Returns result (part_text table.now part.now files)) }
+    ensures gives { IfSome (files_of (F.state shelf.old)) (λ files. ReturnsOutcome result (part_text table.now part.now files)) }
     ensures files { files_of (F.state shelf.new) ≡ files_of (F.state shelf.old) }
     ensures cause { StepCausedBy result (of_shelf (F.faults shelf.old)) (of_shelf (F.faults shelf.new)) }
 {
@@ -74,7 +74,7 @@ fn table_part_text<F: Shelf>(
 ) -> Result<List<u8>, Status>
     requires path { IsTrue (is_path path.now) }
     requires part { IsTrue (is_path part.now) }
-    ensures gives { IfSome (files_of (F.state shelf.old)) (λ files. Returns result (show_steps path.now part.now files)) }
+    ensures gives { IfSome (files_of (F.state shelf.old)) (λ files. ReturnsOutcome result (show_steps path.now part.now files)) }
     ensures files { files_of (F.state shelf.new) ≡ files_of (F.state shelf.old) }
     ensures cause { StepCausedBy result (of_shelf (F.faults shelf.old)) (of_shelf (F.faults shelf.new)) }
 {

@@ -7,10 +7,10 @@ ghost use Rattle.mt_shelf.specs.State.{files_of};
 ghost use Rattle.mt_defs.specs.Folder.{folder_of};
 ghost use Rattle.mt_check.specs.ListedChecks.{listed_checks};
 ghost use Rattle.mt_check.specs.PartFiles.{part_files};
-ghost use Rattle.mt_files.specs.Listings.{names_of};
+ghost use Rattle.mt_files.specs.Listings.{entry_names};
 ghost use Rattle.mt_files.specs.NamedFiles.{part_folder};
-ghost use Rattle.mt_command.specs.Outcomes.{Returns, refused_by};
-ghost use Rattle.mt_command.specs.Status.{is_outside};
+ghost use Rattle.mt_command.specs.Outcomes.{ReturnsOutcome, refused_by};
+ghost use Rattle.mt_command.specs.Status.{is_outside_fault};
 ghost use Rattle.mt_command.specs.Steps.{StepCausedBy, of_nothing, of_shelf};
 ghost use Rattle.mt_command.specs.declared.status.Status.TheVariants.{AtFault};
 ghost use Rattle.mt_show.specs.Shape.{shape_in};
@@ -38,9 +38,9 @@ pub(crate) fn read_files<F: Shelf>(
     requires path { IsTrue (is_path part.now) }
     requires form { IsListing listing.now }
     requires known { IfSome (files_of (F.state shelf.old)) (λ files. listing.now ≡ entries_below part.now files) }
-    ensures known { IfOk result (λ read. IfSome (files_of (F.state shelf.old)) (λ files. read ≡ part_files table.now (part_folder part.now files) (names_of listing.now))) }
+    ensures known { IfOk result (λ read. IfSome (files_of (F.state shelf.old)) (λ files. read ≡ part_files table.now (part_folder part.now files) (entry_names listing.now))) }
     ensures each { IfOk result (λ read. length read.projections ≡ length table.now.projections) }
-    ensures outside { IfErr result (λ status. is_outside status ≡ true) }
+    ensures outside { IfErr result (λ status. is_outside_fault status ≡ true) }
     ensures files { files_of (F.state shelf.new) ≡ files_of (F.state shelf.old) }
     ensures cause { StepCausedBy result (of_shelf (F.faults shelf.old)) (of_shelf (F.faults shelf.new)) }
 {
@@ -60,7 +60,7 @@ pub(crate) fn judge_files(
 ) -> Result<Accepted, Status>
     requires form { IsListing listing.now }
     requires each { length files.now.projections ≡ length table.now.projections }
-    ensures gives { Returns result
+    ensures gives { ReturnsOutcome result
         (refused_by (AtFault part.now) (λ answer. listed_checks table.now files.now listing.now ≡ answer)) }
     ensures cause { StepCausedBy result of_nothing of_nothing }
 {

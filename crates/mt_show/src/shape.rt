@@ -5,7 +5,7 @@ ghost use Rattle.mt_table.specs.Stored.{projection_at};
 ghost use Rattle.mt_defs.specs.Folder.{folder_of};
 ghost use Rattle.mt_defs.specs.Projections.{inner_of};
 ghost use Rattle.mt_definition.specs.DefinitionReading.{definition_reading};
-ghost use Rattle.mt_show.specs.Shape.{order_in, shape_in, size_in, size_or_none, sizes_in, skips_in};
+ghost use Rattle.mt_show.specs.Shape.{order_in, shape_in, size_of_projection, size_or_none, sizes_in, skips_in};
 
 use mt_check::PartFiles;
 use mt_definition::read_definition;
@@ -105,7 +105,7 @@ fn projection_size(
     files: &Option<List<FileBytes>>,
 ) -> Result<Option<Size>, NoMemory>
     requires { place < length table.now.projections }
-    ensures { IfOk result (λ size. size ≡ size_in table.now (projection_at table.now place) (option_map folder_of files.now)) }
+    ensures { IfOk result (λ size. size ≡ size_of_projection table.now (projection_at table.now place) (option_map folder_of files.now)) }
 {
     match files {
         Some(files) => Ok(Some(stored_size(alloc, table, place, files.as_slice())?)),

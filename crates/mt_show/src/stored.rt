@@ -1,7 +1,7 @@
 //! The lines of what is stored: columns, skip indexes and projections.
 
 ghost use Rattle.std.specs.Prelude.{◌≡◌, ◌<◌, ◌++◌, decimal, length, All, OnOk};
-ghost use Rattle.mt_show.specs.Text.{column_line, column_lines, kind_text, named_line, pair_lines, projection_line, size_text, skip_line};
+ghost use Rattle.mt_show.specs.Text.{shown_column, shown_columns, kind_text, named_line, pair_lines, projection_line, size_text, skip_line};
 
 use crate::shape::Size;
 use itoa::Buffer;
@@ -24,7 +24,7 @@ pub(crate) fn append_columns(
     out: &mut List<u8>,
 ) -> Result<(), NoMemory>
     requires { All (λ place. place < length columns.now) order.now }
-    ensures { OnOk result (out.new ≡ out.old ++ column_lines columns.now order.now) }
+    ensures { OnOk result (out.new ≡ out.old ++ shown_columns columns.now order.now) }
 {
     for place in order {
         append_column(alloc, &columns[*place as usize], out)?;
@@ -33,7 +33,7 @@ pub(crate) fn append_columns(
 }
 
 fn append_column(alloc: Global, column: &Column, out: &mut List<u8>) -> Result<(), NoMemory>
-    ensures { OnOk result (out.new ≡ out.old ++ column_line column.now) }
+    ensures { OnOk result (out.new ≡ out.old ++ shown_column column.now) }
 {
     out.append(b"column ")?;
     out.append(column.name.as_slice())?;

@@ -44,7 +44,7 @@ fn append_head(compact: bool, accepted: &Accepted, out: &mut List<u8>) -> Result
 }
 
 fn append_count(word: &[u8], count: u64, out: &mut List<u8>) -> Result<(), NoMemory>
-    ensures { OnOk result (out.new ≡ out.old ++ text.count_line word.now count) }
+    ensures { OnOk result (out.new ≡ out.old ++ text.shown_count word.now count) }
 {
     out.append(word)?;
     append_number(out, count)?;

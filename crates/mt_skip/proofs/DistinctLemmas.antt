@@ -2,10 +2,7 @@
 use Rattle.std.proofs.Common.{◌≡◌, ℕ, zero, suc, ◌+◌, ◌<◌, ◌≤◌, Bool, true, false, cond, not, ◌&&◌, ◌||◌, ◌==◌, List, [], ◌∷◌, ◌++◌, length, map, take, drop, get_or, refl, ap, sym, ◌∙◌, subst, inl, inr, arith, append_assoc, add-one}
 use Rattle.std.specs.Prelude.{filter, nat_lt, slice_get, Some}
 use Rattle.std.specs.List.{list_any, list_all}
-use Rattle.std.specs.Ordering.{is_eq}
 use Rattle.std.specs.Cmp.{IsEquivalence}
-use Rattle.std.specs.declared.cmp.Ordering.{Ordering}
-use Rattle.std.specs.declared.cmp.Ordering.TheVariants.{Less, Equal, Greater}
 use Rattle.std.proofs.Math.Seq.{drop-cons}
 use Rattle.std.proofs.lemmas.Bool.{cases_Bool, ltb-true, lt-ltb}
 use Rattle.std.proofs.lemmas.Cmp.{eq_by_cmp_equiv}
@@ -13,6 +10,9 @@ use Rattle.std.proofs.lemmas.List.{append-nil, length-append, take-append-drop}
 use Rattle.std.proofs.lemmas.List.Elements.{filter-append, All-cons, All-filter}
 use Rattle.std.proofs.lemmas.Map.Views.{any-filter_same}
 use Rattle.indexmap.specs.IndexSet.{insert_key}
+use Rattle.mt_facts.proofs.Lists.{any_map, filter_drops, filter_keeps}
+use Rattle.mt_facts.proofs.Orderings.{equal_from}
+use Rattle.mt_facts.proofs.Truth.{never_both}
 use Rattle.mt_types.specs.declared.ty.Ty.{Ty}
 use Rattle.mt_types.specs.declared.value.Value.{Value}
 use Rattle.mt_types.specs.Fits.{fits_of}
@@ -30,28 +30,10 @@ use Rattle.mt_skip.specs.Seen.{is_same_seen}
 pub same_values : IsEquivalence is_same
 same_values = eq_by_cmp_equiv value_total
 
-equal_if : (o : Ordering) → is_eq o ≡ true → o ≡ Equal
-equal_if Less e = cc
-equal_if Equal e = refl
-equal_if Greater e = cc
-
 pub one_value : (a b : Value) → is_same a b ≡ true → a ≡ b
-one_value a b e = exact_values a b (equal_if (value_cmp a b) e)
+one_value a b e = exact_values a b (equal_from (value_cmp a b) e)
 
 -- ---- filters
-
-pub keeps : {X : Type 0} (p : X → Bool) (x : X) (xs : List X) → p x ≡ true → filter p (x ∷ xs) ≡ x ∷ filter p xs
-keeps p x xs e = ap (λ b. cond b (x ∷ filter p xs) (filter p xs)) e
-
-pub drops : {X : Type 0} (p : X → Bool) (x : X) (xs : List X) → p x ≡ false → filter p (x ∷ xs) ≡ filter p xs
-drops p x xs e = ap (λ b. cond b (x ∷ filter p xs) (filter p xs)) e
-
-pub not_both : {P : Type 0} (b : Bool) → b ≡ true → b ≡ false → P
-not_both b p q = let bad : true ≡ false = sym p ∙ q in cc
-
-pub any_map : {X Y : Type 0} (p : Y → Bool) (f : X → Y) (xs : List X) → list_any p (map f xs) ≡ list_any (λ x. p (f x)) xs
-any_map p f [] = refl
-any_map p f (x ∷ xs) = ap (λ b. p (f x) || b) (any_map p f xs)
 
 map_append : {X Y : Type 0} (f : X → Y) (xs ys : List X) → map f (xs ++ ys) ≡ map f xs ++ map f ys
 map_append f [] ys = refl
@@ -59,11 +41,8 @@ map_append f (x ∷ xs) ys = ap (λ l. f x ∷ l) (map_append f xs ys)
 
 -- ---- one more value
 
-abbrev is_other : Value → Value → Bool
+abbrev pub is_other : Value → Value → Bool
 is_other y z = not (is_same y z)
-
-not_true : (b : Bool) → b ≡ true → not b ≡ false
-not_true b e = ap not e
 
 -- the distinct values with one more value behind
 abbrev with_last : Bool → List Value → Value → List Value
@@ -75,12 +54,12 @@ any_other x y ds apart = any-filter_same (is_same x) (is_other y) true (λ z at.
 
 last_kept : (x y : Value) (ds : List Value) → is_same x y ≡ false → (b : Bool) → filter (is_other y) (with_last b ds x) ≡ with_last b (filter (is_other y) ds) x
 last_kept x y ds apart true = refl
-last_kept x y ds apart false = filter-append (is_other y) ds (x ∷ []) ∙ ap (λ l. filter (is_other y) ds ++ l) (keeps (is_other y) x [] (ap not (same_values.symm y x ∙ apart)))
+last_kept x y ds apart false = filter-append (is_other y) ds (x ∷ []) ∙ ap (λ l. filter (is_other y) ds ++ l) (filter_keeps (is_other y) x [] (ap not (same_values.symm y x ∙ apart)))
 
 last_dropped : (x y : Value) (ds : List Value) → is_same x y ≡ true → (b : Bool) → filter (is_other y) (with_last b ds x) ≡ filter (is_other y) ds
 last_dropped x y ds same true = refl
 last_dropped x y ds same false =
-    filter-append (is_other y) ds (x ∷ []) ∙ ap (λ l. filter (is_other y) ds ++ l) (drops (is_other y) x [] (ap not (same_values.symm y x ∙ same))) ∙ append-nil (filter (is_other y) ds)
+    filter-append (is_other y) ds (x ∷ []) ∙ ap (λ l. filter (is_other y) ds ++ l) (filter_drops (is_other y) x [] (ap not (same_values.symm y x ∙ same))) ∙ append-nil (filter (is_other y) ds)
 
 moved : (b : Bool) (y : Value) (rest : List Value) (x : Value) → y ∷ with_last b rest x ≡ with_last b (y ∷ rest) x
 moved true y rest x = refl
@@ -134,7 +113,7 @@ above_more max few many le above =
           let inside : nat_lt max few ≡ true = sym (ap (λ b. b && nat_lt max few) limited) ∙ above in
           let out : max < many = omega (arith, le, ltb-true max few inside) in
           ap (λ b. b && nat_lt max many) limited ∙ lt-ltb max many out
-      | inr free ↦ not_both (nat_lt 0 max && nat_lt max few) above (ap (λ b. b && nat_lt max few) free)
+      | inr free ↦ never_both (nat_lt 0 max && nat_lt max few) above (ap (λ b. b && nat_lt max few) free)
     ]
 
 -- too many among the first values are too many
@@ -144,7 +123,7 @@ too_many_so_far max i values seen is above =
     let grows = distinct_grow (take i values) (drop i values) in
     above_more max (length seen) (length (distinct_values values)) (omega (arith, ap length is, grows, ap (λ l. length (distinct_values l)) all)) above
 
-nothing_fits : (ty : Ty) → AllFit ty []
+pub nothing_fits : (ty : Ty) → AllFit ty []
 nothing_fits ty k d inside = absurd (omega (arith, inside))
 
 -- distinct values of a type are of the type
@@ -175,10 +154,6 @@ among_holds ks values i v inside is has =
     let p : Value → Bool = λ value. list_any (is_same value) ks in
     ap (λ n. list_all p (drop n values)) (add-one i) ∙ sym (ap (λ b. b && list_all p (drop (suc i) values)) (ap p (sym is) ∙ has)) ∙ sym (ap (list_all p) (drop-cons values i v inside))
 
-pub some_counts : (counts : List ℕ) (b : Bool) → b ≡ (length counts == 0) → b ≡ false → 0 < length counts
-some_counts [] b is e = not_both b is e
-some_counts (k ∷ ks) b is e = omega arith
-
 pub some_listed : (values : List Value) (b : Bool) → b ≡ (length values == 0) → b ≡ false → 0 < length values
-some_listed [] b is e = not_both b is e
+some_listed [] b is e = never_both b is e
 some_listed (v ∷ vs) b is e = omega arith

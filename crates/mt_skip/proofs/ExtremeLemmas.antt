@@ -2,7 +2,7 @@
 use Rattle.std.proofs.Common.{◌≡◌, ℕ, suc, ◌-◌, ◌<◌, ◌≤◌, ◌↔◌, Bool, true, false, cond, List, [], ◌∷◌, ◌++◌, length, take, drop, get_or, refl, ap, sym, ◌∙◌, subst, inl, inr, arith}
 use Rattle.std.specs.Prelude.{All, Contains}
 use Rattle.std.specs.List.{flat_map}
-use Rattle.std.specs.Ordering.{is_lt, is_le, is_gt, ordering_reverse}
+use Rattle.std.specs.Ordering.{is_lt, is_gt, ordering_reverse}
 use Rattle.std.specs.Cmp.{IsTotalOrder}
 use Rattle.std.specs.declared.cmp.Ordering.{Ordering}
 use Rattle.std.specs.declared.cmp.Ordering.TheVariants.{Less, Equal, Greater}
@@ -11,6 +11,7 @@ use Rattle.std.proofs.lemmas.Bool.{cases_Bool}
 use Rattle.std.proofs.lemmas.Cmp.{upto}
 use Rattle.std.proofs.lemmas.List.{append-nil}
 use Rattle.std.proofs.lemmas.List.Elements.{All-cons}
+use Rattle.mt_facts.proofs.Orderings.{not_gt_from_le, le_from_not_gt}
 use Rattle.mt_types.specs.declared.ty.Ty.{Ty}
 use Rattle.mt_types.specs.declared.value.Value.{Value}
 use Rattle.mt_types.specs.Items.{item_bytes}
@@ -165,16 +166,6 @@ only_best extreme values v w v_among v_first w_among w_first =
     let other : NotAfter extreme w v = subst (NotAfter extreme w) v_among.2 (w_first v_among.0 v v_among.1) in
     exact_by extreme v w (tie_equal (ordered_by extreme v w) (ordered_by extreme w v) ((ordered_total extreme).antisymm v w) one other)
 
-not_gt_le : (o : Ordering) → is_gt o ≡ false → is_le o ≡ true
-not_gt_le Less e = refl
-not_gt_le Equal e = refl
-not_gt_le Greater e = cc
-
-le_not_gt : (o : Ordering) → is_le o ≡ true → is_gt o ≡ false
-le_not_gt Less e = refl
-le_not_gt Equal e = refl
-le_not_gt Greater e = cc
-
 one_item : (ty : Ty) (best : List Value) (v : Value) → best ≡ v ∷ [] → flat_map (item_bytes ty) best ≡ item_bytes ty v
 one_item ty best v is = ap (flat_map (item_bytes ty)) is ∙ append-nil (item_bytes ty v)
 
@@ -201,12 +192,12 @@ minmax_is ty (x ∷ xs) bytes some =
       λ e. (
         least.0,
         greatest.0,
-        record { among = l.among; least = λ k d inside. not_gt_le (value_cmp least.0 (get_or values k d)) (l.first k d inside) },
-        record { among = g.among; greatest = λ k d inside. not_gt_le (value_cmp (get_or values k d) greatest.0) (g.first k d inside) },
+        record { among = l.among; least = λ k d inside. le_from_not_gt (value_cmp least.0 (get_or values k d)) (l.first k d inside) },
+        record { among = g.among; greatest = λ k d inside. le_from_not_gt (value_cmp (get_or values k d) greatest.0) (g.first k d inside) },
         e ∙ written,
       ),
       λ m.
-          let low : m.0 ≡ least.0 = only_best Least values m.0 least.0 m.2.among (λ k d inside. le_not_gt (value_cmp m.0 (get_or values k d)) (m.2.least k d inside)) l.among l.first in
-          let high : m.1 ≡ greatest.0 = only_best Greatest values m.1 greatest.0 m.3.among (λ k d inside. le_not_gt (value_cmp (get_or values k d) m.1) (m.3.greatest k d inside)) g.among g.first in
+          let low : m.0 ≡ least.0 = only_best Least values m.0 least.0 m.2.among (λ k d inside. not_gt_from_le (value_cmp m.0 (get_or values k d)) (m.2.least k d inside)) l.among l.first in
+          let high : m.1 ≡ greatest.0 = only_best Greatest values m.1 greatest.0 m.3.among (λ k d inside. not_gt_from_le (value_cmp (get_or values k d) m.1) (m.3.greatest k d inside)) g.among g.first in
           m.4 ∙ ap (λ v. item_bytes ty v ++ item_bytes ty m.1) low ∙ ap (λ v. item_bytes ty least.0 ++ item_bytes ty v) high ∙ sym written,
     )

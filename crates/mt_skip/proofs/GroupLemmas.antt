@@ -1,12 +1,12 @@
 -- Groups of granules: a step of the walk over them, and the writer's groups of rows.
-use Rattle.std.proofs.Common.{◌≡◌, ℕ, zero, suc, ◌+◌, ◌<◌, ◌≤◌, List, [], ◌∷◌, ◌++◌, length, map, take, drop, refl, ap, sym, ◌∙◌, arith, min, inl, inr}
+use Rattle.std.proofs.Common.{◌≡◌, ℕ, zero, suc, ◌+◌, ◌<◌, ◌≤◌, List, [], ◌∷◌, ◌++◌, length, map, take, drop, refl, ap, sym, ◌∙◌, arith, min}
 use Rattle.std.specs.Prelude.{sum}
 use Rattle.std.specs.List.{flat_map}
-use Rattle.std.proofs.Math.Seq.{drop-nil, take-add}
-use Rattle.std.proofs.lemmas.Bool.Decides.{leb_tells}
-use Rattle.std.proofs.lemmas.List.{append_assoc, length-drop, take-map, drop-map, take_all, drop_all}
+use Rattle.std.proofs.Math.Seq.{take-add}
+use Rattle.std.proofs.lemmas.List.{append_assoc, length-drop, take-map, drop-map}
 use Rattle.std.proofs.lemmas.List.Concat.{flat_map-cons}
 use Rattle.std.proofs.lemmas.List.Sums.{sum_by-cons, sum_by-take-drop}
+use Rattle.mt_facts.proofs.Lists.{cut_at, drop_sum, map_map, shorter_without}
 use Rattle.mt_types.specs.declared.ty.Ty.{Ty}
 use Rattle.mt_types.specs.declared.value.Value.{Value}
 use Rattle.mt_table.specs.declared.definition.Table.{Table}
@@ -19,9 +19,6 @@ use Rattle.mt_defs.specs.SkipIndexes.{entry_groups}
 use Rattle.mt_defs.specs.WrittenSkips.{written_entry, written_entries}
 use Rattle.mt_skip.specs.Groups.{value_groups}
 
-shorter : {X : Type 0} (n : ℕ) (x : X) (xs : List X) → 1 ≤ n → length (drop n (x ∷ xs)) ≤ length xs
-shorter n x xs some = omega (arith, some, length-drop n (x ∷ xs))
-
 -- a bound on the number of groups that is no less than that of the granules doesn't matter
 pub groups_enough : (per m n : ℕ) (granules : List ℕ) (values : List Value) → 1 ≤ per → length granules ≤ m → length granules ≤ n → value_groups per m granules values ≡ value_groups per n granules values
 groups_enough per zero zero granules values some low high = refl
@@ -32,7 +29,7 @@ groups_enough per (suc m) zero (count ∷ granules) values some low high = absur
 groups_enough per (suc m) (suc n) [] values some low high = refl
 groups_enough per (suc m) (suc n) (count ∷ granules) values some low high =
     let size = sum (take per (count ∷ granules)) in
-    let less = shorter per count granules some in
+    let less = shorter_without per count granules some in
     ap (λ groups. take size values ∷ groups) (groups_enough per m n (drop per (count ∷ granules)) (drop size values) some (omega (arith, less, low)) (omega (arith, less, high)))
 
 -- the first group, and those of what is left
@@ -41,22 +38,17 @@ pub groups_step : (per : ℕ) (granules later : List ℕ) (values after : List V
 groups_step per [] later values after size some more size_is later_is after_is = absurd (omega (arith, more))
 groups_step per (count ∷ granules) later values after size some more size_is later_is after_is =
     let total = sum (take per (count ∷ granules)) in
-    let less = shorter per count granules some in
+    let less = shorter_without per count granules some in
     let rest = groups_enough per (length granules) (length (drop per (count ∷ granules))) (drop per (count ∷ granules)) (drop total values) some less (omega arith) in
     ap (λ groups. take total values ∷ groups) rest ∙ ap (λ s. take s values ∷ value_groups per (length (drop per (count ∷ granules))) (drop per (count ∷ granules)) (drop s values)) (sym size_is)
     ∙ ap (λ ks. take size values ∷ value_groups per (length ks) ks (drop size values)) (sym later_is) ∙ ap (λ vs. take size values ∷ value_groups per (length later) later vs) (sym after_is)
 
 -- ---- the writer's groups of rows
 
-drop_sum : {X : Type 0} (m n : ℕ) (xs : List X) → drop (m + n) xs ≡ drop n (drop m xs)
-drop_sum zero n xs = let e : 0 + n ≡ n = omega arith in ap (λ k. drop k xs) e
-drop_sum (suc m) n [] = drop-nil (suc m + n) ∙ sym (drop-nil n)
-drop_sum (suc m) n (x ∷ xs) = let e : suc m + n ≡ suc (m + n) = omega arith in ap (λ k. drop k (x ∷ xs)) e ∙ drop_sum m n xs
-
-abbrev together : List (List Row) → List Row
+abbrev pub together : List (List Row) → List Row
 together granules = flat_map (λ rows. rows) granules
 
-rows_together : (per : ℕ) (granules : List ℕ) (rows : List Row) → together (take per (granule_rows granules rows)) ≡ take (sum (take per granules)) rows
+pub rows_together : (per : ℕ) (granules : List ℕ) (rows : List Row) → together (take per (granule_rows granules rows)) ≡ take (sum (take per granules)) rows
 rows_together zero granules rows = refl
 rows_together (suc per) [] rows = refl
 rows_together (suc per) (count ∷ granules) rows =
@@ -65,7 +57,7 @@ rows_together (suc per) (count ∷ granules) rows =
     flat_map-cons (λ (some : List Row). some) (take count rows) (take per rest) ∙ ap (λ some. take count rows ++ some) (rows_together per granules (drop count rows))
     ∙ sym (take-add count (sum (take per granules)) rows) ∙ ap (λ n. take n rows) (sym size)
 
-rows_behind : (per : ℕ) (granules : List ℕ) (rows : List Row) → drop per (granule_rows granules rows) ≡ granule_rows (drop per granules) (drop (sum (take per granules)) rows)
+pub rows_behind : (per : ℕ) (granules : List ℕ) (rows : List Row) → drop per (granule_rows granules rows) ≡ granule_rows (drop per granules) (drop (sum (take per granules)) rows)
 rows_behind zero granules rows = refl
 rows_behind (suc per) [] rows = refl
 rows_behind (suc per) (count ∷ granules) rows =
@@ -85,10 +77,6 @@ groups_of_rows column per (suc n) (count ∷ granules) rows =
     ap (value_groups per n (drop per all)) (drop-map f size rows) ∙ groups_of_rows column per n (drop per all) (drop size rows) ∙ ap (λ some. map (column_values column) (entry_groups per n some)) (sym (rows_behind per all rows)) in
     ap (λ vs. vs ∷ value_groups per n (drop per all) (drop size (map f rows))) first ∙ ap (λ groups. map f (together (take per (granule_rows all rows))) ∷ groups) rest
 
-map_map : {X Y Z : Type 0} (f : Y → Z) (g : X → Y) (xs : List X) → map f (map g xs) ≡ map (λ x. f (g x)) xs
-map_map f g [] = refl
-map_map f g (x ∷ xs) = ap (λ l. f (g x) ∷ l) (map_map f g xs)
-
 -- the entries of the groups of values are the writer's
 pub entries_written : (table : Table) (skip : Skip) (ty : Ty) (values : List Value) (granules : List ℕ) (rows : List Row) → ty ≡ (column_at table.columns skip.column).ty → values ≡ column_values skip.column rows
     → map (written_entry skip.kind ty) (value_groups skip.granularity (length granules) granules values) ≡ written_entries table skip rows granules
@@ -99,19 +87,6 @@ entries_written table skip ty values granules rows ty_is values_are =
     ∙ map_map (written_entry skip.kind (column_at table.columns skip.column).ty) (column_values skip.column) (entry_groups skip.granularity (length granules) (granule_rows granules rows))
 
 -- ---- a step of the walk
-
-cut_at : {X : Type 0} (per n : ℕ) (xs : List X) → n ≡ min (length xs) per → (take n xs ≡ take per xs) × (drop n xs ≡ drop per xs)
-cut_at per n xs is =
-    elim (leb_tells (length xs) per) [
-      | inl short ↦
-          let all : n ≡ length xs = omega (arith, is, short.1) in (
-            take_all n xs (omega (arith, all)) ∙ sym (take_all per xs short.1),
-            drop_all n xs (omega (arith, all)) ∙ sym (drop_all per xs short.1),
-          )
-      | inr long ↦
-          let some : n ≡ per = omega (arith, is, long.1) in
-          (ap (λ k. take k xs) some, ap (λ k. drop k xs) some)
-    ]
 
 pub walk_step : (kind : SkipKind) (ty : Ty) (per n size : ℕ) (counts group later : List ℕ) (rest covered after : List Value) (made more whole : List (List ℕ)) (entry : List ℕ)
     → 1 ≤ per → 0 < length counts → n ≡ min (length counts) per → group ≡ take n counts → later ≡ drop n counts → size ≡ sum group → covered ≡ take size rest → after ≡ drop size rest

@@ -50,7 +50,7 @@ same_first v w x y e =
     let pair : ◌≡◌ {A = Value × List ℕ} (v, x) (w, y) = cc in
     (ap (λ (p : Value × List ℕ). p.0) pair, ap (λ (p : Value × List ℕ). p.1) pair)
 
-tail_fits : (ty : Ty) (v : Value) (vs : List Value) → AllFit ty (v ∷ vs) → AllFit ty vs
+pub tail_fits : (ty : Ty) (v : Value) (vs : List Value) → AllFit ty (v ∷ vs) → AllFit ty vs
 tail_fits ty v vs all k d inside = all (suc k) d (omega (arith, inside))
 
 -- as many values with the same items are the same values

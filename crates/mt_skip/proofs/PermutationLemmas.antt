@@ -3,22 +3,21 @@ use Rattle.std.proofs.Common.{◌≡◌, ℕ, zero, suc, ◌<◌, ◌≤◌, ◌
 use Rattle.std.specs.Bool.{Decides}
 use Rattle.std.specs.Prelude.{◌≢◌, filter, nat_le, AllPairs, IsTrue, IsPermutation, Contains}
 use Rattle.std.specs.List.{list_any, list_all, flat_map, IsDistinct, AllByRecursion}
-use Rattle.std.proofs.lemmas.Bool.{cases_Bool, leb-true, le-leb}
+use Rattle.std.proofs.lemmas.Bool.{cases_Bool, leb-true, le-leb, and_parts, or_right}
 use Rattle.std.proofs.lemmas.List.{length-map}
 use Rattle.std.proofs.lemmas.List.Concat.{flat_map-cons}
 use Rattle.std.proofs.lemmas.List.Folds.{list_any-append}
 use Rattle.std.proofs.lemmas.List.Sorted.{IsPermutation-refl, IsPermutation-cons, IsPermutation-trans, IsPermutation-middle, IsPermutation-sym, length_permutation, Contains-permutation}
 use Rattle.std.proofs.lemmas.Map.Made.{AllPairs-from_IsDistinct, IsDistinct-from_AllPairs}
 use Rattle.std.proofs.lemmas.Map.Keys.{IsDistinct-cons, IsDistinct-head, IsDistinct-tail, IsDistinct-IsPermutation}
+use Rattle.mt_facts.proofs.Lists.{any_map, filter_drops, filter_keeps}
+use Rattle.mt_facts.proofs.Truth.{never_both, or_false}
 use Rattle.mt_types.specs.declared.value.Value.{Value}
 use Rattle.mt_defs.specs.Lists.{insertions, orders_of}
 use Rattle.mt_defs.specs.SkipIndexes.{distinct_values}
 use Rattle.mt_skip.specs.declared.seen.Seen.{Seen}
 use Rattle.mt_skip.specs.Gathering.{is_same, has_each, values_in}
-use Rattle.mt_skip.proofs.DistinctLemmas.{same_values, one_value, keeps, drops, not_both, any_map}
-
-abbrev is_other : Value → Value → Bool
-is_other y z = not (is_same y z)
+use Rattle.mt_skip.proofs.DistinctLemmas.{same_values, one_value, is_other}
 
 -- none of the values is this one
 abbrev NoneIs : Value → List Value → Type 0
@@ -61,7 +60,7 @@ are_distinct (x ∷ xs) = IsDistinct-cons is_same x (filter (is_other x) (distin
 
 all_kept : (x : Value) (xs : List Value) → NoneIs x xs → filter (is_other x) xs ≡ xs
 all_kept x [] all = refl
-all_kept x (y ∷ ys) all = keeps (is_other x) y ys (ap not all.0) ∙ ap (λ l. y ∷ l) (all_kept x ys all.1)
+all_kept x (y ∷ ys) all = filter_keeps (is_other x) y ys (ap not all.0) ∙ ap (λ l. y ∷ l) (all_kept x ys all.1)
 
 -- values that are distinct are their distinct values
 pub distinct_already : (xs : List Value) → IsDistinct is_same xs → distinct_values xs ≡ xs
@@ -84,8 +83,8 @@ full x [] long = tt
 full x (y ∷ ys) long =
     let short = filter_short (is_other x) ys in
     elim (cases_Bool (is_same x y)) [
-      | inl same ↦ let less = ap length (drops (is_other x) y ys (ap not same)) in absurd (omega (arith, long, short, less))
-      | inr other ↦ let more = ap length (keeps (is_other x) y ys (ap not other)) in (other, full x ys (omega (arith, long, more)))
+      | inl same ↦ let less = ap length (filter_drops (is_other x) y ys (ap not same)) in absurd (omega (arith, long, short, less))
+      | inr other ↦ let more = ap length (filter_keeps (is_other x) y ys (ap not other)) in (other, full x ys (omega (arith, long, more)))
     ]
 
 pub distinct_from_length : (xs : List Value) → length xs ≤ length (distinct_values xs) → IsDistinct is_same xs
@@ -129,14 +128,10 @@ contains_from w (x ∷ xs) there =
           (suc rest.0, omega (arith, rest.1), rest.2)
     ]
 
-either : (a b : Bool) → b ≡ true → (a || b) ≡ true
-either true b e = refl
-either false b e = e
-
 pub any_at : (w : Value) (xs : List Value) (k : ℕ) → k < length xs → get_or xs k w ≡ w → list_any (is_same w) xs ≡ true
 any_at w [] k inside is = absurd (omega (arith, inside))
 any_at w (x ∷ xs) zero inside is = ap (λ b. b || list_any (is_same w) xs) (ap (is_same w) is ∙ same_values.refl w)
-any_at w (x ∷ xs) (suc k) inside is = either (is_same w x) (list_any (is_same w) xs) (any_at w xs k (omega (arith, inside)) is)
+any_at w (x ∷ xs) (suc k) inside is = or_right (is_same w x) (list_any (is_same w) xs) (any_at w xs k (omega (arith, inside)) is)
 
 pub any_permuted : (w : Value) (xs ys : List Value) → IsPermutation xs ys → list_any (is_same w) xs ≡ true → list_any (is_same w) ys ≡ true
 any_permuted w xs ys p there = let at = Contains-permutation xs ys w p (contains_from w xs there) in any_at w ys at.0 at.1 at.2
@@ -153,8 +148,8 @@ any_filter p q (x ∷ xs) there =
       | inr miss ↦
           ap (λ b. b || list_any p xs) miss
           ∙ elim (cases_Bool (q x)) [
-            | inl kept ↦ any_filter p q xs (ap (λ b. b || list_any p (filter q xs)) (sym miss) ∙ sym (ap (list_any p) (keeps q x xs kept)) ∙ there)
-            | inr gone ↦ any_filter p q xs (sym (ap (list_any p) (drops q x xs gone)) ∙ there)
+            | inl kept ↦ any_filter p q xs (ap (λ b. b || list_any p (filter q xs)) (sym miss) ∙ sym (ap (list_any p) (filter_keeps q x xs kept)) ∙ there)
+            | inr gone ↦ any_filter p q xs (sym (ap (list_any p) (filter_drops q x xs gone)) ∙ there)
           ]
     ]
 
@@ -176,12 +171,12 @@ kept_any v x (y ∷ ys) apart there =
     elim (cases_Bool (is_same v y)) [
       | inl same ↦
           let other : is_other x y ≡ true = ap not (ap (is_same x) (sym (one_value v y same)) ∙ same_values.symm x v ∙ apart) in
-          ap (list_any (is_same v)) (keeps (is_other x) y ys other) ∙ ap (λ b. b || list_any (is_same v) (filter (is_other x) ys)) same
+          ap (list_any (is_same v)) (filter_keeps (is_other x) y ys other) ∙ ap (λ b. b || list_any (is_same v) (filter (is_other x) ys)) same
       | inr miss ↦
           let rest = kept_any v x ys apart (ap (λ b. b || list_any (is_same v) ys) (sym miss) ∙ there) in
           elim (cases_Bool (is_other x y)) [
-            | inl kept ↦ ap (list_any (is_same v)) (keeps (is_other x) y ys kept) ∙ either (is_same v y) (list_any (is_same v) (filter (is_other x) ys)) rest
-            | inr gone ↦ ap (list_any (is_same v)) (drops (is_other x) y ys gone) ∙ rest
+            | inl kept ↦ ap (list_any (is_same v)) (filter_keeps (is_other x) y ys kept) ∙ or_right (is_same v y) (list_any (is_same v) (filter (is_other x) ys)) rest
+            | inr gone ↦ ap (list_any (is_same v)) (filter_drops (is_other x) y ys gone) ∙ rest
           ]
     ]
 
@@ -193,7 +188,7 @@ any_distinct v (x ∷ xs) there =
       | inl same ↦ ap (λ b. b || list_any (is_same v) (filter (is_other x) (distinct_values xs))) same
       | inr other ↦
           let behind = any_distinct v xs (ap (λ b. b || list_any (is_same v) xs) (sym other) ∙ there) in
-          either (is_same v x) (list_any (is_same v) (filter (is_other x) (distinct_values xs))) (kept_any v x (distinct_values xs) other behind)
+          or_right (is_same v x) (list_any (is_same v) (filter (is_other x) (distinct_values xs))) (kept_any v x (distinct_values xs) other behind)
     ]
 
 -- ---- permutations
@@ -244,8 +239,8 @@ taken x xs ys c d long each =
       long = omega (arith, long, size);
       each = λ v there. elim (cases_Bool (is_same v x)) [
         | inl same ↦
-            not_both (list_any (is_same x) xs) (ap (λ w. list_any (is_same w) xs) (sym (one_value v x same)) ∙ there) (none_among x xs (IsDistinct-head is_same x xs c))
-        | inr other ↦ sym (past v x s.front s.back other) ∙ sym (ap (list_any (is_same v)) s.is) ∙ each v (either (is_same v x) (list_any (is_same v) xs) there)
+            never_both (list_any (is_same x) xs) (ap (λ w. list_any (is_same w) xs) (sym (one_value v x same)) ∙ there) (none_among x xs (IsDistinct-head is_same x xs c))
+        | inr other ↦ sym (past v x s.front s.back other) ∙ sym (ap (list_any (is_same v)) s.is) ∙ each v (or_right (is_same v x) (list_any (is_same v) xs) there)
       ];
     }
 
@@ -261,10 +256,6 @@ matched (x ∷ xs) ys c d long each =
 
 -- ---- all orders of a list
 
-or_nothing : (b : Bool) → (b || false) ≡ b
-or_nothing true = refl
-or_nothing false = refl
-
 -- where a list passes that has one element put in
 record PutIn {X : Type 0} (p : List X → Bool) (x : X) (xs : List X) : Type 0 where
   front : List X
@@ -273,7 +264,7 @@ record PutIn {X : Type 0} (p : List X → Bool) (x : X) (xs : List X) : Type 0 w
   passes : p (front ++ x ∷ back) ≡ true
 
 any_insertion : {X : Type 0} (p : List X → Bool) (x : X) (xs : List X) → list_any p (insertions x xs) ≡ true → PutIn p x xs
-any_insertion p x [] there = record { front = []; back = []; is = refl; passes = sym (or_nothing (p (x ∷ []))) ∙ there }
+any_insertion p x [] there = record { front = []; back = []; is = refl; passes = sym (or_false (p (x ∷ []))) ∙ there }
 any_insertion p x (y ∷ ys) there =
     elim (cases_Bool (p (x ∷ y ∷ ys))) [
       | inl first ↦ record { front = []; back = y ∷ ys; is = refl; passes = first }
@@ -284,11 +275,11 @@ any_insertion p x (y ∷ ys) there =
     ]
 
 insertion_passes : {X : Type 0} (p : List X → Bool) (x : X) (front back : List X) → p (front ++ x ∷ back) ≡ true → list_any p (insertions x (front ++ back)) ≡ true
-insertion_passes p x [] [] passes = or_nothing (p (x ∷ [])) ∙ passes
+insertion_passes p x [] [] passes = or_false (p (x ∷ [])) ∙ passes
 insertion_passes p x [] (b ∷ back) passes = ap (λ c. c || list_any p (map (λ zs. b ∷ zs) (insertions x back))) passes
 insertion_passes p x (y ∷ front) back passes =
     let rest = insertion_passes (λ zs. p (y ∷ zs)) x front back passes in
-    either (p (x ∷ y ∷ (front ++ back))) (list_any p (map (λ zs. y ∷ zs) (insertions x (front ++ back)))) (any_map p (λ zs. y ∷ zs) (insertions x (front ++ back)) ∙ rest)
+    or_right (p (x ∷ y ∷ (front ++ back))) (list_any p (map (λ zs. y ∷ zs) (insertions x (front ++ back)))) (any_map p (λ zs. y ∷ zs) (insertions x (front ++ back)) ∙ rest)
 
 any_flat_map : {X Y : Type 0} (p : Y → Bool) (f : X → List Y) (xs : List X) → list_any p (flat_map f xs) ≡ list_any (λ x. list_any p (f x)) xs
 any_flat_map p f [] = refl
@@ -297,7 +288,7 @@ any_flat_map p f (x ∷ xs) =
 
 -- one of the orders passes
 pub any_order : {X : Type 0} (p : List X → Bool) (xs : List X) → list_any p (orders_of xs) ≡ true → (ys : List X) × IsPermutation xs ys × (p ys ≡ true)
-any_order p [] there = ([], IsPermutation-refl [], sym (or_nothing (p [])) ∙ there)
+any_order p [] there = ([], IsPermutation-refl [], sym (or_false (p [])) ∙ there)
 any_order p (x ∷ xs) there =
     let later = any_order (λ zs. list_any p (insertions x zs)) xs (sym (any_flat_map p (insertions x) (orders_of xs)) ∙ there) in
     let put = any_insertion p x later.0 later.2 in
@@ -309,7 +300,7 @@ any_order p (x ∷ xs) there =
 
 order_passes : (p : List Value → Bool) (xs ys : List Value) → IsDistinct is_same xs → IsDistinct is_same ys → length ys ≡ length xs → ((v : Value) → list_any (is_same v) xs ≡ true → list_any (is_same v) ys ≡ true) → p ys ≡ true
     → list_any p (orders_of xs) ≡ true
-order_passes p [] [] c d long each passes = or_nothing (p []) ∙ passes
+order_passes p [] [] c d long each passes = or_false (p []) ∙ passes
 order_passes p [] (y ∷ ys) c d long each passes = absurd (omega (arith, long))
 order_passes p (x ∷ xs) ys c d long each passes =
     let t = taken x xs ys c d long each in
@@ -326,14 +317,10 @@ any_of_orders p values ys moved passes =
 
 -- ---- the test
 
-both : (a b : Bool) → (a && b) ≡ true → (a ≡ true) × (b ≡ true)
-both true b e = (refl, e)
-both false b e = cc
-
 each_among : (p : Value → Bool) (v : Value) (xs : List Value) → list_all p xs ≡ true → list_any (is_same v) xs ≡ true → p v ≡ true
 each_among p v [] all there = cc
 each_among p v (x ∷ xs) all there =
-    let parts = both (p x) (list_all p xs) all in
+    let parts = and_parts (p x) (list_all p xs) all in
     elim (cases_Bool (is_same v x)) [
       | inl same ↦ ap p (one_value v x same) ∙ parts.0
       | inr other ↦ each_among p v xs parts.1 (ap (λ b. b || list_any (is_same v) xs) (sym other) ∙ there)
@@ -342,13 +329,13 @@ each_among p v (x ∷ xs) all there =
 all_among : (p : Value → Bool) (xs : List Value) → ((v : Value) → list_any (is_same v) xs ≡ true → p v ≡ true) → list_all p xs ≡ true
 all_among p [] each = refl
 all_among p (x ∷ xs) each =
-    ap (λ b. b && list_all p xs) (each x (ap (λ b. b || list_any (is_same x) xs) (same_values.refl x))) ∙ all_among p xs (λ v there. each v (either (is_same v x) (list_any (is_same v) xs) there))
+    ap (λ b. b && list_all p xs) (each x (ap (λ b. b || list_any (is_same x) xs) (same_values.refl x))) ∙ all_among p xs (λ v there. each v (or_right (is_same v x) (list_any (is_same v) xs) there))
 
 -- a list as long as the distinct values that passes the test has them in some order, and only such a one passes
 pub has_each_is : (listed values : List Value) → length listed ≡ length (distinct_values values) → IsTrue (has_each listed values) ↔ IsPermutation (distinct_values values) listed
 has_each_is listed values long = (
   λ e.
-      let parts = both (nat_le (length listed) (length (distinct_values listed))) (list_all (λ v. list_any (is_same v) (distinct_values listed)) values) e in
+      let parts = and_parts (nat_le (length listed) (length (distinct_values listed))) (list_all (λ v. list_any (is_same v) (distinct_values listed)) values) e in
       let once : IsDistinct is_same listed = distinct_from_length listed (leb-true (length listed) (length (distinct_values listed)) parts.0) in
       let same : distinct_values listed ≡ listed = distinct_already listed once in
       matched (distinct_values values) listed (are_distinct values) once long

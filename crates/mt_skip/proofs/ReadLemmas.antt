@@ -12,6 +12,8 @@ use Rattle.mt_types.specs.Fits.{fits_of}
 use Rattle.mt_types.specs.Items.{item_bytes}
 use Rattle.mt_item.specs.Results.{IsFirst}
 use Rattle.mt_skip.specs.Items.{AllFit, AreItems, ReadsItems}
+use Rattle.mt_skip.proofs.DistinctLemmas.{nothing_fits}
+use Rattle.mt_skip.proofs.LawLemmas.{tail_fits}
 
 -- values whose items the bytes are begin with those that were read
 pub record GoesOn (ty : Ty) (left : ℕ) (read others : List Value) (rest : List ℕ) : Type 0 where
@@ -26,12 +28,9 @@ pub record ReadSoFar (ty : Ty) (count i : ℕ) (bytes : List ℕ) (read : List V
   pub encoded : bytes ≡ flat_map (item_bytes ty) read ++ rest
   pub others : (values : List Value) → AreItems ty count bytes values → GoesOn ty (count - i) read values rest
 
-none_fit : (ty : Ty) → AllFit ty []
-none_fit ty k d inside = absurd (omega (arith, inside))
-
 pub nothing_read : (ty : Ty) (count : ℕ) (bytes : List ℕ) → ReadSoFar ty count 0 bytes [] bytes
 nothing_read ty count bytes = record {
-  fit = none_fit ty;
+  fit = nothing_fits ty;
   counted = refl;
   encoded = refl;
   others = λ values items. record {
@@ -40,9 +39,6 @@ nothing_read ty count bytes = record {
     items = let all : count - 0 ≡ count = omega arith in subst (λ n. AreItems ty n bytes values) (sym all) items;
   };
 }
-
-tail_fits : (ty : Ty) (v : Value) (vs : List Value) → AllFit ty (v ∷ vs) → AllFit ty vs
-tail_fits ty v vs all k d inside = all (suc k) d (omega (arith, inside))
 
 -- what an item and others begin with, where this is what some bytes begin with
 first_of : (ty : Ty) (left : ℕ) (rest : List ℕ) (read : Option (Value × List ℕ)) (more : List Value) → 0 < left → IsFirst (fits_of ty) (item_bytes ty) rest read → AreItems ty left rest more

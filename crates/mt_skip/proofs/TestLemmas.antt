@@ -1,5 +1,5 @@
 -- An entry is the one of some values exactly where the tests say so.
-use Rattle.std.proofs.Common.{◌≡◌, ℕ, zero, suc, ◌↔◌, Bool, true, false, cond, ◌&&◌, ◌||◌, List, [], ◌∷◌, ◌++◌, refl, ap, sym, ◌∙◌, inl, inr, arith}
+use Rattle.std.proofs.Common.{◌≡◌, ℕ, suc, ◌↔◌, Bool, true, false, cond, ◌&&◌, ◌||◌, List, [], ◌∷◌, ◌++◌, refl, ap, sym, ◌∙◌, inl, inr, arith}
 use Rattle.std.specs.Prelude.{All, Contains}
 use Rattle.std.specs.Bool.{MatchBool}
 use Rattle.std.specs.List.{list_all, list_any}
@@ -8,6 +8,8 @@ use Rattle.std.specs.Str.{bytes_eq}
 use Rattle.std.proofs.lemmas.Bool.{and_from, and_parts, cases_Bool}
 use Rattle.std.proofs.lemmas.List.Folds.{list_any_at}
 use Rattle.std.proofs.lemmas.Slice.Eq.{bytes_eq-Decides}
+use Rattle.mt_facts.proofs.Lists.{each_passes}
+use Rattle.std.specs.Cmp.{both_ways}
 use Rattle.mt_types.specs.declared.ty.Ty.{Ty}
 use Rattle.mt_types.specs.declared.value.Value.{Value}
 use Rattle.mt_types.specs.Items.{item_bytes}
@@ -32,11 +34,6 @@ found p (x ∷ xs) there =
 finds : {X : Type 0} (p : X → Bool) (xs : List X) (x : X) → Contains xs x → p x ≡ true → list_any p xs ≡ true
 finds p xs x at passes = list_any_at p xs at.0 x at.1 (ap p at.2 ∙ passes)
 
-each_of : {X : Type 0} (p : X → Bool) (xs : List X) → list_all p xs ≡ true → All (λ x. p x ≡ true) xs
-each_of p [] all k d inside = absurd (omega (arith, inside))
-each_of p (x ∷ xs) all zero d inside = (and_parts (p x) (list_all p xs) all).0
-each_of p (x ∷ xs) all (suc k) d inside = each_of p xs (and_parts (p x) (list_all p xs) all).1 k d (omega (arith, inside))
-
 all_of : {X : Type 0} (p : X → Bool) (xs : List X) → All (λ x. p x ≡ true) xs → list_all p xs ≡ true
 all_of p [] each = refl
 all_of p (x ∷ xs) each = and_from (p x) (list_all p xs) (each 0 x (omega arith)) (all_of p xs (λ k d inside. each (suc k) d (omega (arith, inside))))
@@ -54,8 +51,8 @@ minmax_tested ty values bytes = (
       let inner = and_parts (is_greatest values high) (bytes_eq bytes (item_bytes ty low ++ item_bytes ty high)) greatest.2 in (
         low,
         high,
-        record { among = least.1; least = each_of (λ other. is_le (value_cmp low other)) values outer.0 },
-        record { among = greatest.1; greatest = each_of (λ other. is_le (value_cmp other high)) values inner.0 },
+        record { among = least.1; least = each_passes (λ other. is_le (value_cmp low other)) values outer.0 },
+        record { among = greatest.1; greatest = each_passes (λ other. is_le (value_cmp other high)) values inner.0 },
         (bytes_eq-Decides bytes (item_bytes ty low ++ item_bytes ty high)).0 inner.1,
       ),
   λ is.
@@ -85,13 +82,8 @@ pub summaries_tested : (kind : SkipKind) (ty : Ty) (values : List Value) (entry 
 summaries_tested Minmax ty values entry = minmax_tested ty values entry
 summaries_tested (Set max_rows) ty values entry = set_tested ty values entry (is_too_many max_rows values)
 
-same_tests : (a b : Bool) → (a ≡ true → b ≡ true) → (b ≡ true → a ≡ true) → a ≡ b
-same_tests true b there back = sym (there refl)
-same_tests false true there back = back refl
-same_tests false false there back = refl
-
 -- an answer that is right is the test's
 pub answers_tested : (kind : SkipKind) (ty : Ty) (values : List Value) (entry : List ℕ) (agrees : Bool) → (agrees ≡ true) ↔ Summarizes kind ty values entry → agrees ≡ summarizes kind ty values entry
 answers_tested kind ty values entry agrees right =
     let test = summaries_tested kind ty values entry in
-    same_tests agrees (summarizes kind ty values entry) (λ e. test.1 (right.0 e)) (λ e. right.1 (test.0 e))
+    both_ways agrees (summarizes kind ty values entry) (λ e. test.1 (right.0 e)) (λ e. right.1 (test.0 e))

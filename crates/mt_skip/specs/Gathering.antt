@@ -23,6 +23,6 @@ abbrev pub has_each : List Value → List Value → Bool
 has_each listed values = nat_le (length listed) (length (distinct_values listed)) && list_all (λ value. list_any (is_same value) (distinct_values listed)) values
 
 -- a set of the distinct values, in order; none where they are too many
-abbrev pub Gathers : ℕ → List Value → Option (IndexSet Seen (BuildHasherDefault FoldHasher)) → Type 0
-Gathers max_rows values None = is_too_many max_rows values ≡ true
-Gathers max_rows values (Some set) = (is_too_many max_rows values ≡ false) × (values_in set.keys ≡ distinct_values values)
+abbrev pub GathersDistinct : ℕ → List Value → Option (IndexSet Seen (BuildHasherDefault FoldHasher)) → Type 0
+GathersDistinct max_rows values None = is_too_many max_rows values ≡ true
+GathersDistinct max_rows values (Some set) = (is_too_many max_rows values ≡ false) × (values_in set.keys ≡ distinct_values values)

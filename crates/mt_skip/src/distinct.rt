@@ -1,7 +1,7 @@
 //! The distinct values of a column in some granules, in the order of their first appearance.
 
 ghost use Rattle.std.specs.Prelude.{◌≡◌, ◌&&◌, nat_lt, IfOk};
-ghost use Rattle.mt_skip.specs.Gathering.{Gathers};
+ghost use Rattle.mt_skip.specs.Gathering.{GathersDistinct};
 
 use crate::seen::Seen;
 use indexmap::IndexSet;
@@ -15,7 +15,7 @@ pub fn distinct_of<'a>(
     max_rows: u64,
     values: &'a [Value],
 ) -> Result<Option<IndexSet<Seen<'a>>>, NoMemory>
-    ensures { IfOk result (Gathers max_rows values.now) }
+    ensures { IfOk result (GathersDistinct max_rows values.now) }
 {
     let mut distinct = IndexSet::new(alloc);
     for value in values {

@@ -1,12 +1,12 @@
 -- Rows by the rank of one column: they rise with it, and tie in it where one value has it.
 use Rattle.std.proofs.Common.{◌≡◌, ℕ, ◌<◌, Bool, true, false, cond, List, [], ◌∷◌, refl, ap, sym, ◌∙◌}
-use Rattle.std.specs.Prelude.{◌||◌}
 use Rattle.std.specs.List.{AllByRecursion, list_any}
 use Rattle.std.specs.Cmp.{ranked}
 use Rattle.std.specs.Ordering.{ordering_then, ordering_reverse, nat_cmp}
 use Rattle.std.specs.declared.cmp.Ordering.{Ordering}
 use Rattle.std.specs.declared.cmp.Ordering.TheVariants.{Less, Equal, Greater}
 use Rattle.std.proofs.lemmas.Cmp.{nat_cmp_total}
+use Rattle.std.proofs.lemmas.Bool.{or_parts}
 use Rattle.mt_types.specs.declared.value.Value.{Value, out-Value}
 use Rattle.mt_types.specs.Order.{values_cmp}
 use Rattle.mt_defs.specs.Rows.{Row, cell, key_of, key_cmp}
@@ -52,13 +52,9 @@ left_cmp false false a b same tie = refl
 
 -- ---- rows without a Huge
 
-neither : (p q : Bool) → (p || q) ≡ false → (p ≡ false) × (q ≡ false)
-neither true q e = cc
-neither false q e = (refl, e)
-
 pub none_of : {X : Type 0} (test : X → Bool) (xs : List X) → list_any test xs ≡ false → AllByRecursion (λ x. test x ≡ false) xs
 none_of test [] e = tt
-none_of test (x ∷ xs) e = let parts = neither (test x) (list_any test xs) e in (parts.0, none_of test xs parts.1)
+none_of test (x ∷ xs) e = let parts = or_parts (test x) (list_any test xs) e in (parts.0, none_of test xs parts.1)
 
 -- no column of the key has a Huge
 abbrev pub NoHuge : List ℕ → Row → Type 0
@@ -67,5 +63,5 @@ NoHuge key row = AllByRecursion (λ column. huge_at (out-Value (cell row column)
 pub no_huges : (key : List ℕ) (rows : List Row) → list_any (has_huge key) rows ≡ false → AllByRecursion (NoHuge key) rows
 no_huges key [] e = tt
 no_huges key (row ∷ rows) e =
-    let parts = neither (has_huge key row) (list_any (has_huge key) rows) e in
+    let parts = or_parts (has_huge key row) (list_any (has_huge key) rows) e in
     (none_of (λ column. huge_at (out-Value (cell row column))) key parts.0, no_huges key rows parts.1)

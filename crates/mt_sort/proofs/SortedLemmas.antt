@@ -7,9 +7,10 @@ use Rattle.std.specs.Ordering.{is_gt}
 use Rattle.std.specs.declared.cmp.Ordering.{Ordering}
 use Rattle.std.proofs.lemmas.Bool.{cases_Bool}
 use Rattle.std.proofs.lemmas.List.Sorted.{IsPermutation-refl, IsPermutation-cons, IsPermutation-trans, IsPermutation-middle}
+use Rattle.mt_facts.proofs.Lists.{filter_drops, filter_keeps}
+use Rattle.mt_facts.proofs.Truth.{never_both}
 use Rattle.mt_defs.specs.Sorting.{placed_by, sorted_by}
 use Rattle.mt_sort.specs.InOrder.{is_in_order}
-use Rattle.mt_sort.proofs.StableLemmas.{keeps, drops, not_both}
 
 module _ {X : Type 0} (R : X → X → Ordering) where
   placed_permutes : (x : X) (ys : List X) → IsPermutation (x ∷ ys) (placed_by R x ys)
@@ -38,11 +39,11 @@ module _ {X : Type 0} (R : X → X → Ordering) where
         | inr not_above ↦ subst Q (sym not_above) refl
         | inl above ↦ subst Q (sym above) (
             elim (cases_Bool (p x)) [
-              | inr miss ↦ ap (λ l. cond (p y) (y ∷ l) l) (placed_filter p tied x ys ∙ drops p x ys miss) ∙ sym (drops p x (y ∷ ys) miss)
+              | inr miss ↦ ap (λ l. cond (p y) (y ∷ l) l) (placed_filter p tied x ys ∙ filter_drops p x ys miss) ∙ sym (filter_drops p x (y ∷ ys) miss)
               | inl hit ↦
                   elim (cases_Bool (p y)) [
-                    | inl both ↦ not_both (is_gt (R x y)) above (tied x y hit both)
-                    | inr other ↦ drops p y (placed_by R x ys) other ∙ placed_filter p tied x ys ∙ keeps p x ys hit ∙ sym (ap (λ l. x ∷ l) (drops p y ys other)) ∙ sym (keeps p x (y ∷ ys) hit)
+                    | inl both ↦ never_both (is_gt (R x y)) above (tied x y hit both)
+                    | inr other ↦ filter_drops p y (placed_by R x ys) other ∙ placed_filter p tied x ys ∙ filter_keeps p x ys hit ∙ sym (ap (λ l. x ∷ l) (filter_drops p y ys other)) ∙ sym (filter_keeps p x (y ∷ ys) hit)
                   ]
             ])
       ]

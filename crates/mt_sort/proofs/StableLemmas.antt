@@ -9,6 +9,7 @@ use Rattle.std.specs.List.Sorted.{IsSorted, IsStable, ties}
 use Rattle.std.proofs.lemmas.Bool.{cases_Bool}
 use Rattle.std.proofs.lemmas.Cmp.{eq_by_cmp_equiv, upto}
 use Rattle.std.proofs.lemmas.List.Sorted.{sorted_far, ranks_by}
+use Rattle.mt_facts.proofs.Lists.{filter_drops, filter_keeps}
 use Rattle.mt_defs.specs.Sorting.{placed_by, sorted_by}
 
 abbrev head_or : {X : Type 0} → X → List X → X
@@ -19,13 +20,6 @@ abbrev rest_of : {X : Type 0} → List X → List X
 rest_of [] = []
 rest_of (x ∷ xs) = xs
 
--- where a filter keeps or drops the head
-pub keeps : {X : Type 0} (p : X → Bool) (x : X) (xs : List X) → p x ≡ true → filter p (x ∷ xs) ≡ x ∷ filter p xs
-keeps p x xs e = ap (λ b. cond b (x ∷ filter p xs) (filter p xs)) e
-
-pub drops : {X : Type 0} (p : X → Bool) (x : X) (xs : List X) → p x ≡ false → filter p (x ∷ xs) ≡ filter p xs
-drops p x xs e = ap (λ b. cond b (x ∷ filter p xs) (filter p xs)) e
-
 -- an order that is not above, either way round, ties
 pub tie : (r s : Ordering) → r ≡ ordering_reverse s → is_gt r ≡ false → is_gt s ≡ false → is_eq r ≡ true
 tie Less Less e p q = cc
@@ -33,9 +27,6 @@ tie Less Equal e p q = cc
 tie Less Greater e p q = cc
 tie Equal s e p q = refl
 tie Greater s e p q = cc
-
-pub not_both : {P : Type 0} (b : Bool) → b ≡ true → b ≡ false → P
-not_both b p q = let bad : true ≡ false = sym p ∙ q in cc
 
 gt_no_tie : (r : Ordering) → is_gt r ≡ true → is_eq r ≡ false
 gt_no_tie Less e = cc
@@ -64,9 +55,9 @@ module _ {X : Type 0} (R : X → X → Ordering) (o : IsTotalOrder R) where
   found p y a (z ∷ zs) rest s e =
       elim (cases_Bool (p z)) [
         | inl hit ↦
-            let same : z ≡ a = ap (head_or a) (sym (keeps p z zs hit) ∙ e) in
+            let same : z ≡ a = ap (head_or a) (sym (filter_keeps p z zs hit) ∙ e) in
             subst (λ v. is_gt (R y v) ≡ false) same s.0
-        | inr miss ↦ found p y a zs rest s.1 (sym (drops p z zs miss) ∙ e)
+        | inr miss ↦ found p y a zs rest s.1 (sym (filter_drops p z zs miss) ∙ e)
       ]
 
   -- the heads of two lists that rise tie, if each filter by ties keeps the same of both
@@ -75,26 +66,26 @@ module _ {X : Type 0} (R : X → X → Ordering) (o : IsTotalOrder R) where
       elim (cases_Bool (Alike a b)) [
         | inl hit ↦ hit
         | inr miss ↦
-            let a_here : filter (Alike a) qs ≡ a ∷ filter (Alike a) rs = sym (drops (Alike a) b qs miss) ∙ sym ea ∙ keeps (Alike a) a rs (alike.refl a) in
-            let b_here : filter (Alike b) rs ≡ b ∷ filter (Alike b) qs = sym (drops (Alike b) a rs (sym (alike.symm a b) ∙ miss)) ∙ eb ∙ keeps (Alike b) b qs (alike.refl b) in
+            let a_here : filter (Alike a) qs ≡ a ∷ filter (Alike a) rs = sym (filter_drops (Alike a) b qs miss) ∙ sym ea ∙ filter_keeps (Alike a) a rs (alike.refl a) in
+            let b_here : filter (Alike b) rs ≡ b ∷ filter (Alike b) qs = sym (filter_drops (Alike b) a rs (sym (alike.symm a b) ∙ miss)) ∙ eb ∙ filter_keeps (Alike b) b qs (alike.refl b) in
             tie (R a b) (R b a) (o.antisymm a b) (found (Alike b) a b rs _ sa b_here) (found (Alike a) b a qs _ sb a_here)
       ]
 
   rests_same : (p : X → Bool) (a b : X) (rs qs : List X) → a ≡ b → filter p (a ∷ rs) ≡ filter p (b ∷ qs) → filter p rs ≡ filter p qs
   rests_same p a b rs qs same e =
       elim (cases_Bool (p a)) [
-        | inl hit ↦ ap rest_of (sym (keeps p a rs hit) ∙ e ∙ keeps p b qs (subst (λ v. p v ≡ true) same hit))
-        | inr miss ↦ sym (drops p a rs miss) ∙ e ∙ drops p b qs (subst (λ v. p v ≡ false) same miss)
+        | inl hit ↦ ap rest_of (sym (filter_keeps p a rs hit) ∙ e ∙ filter_keeps p b qs (subst (λ v. p v ≡ true) same hit))
+        | inr miss ↦ sym (filter_drops p a rs miss) ∙ e ∙ filter_drops p b qs (subst (λ v. p v ≡ false) same miss)
       ]
 
   -- two lists that rise and keep the same of each tie are one
   pub one_list : (xs ys : List X) → Rises xs → Rises ys → ((x : X) → filter (Alike x) xs ≡ filter (Alike x) ys) → xs ≡ ys
   one_list [] [] r s e = refl
-  one_list [] (b ∷ qs) r s e = let bad : [] ≡ b ∷ filter (Alike b) qs = e b ∙ keeps (Alike b) b qs (alike.refl b) in cc
-  one_list (a ∷ rs) [] r s e = let bad : a ∷ filter (Alike a) rs ≡ [] = sym (keeps (Alike a) a rs (alike.refl a)) ∙ e a in cc
+  one_list [] (b ∷ qs) r s e = let bad : [] ≡ b ∷ filter (Alike b) qs = e b ∙ filter_keeps (Alike b) b qs (alike.refl b) in cc
+  one_list (a ∷ rs) [] r s e = let bad : a ∷ filter (Alike a) rs ≡ [] = sym (filter_keeps (Alike a) a rs (alike.refl a)) ∙ e a in cc
   one_list (a ∷ rs) (b ∷ qs) r s e =
       let t = heads_tie a b rs qs r.0 s.0 (e a) (e b) in
-      let same : a ≡ b = ap (head_or a) (sym (keeps (Alike a) a rs (alike.refl a)) ∙ e a ∙ keeps (Alike a) b qs t) in
+      let same : a ≡ b = ap (head_or a) (sym (filter_keeps (Alike a) a rs (alike.refl a)) ∙ e a ∙ filter_keeps (Alike a) b qs t) in
       let more : rs ≡ qs = one_list rs qs r.1 s.1 (λ x. rests_same (Alike x) a b rs qs same (e x)) in
       ap (λ v. v ∷ rs) same ∙ ap (λ l. b ∷ l) more
 
@@ -140,11 +131,11 @@ module _ {X : Type 0} (R : X → X → Ordering) (o : IsTotalOrder R) where
         | inl above ↦ subst Q (sym above) (
             elim (cases_Bool (p x)) [
               | inr miss ↦
-                  ap (λ l. cond (p y) (y ∷ l) l) (placed_keeps t x ys ∙ drops p x ys miss) ∙ sym (drops p x (y ∷ ys) miss)
+                  ap (λ l. cond (p y) (y ∷ l) l) (placed_keeps t x ys ∙ filter_drops p x ys miss) ∙ sym (filter_drops p x (y ∷ ys) miss)
               | inl hit ↦
                   let apart : Alike x y ≡ false = gt_no_tie (R x y) above in
                   let other : p y ≡ false = sym (alike.congr x t y (alike.symm x t ∙ hit)) ∙ apart in
-                  drops p y (placed_by R x ys) other ∙ placed_keeps t x ys ∙ keeps p x ys hit ∙ sym (ap (λ l. x ∷ l) (drops p y ys other)) ∙ sym (keeps p x (y ∷ ys) hit)
+                  filter_drops p y (placed_by R x ys) other ∙ placed_keeps t x ys ∙ filter_keeps p x ys hit ∙ sym (ap (λ l. x ∷ l) (filter_drops p y ys other)) ∙ sym (filter_keeps p x (y ∷ ys) hit)
             ])
       ]
 

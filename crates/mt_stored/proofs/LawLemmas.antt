@@ -5,27 +5,30 @@ use Rattle.std.specs.List.{list_all, list_any}
 use Rattle.std.proofs.lemmas.List.{map-append}
 use Rattle.std.proofs.lemmas.List.Elements.{filter-append}
 use Rattle.std.proofs.lemmas.List.Folds.{list_any-append}
+use Rattle.mt_facts.proofs.Lists.{any_map}
+use Rattle.std.proofs.lemmas.Bool.{and_parts}
 use Rattle.mt_types.specs.declared.value.AggState.{AggState}
 use Rattle.mt_types.specs.declared.value.Value.{Value}
 use Rattle.mt_table.specs.declared.projection.Aggregate.{Aggregate}
 use Rattle.mt_defs.specs.Rows.{Row, cell, key_of}
-use Rattle.mt_defs.specs.Folds.{state_of, states_join, join, merge_of, merge_upon, number_of, fold_of}
+use Rattle.mt_defs.specs.Folds.{state_of, states_join, join, merge_of, merge_upon, number_taken, fold_of}
 use Rattle.mt_defs.specs.Projections.{is_same_key, with_key, stored_key, stored_state, FoldsRows}
 use Rattle.mt_agg.proofs.FoldLemmas.{joins}
-use Rattle.mt_sort.proofs.KeyLemmas.{one_key, none_kept, same_keys, any_map}
+use Rattle.mt_sort.proofs.KeyLemmas.{one_key, none_kept, same_keys}
 use Rattle.mt_query.specs.declared.query.Query.{Query}
 use Rattle.mt_query.specs.Named.{given_cond_passes}
 use Rattle.mt_fold.specs.Answer.{aggregates, is_grouped, keeps, kept_rows}
 use Rattle.mt_fold.specs.Gathered.{Group, folds_of, has_group, AreGroups, GathersBy, Gathers}
 use Rattle.mt_fold.specs.declared.partial.Partial.{Partial}
-use Rattle.mt_stored.specs.Placed.{as_row, is_placed}
+use Rattle.mt_fold.proofs.GroupLemmas.{had as folds_so_far}
+use Rattle.mt_stored.specs.Placed.{as_row, is_stored_column}
 use Rattle.mt_stored.specs.Needed.{can_answer, groups_pass, is_aggregate_among}
 use Rattle.mt_stored.specs.Merged.{join_each, join_all, groups_of, AreMerged, stored_group, stored_groups, Merges}
-use Rattle.mt_stored.proofs.ListLemmas.{both_true, or_assoc, or_swap, filter_same, any_same, filter_twice, any_twice, filter_mapped, map_passing}
+use Rattle.mt_stored.proofs.ListLemmas.{or_assoc, or_swap, filter_same, any_same, filter_twice, any_twice, filter_mapped, map_passing}
 use Rattle.mt_stored.proofs.SumLemmas.{Adds, total, unions}
 use Rattle.mt_stored.proofs.StateLemmas.{joins_add, merged_rows, in_turn, turns, upon_first}
 use Rattle.mt_stored.proofs.SeenLemmas.{keeps_agrees, key_agrees, as_its_key, as_stored}
-use Rattle.mt_stored.proofs.MergedLemmas.{has, alone, join_all-append, so_far, folds_so_far, own_merge}
+use Rattle.mt_stored.proofs.MergedLemmas.{has, alone, join_all-append, so_far, own_merge}
 
 -- ---- sums over the keys that pass
 
@@ -59,7 +62,7 @@ total_any p key (row ∷ rows) = any_by (p (key row)) (total either p false (pai
 
 module _ (keys : List ℕ) (aggs : List Aggregate) (R Q : List Row) (stands : FoldsRows keys aggs R Q) where
   abbrev own : Aggregate → Row → Option AggState
-  own a row = Some (state_of a (number_of a row ∷ []))
+  own a row = Some (state_of a (number_taken a row ∷ []))
 
   -- over any set of keys the stored states merge to the fold over the rows
   pub merged_over : (p : List Value → Bool) (a : Aggregate) → is_aggregate_among aggs a ≡ true
@@ -98,10 +101,10 @@ module _ (state : Aggregate → Row → Option AggState) where
 -- a merge upon the fold of some rows
 upon_fold : (a : Aggregate) (rows more : List Row) (os : List (Option AggState)) → merge_of a os ≡ Some (fold_of more a) → merge_upon (Some (fold_of rows a)) os ≡ Some (fold_of (rows ++ more) a)
 upon_fold a rows more os e =
-    let ms = map (number_of a) rows in
+    let ms = map (number_taken a) rows in
     let begun : join (Some (fold_of rows a)) (Some (state_of a [])) ≡ Some (fold_of rows a) = joins a ms [] ∙ ap (λ ns. Some (state_of a ns)) (append-nil ms) in
     ap (λ o. merge_upon o os) (sym begun) ∙ upon_first (Some (fold_of rows a)) (Some (state_of a [])) os ∙ ap (join (Some (fold_of rows a))) e
-    ∙ joins a ms (map (number_of a) more) ∙ ap (λ ns. Some (state_of a ns)) (sym (map-append (number_of a) rows more))
+    ∙ joins a ms (map (number_taken a) more) ∙ ap (λ ns. Some (state_of a ns)) (sym (map-append (number_taken a) rows more))
 
 same_there : {X : Type 0} (b c : Bool) (x y : X) → cond b (Some x) None ≡ cond c (Some y) None → b ≡ c
 same_there true true x y e = refl
@@ -113,16 +116,16 @@ same_there false true x y e = cc
 
 module _ (keys : List ℕ) (aggs : List Aggregate) (width : ℕ) (q : Query) (R Q : List Row) (stands : FoldsRows keys aggs R Q) (answers : can_answer keys aggs width q ≡ true) where
   grouped : is_grouped q ≡ true
-  grouped = (both_true (is_grouped q) (groups_pass (is_placed keys width) (is_aggregate_among aggs) q) answers).0
+  grouped = (and_parts (is_grouped q) (groups_pass (is_stored_column keys width) (is_aggregate_among aggs) q) answers).0
 
-  needed : groups_pass (is_placed keys width) (is_aggregate_among aggs) q ≡ true
-  needed = (both_true (is_grouped q) (groups_pass (is_placed keys width) (is_aggregate_among aggs) q) answers).1
+  needed : groups_pass (is_stored_column keys width) (is_aggregate_among aggs) q ≡ true
+  needed = (and_parts (is_grouped q) (groups_pass (is_stored_column keys width) (is_aggregate_among aggs) q) answers).1
 
-  tested : given_cond_passes (is_placed keys width) q.cond ≡ true
-  tested = (both_true (given_cond_passes (is_placed keys width) q.cond) _ needed).0
+  tested : given_cond_passes (is_stored_column keys width) q.cond ≡ true
+  tested = (and_parts (given_cond_passes (is_stored_column keys width) q.cond) _ needed).0
 
-  keys_and_folds : (list_all (is_placed keys width) q.keys && list_all (is_aggregate_among aggs) (aggregates q.items)) ≡ true
-  keys_and_folds = (both_true (given_cond_passes (is_placed keys width) q.cond) _ needed).1
+  keys_and_folds : (list_all (is_stored_column keys width) q.keys && list_all (is_aggregate_among aggs) (aggregates q.items)) ≡ true
+  keys_and_folds = (and_parts (given_cond_passes (is_stored_column keys width) q.cond) _ needed).1
 
   -- a row is kept, and has this key
   abbrev shows : List Value → Row → Bool
@@ -132,10 +135,10 @@ module _ (keys : List ℕ) (aggs : List Aggregate) (width : ℕ) (q : Query) (R 
   abbrev passes : List Value → List Value → Bool
   passes k j = shows k (as_row keys width j)
 
-  shows_alike : (k : List Value) (r s : Row) → ((column : ℕ) → is_placed keys width column ≡ true → cell r column ≡ cell s column) → shows k r ≡ shows k s
+  shows_alike : (k : List Value) (r s : Row) → ((column : ℕ) → is_stored_column keys width column ≡ true → cell r column ≡ cell s column) → shows k r ≡ shows k s
   shows_alike k r s same =
-      ap (λ b. b && is_same_key k (key_of q.keys r)) (keeps_agrees (is_placed keys width) r s same q.cond tested)
-      ∙ ap (λ j. keeps q.cond s && is_same_key k j) (key_agrees (is_placed keys width) r s same q.keys (both_true (list_all (is_placed keys width) q.keys) _ keys_and_folds).0)
+      ap (λ b. b && is_same_key k (key_of q.keys r)) (keeps_agrees (is_stored_column keys width) r s same q.cond tested)
+      ∙ ap (λ j. keeps q.cond s && is_same_key k j) (key_agrees (is_stored_column keys width) r s same q.keys (and_parts (list_all (is_stored_column keys width) q.keys) _ keys_and_folds).0)
 
   -- a stored row passes as its key does, and a row as its key does
   stored_passes : (k : List Value) (s : Row) → passes k (stored_key keys s) ≡ shows k (as_row keys width s)
@@ -207,7 +210,7 @@ module _ (keys : List ℕ) (aggs : List Aggregate) (width : ℕ) (q : Query) (R 
         ap (join_all start) (filter-append (has k) groups G) ∙ join_all-append start (groups_of k groups) (groups_of k G)
         ∙ ap (λ states. join_all states (groups_of k G)) (states_before k) ∙ ap (join_all (folds_of (aggregates q.items) mine)) (groups_at k)
         ∙ all_joined (stored_state keys aggs) (λ s. key_of q.keys (as_row keys width s)) (aggregates q.items) (fold_of mine) (of k)
-        ∙ map_passing (is_aggregate_among aggs) (λ a. in_turn a (fold_of mine a) (map (stored_state keys aggs a) (of k))) (fold_of (mine ++ more)) (aggregates q.items) (both_true (list_all (is_placed keys width) q.keys) _ keys_and_folds).1 (turned k)
+        ∙ map_passing (is_aggregate_among aggs) (λ a. in_turn a (fold_of mine a) (map (stored_state keys aggs a) (of k))) (fold_of (mine ++ more)) (aggregates q.items) (and_parts (list_all (is_stored_column keys width) q.keys) _ keys_and_folds).1 (turned k)
         ∙ ap (folds_of (aggregates q.items)) (sym (rows_all k))
 
     any_all : (k : List Value) → (alone q k || list_any (has k) (groups ++ G)) ≡ has_group q.keys k all

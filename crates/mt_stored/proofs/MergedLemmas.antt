@@ -3,23 +3,23 @@ use Rattle.std.proofs.Common.{◌≡◌, Bool, true, false, cond, ◌&&◌, ◌|
 use Rattle.std.specs.Prelude.{unwrap_or}
 use Rattle.std.specs.List.{list_any, IsDistinct, AllByRecursion}
 use Rattle.std.specs.Map.{lookup, keys_of}
-use Rattle.std.proofs.lemmas.Bool.{cases_Bool}
+use Rattle.std.proofs.lemmas.Bool.{cases_Bool, or_parts}
 use Rattle.std.proofs.lemmas.List.Elements.{filter-append}
 use Rattle.std.proofs.lemmas.List.Folds.{list_any-append}
 use Rattle.std.proofs.lemmas.Map.Keys.{IsDistinct-head, IsDistinct-tail}
+use Rattle.mt_facts.proofs.Truth.{or_false, or_true}
 use Rattle.mt_types.specs.declared.value.AggState.{AggState}
 use Rattle.mt_types.specs.declared.value.Value.{Value}
 use Rattle.mt_table.specs.declared.projection.Aggregate.{Aggregate}
-use Rattle.mt_defs.specs.Rows.{Row, key_of}
-use Rattle.mt_defs.specs.Folds.{fold_of, number_of}
+use Rattle.mt_defs.specs.Rows.{Row}
+use Rattle.mt_defs.specs.Folds.{fold_of, number_taken}
 use Rattle.mt_defs.specs.Projections.{is_same_key, with_key}
 use Rattle.mt_agg.proofs.FoldLemmas.{joins}
 use Rattle.mt_sort.proofs.KeyLemmas.{one_key, none_kept, same_keys}
 use Rattle.mt_query.specs.declared.query.Query.{Query}
 use Rattle.mt_fold.specs.Answer.{aggregates, is_empty}
-use Rattle.mt_fold.specs.Gathered.{Group, folds_of, has_group, group_at, AreGroups}
+use Rattle.mt_fold.specs.Gathered.{Group, folds_of, has_group, AreGroups}
 use Rattle.mt_stored.specs.Merged.{join_each, join_all, groups_of, merged_at, AreMerged}
-use Rattle.mt_stored.proofs.ListLemmas.{both_false, or_true, or_false}
 
 -- a group has a key
 abbrev pub has : List Value → Group → Bool
@@ -46,7 +46,7 @@ module _ (q : Query) where
       let f : Bool → List AggState = λ b. unwrap_or (cond b (Some (join_all start (groups_of k G))) None) start in
       elim (cases_Bool (there k G)) [
         | inl hit ↦ ap f hit
-        | inr miss ↦ ap f miss ∙ sym (ap (join_all start) (none_kept (has k) G (both_false (alone k) (list_any (has k) G) miss).1))
+        | inr miss ↦ ap f miss ∙ sym (ap (join_all start) (none_kept (has k) G (or_parts (alone k) (list_any (has k) G) miss).1))
       ]
 
   abbrev Looks : Type 0
@@ -108,18 +108,7 @@ any_found k (g ∷ G) = any_by (has k g) g.1 (list_any (has k) G) (lookup (is_sa
 fold_joined : (aggs : List Aggregate) (rows : List Row) → join_each (folds_of aggs []) (folds_of aggs rows) ≡ folds_of aggs rows
 fold_joined [] rows = refl
 fold_joined (a ∷ aggs) rows =
-    ap (λ o. unwrap_or o (fold_of [] a) ∷ join_each (folds_of aggs []) (folds_of aggs rows)) (joins a [] (map (number_of a) rows)) ∙ ap (λ states. fold_of rows a ∷ states) (fold_joined aggs rows)
-
--- the folds that a key has so far, or those of no rows
-pub folds_so_far : (q : Query) (rows : List Row) (k : List Value) → unwrap_or (group_at q rows k) (folds_of (aggregates q.items) []) ≡ folds_of (aggregates q.items) (with_key q.keys k rows)
-folds_so_far q rows k =
-    let aggs = aggregates q.items in
-    let f : Bool → List AggState = λ b. unwrap_or (cond b (Some (folds_of aggs (with_key q.keys k rows))) None) (folds_of aggs []) in
-    let has_it : Row → Bool = λ r. is_same_key k (key_of q.keys r) in
-    elim (cases_Bool (has_group q.keys k rows)) [
-      | inl hit ↦ ap f hit
-      | inr miss ↦ ap f miss ∙ ap (folds_of aggs) (sym (none_kept has_it rows (both_false (alone q k) (list_any has_it rows) miss).1))
-    ]
+    ap (λ o. unwrap_or o (fold_of [] a) ∷ join_each (folds_of aggs []) (folds_of aggs rows)) (joins a [] (map (number_taken a) rows)) ∙ ap (λ states. fold_of rows a ∷ states) (fold_joined aggs rows)
 
 -- groups are what they are merged with nothing
 pub own_merge : (q : Query) (rows : List Row) (groups : List Group) → AreGroups q rows groups → AreMerged q groups groups
@@ -138,7 +127,7 @@ own_merge q rows groups are = record {
             found ∙ sym (ap (λ b. cond b (Some joined) None) has_it ∙ ap Some states)
         | inr miss ↦
             let found : lookup (is_same_key k) groups ≡ None = are.each k ∙ ap (λ b. cond b (Some folds) None) miss in
-            let gone : (alone q k || list_any (has k) groups) ≡ false = ap (λ b. alone q k || b) (any ∙ ap is_some found) ∙ or_false (alone q k) ∙ (both_false (alone q k) _ miss).0 in
+            let gone : (alone q k || list_any (has k) groups) ≡ false = ap (λ b. alone q k || b) (any ∙ ap is_some found) ∙ or_false (alone q k) ∙ (or_parts (alone q k) _ miss).0 in
             found ∙ sym (ap (λ b. cond b (Some joined) None) gone)
       ];
 }

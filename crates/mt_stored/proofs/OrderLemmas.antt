@@ -6,6 +6,8 @@ use Rattle.std.specs.List.Sorted.{IsPermutation}
 use Rattle.std.specs.Ordering.{is_gt}
 use Rattle.std.proofs.lemmas.List.Elements.{filter-append}
 use Rattle.std.proofs.lemmas.List.Sorted.{IsPermutation-refl, IsPermutation-sym, IsPermutation-trans, IsPermutation-cons, IsPermutation-middle, IsPermutation-map, IsPermutation-append_right, list_any-IsPermutation}
+use Rattle.std.proofs.lemmas.Bool.{and_parts}
+use Rattle.mt_facts.proofs.Lists.{map_map}
 use Rattle.mt_types.specs.declared.ty.Agg.{Agg}
 use Rattle.mt_types.specs.declared.value.AggState.{AggState}
 use Rattle.mt_types.specs.declared.value.Value.{Value, out-Value}
@@ -13,7 +15,7 @@ use Rattle.mt_types.specs.Order.{values_cmp}
 use Rattle.mt_table.specs.declared.projection.Aggregate.{Aggregate}
 use Rattle.mt_table.specs.declared.projection.Aggregate.TheVariants as aggregate
 use Rattle.mt_defs.specs.Rows.{Row, cell, key_of}
-use Rattle.mt_defs.specs.Folds.{state_of, join, merge_of, number_at, number_of, fold_of}
+use Rattle.mt_defs.specs.Folds.{state_of, join, merge_of, number_or_zero, number_taken, fold_of}
 use Rattle.mt_defs.specs.Projections.{is_same_key, with_key}
 use Rattle.mt_defs.specs.Sorting.{placed_by, sorted_by}
 use Rattle.mt_sort.proofs.KeyLemmas.{sorted_same, none_kept}
@@ -22,17 +24,17 @@ use Rattle.mt_query.specs.declared.query.Item.TheVariants.{Column, Count, Of}
 use Rattle.mt_query.specs.declared.query.Query.{Query}
 use Rattle.mt_query.specs.Named.{given_cond_passes, item_passes, query_passes}
 use Rattle.mt_fold.specs.Answer.{aggregates, is_grouped, keeps, kept_rows, plain_item, plain_row}
-use Rattle.mt_fold.specs.Gathered.{folds_of, has_group, group_at, GathersBy, Gathers}
+use Rattle.mt_fold.specs.Gathered.{folds_of, has_group, group_states, GathersBy, Gathers}
 use Rattle.mt_fold.specs.declared.partial.Partial.{Partial}
-use Rattle.mt_stored.specs.Placed.{as_row, is_placed}
-use Rattle.mt_stored.proofs.ListLemmas.{both_true, filter_twice, any_twice, map_passing, map_same, map_twice, seen_after, tested_after}
+use Rattle.mt_stored.specs.Placed.{as_row, is_stored_column}
+use Rattle.mt_stored.proofs.ListLemmas.{filter_twice, any_twice, map_passing, map_same, seen_after, tested_after}
 use Rattle.mt_stored.proofs.StateLemmas.{join_swap, merged_rows, some_same}
 use Rattle.mt_stored.proofs.SeenLemmas.{keeps_agrees, key_agrees, as_stored}
 use Rattle.mt_stored.proofs.MergedLemmas.{alone}
 
 -- ---- what is gathered depends only on the groups and the result rows of the kept rows
 
-carried : (q : Query) (partial : Partial) (rows other : List Row) → ((key : List Value) → group_at q (kept_rows q rows) key ≡ group_at q (kept_rows q other) key)
+carried : (q : Query) (partial : Partial) (rows other : List Row) → ((key : List Value) → group_states q (kept_rows q rows) key ≡ group_states q (kept_rows q other) key)
     → IsPermutation (map (plain_row q) (kept_rows q other)) (map (plain_row q) (kept_rows q rows)) → Gathers partial q rows → Gathers partial q other
 carried q partial rows other groups plain had = carried_by (is_grouped q) had where
   carried_by : (b : Bool) → GathersBy b partial.rows partial.groups.entries q rows → GathersBy b partial.rows partial.groups.entries q other
@@ -40,7 +42,7 @@ carried q partial rows other groups plain had = carried_by (is_grouped q) had wh
   carried_by false was = (was.0, IsPermutation-trans _ _ _ plain was.1)
 
 same_group : (q : Query) (kept other : List Row) (key : List Value) → list_any (λ r. is_same_key key (key_of q.keys r)) kept ≡ list_any (λ r. is_same_key key (key_of q.keys r)) other
-    → folds_of (aggregates q.items) (with_key q.keys key kept) ≡ folds_of (aggregates q.items) (with_key q.keys key other) → group_at q kept key ≡ group_at q other key
+    → folds_of (aggregates q.items) (with_key q.keys key kept) ≡ folds_of (aggregates q.items) (with_key q.keys key other) → group_states q kept key ≡ group_states q other key
 same_group q kept other key any folds =
     ap (λ b. cond (alone q key || b) (Some (folds_of (aggregates q.items) (with_key q.keys key kept))) None) any
     ∙ ap (λ states. cond (has_group q.keys key other) (Some states) None) folds
@@ -77,7 +79,7 @@ module _ (p : Row → Bool) where
 
 module _ (a : Aggregate) where
   abbrev own : Row → Option AggState
-  own row = Some (state_of a (number_of a row ∷ []))
+  own row = Some (state_of a (number_taken a row ∷ []))
 
   merged_placed : (x : Row) (ys : List Row) → merge_of a (map own (placed_by values_cmp x ys)) ≡ merge_of a (map own (x ∷ ys))
   merged_placed x [] = refl
@@ -109,16 +111,16 @@ order_free q partial rows other moved =
 
 module _ (test : ℕ → Bool) (q : Query) (passes : query_passes test q ≡ true) (g : Row → Row) (same : (r : Row) (column : ℕ) → test column ≡ true → cell (g r) column ≡ cell r column) where
   items_pass : list_all (item_passes test) q.items ≡ true
-  items_pass = (both_true (list_all (item_passes test) q.items) (given_cond_passes test q.cond && list_all test q.keys) passes).0
+  items_pass = (and_parts (list_all (item_passes test) q.items) (given_cond_passes test q.cond && list_all test q.keys) passes).0
 
   rest_passes : (given_cond_passes test q.cond && list_all test q.keys) ≡ true
-  rest_passes = (both_true (list_all (item_passes test) q.items) (given_cond_passes test q.cond && list_all test q.keys) passes).1
+  rest_passes = (and_parts (list_all (item_passes test) q.items) (given_cond_passes test q.cond && list_all test q.keys) passes).1
 
   keeps_same : (r : Row) → keeps q.cond (g r) ≡ keeps q.cond r
-  keeps_same r = keeps_agrees test (g r) r (same r) q.cond (both_true (given_cond_passes test q.cond) (list_all test q.keys) rest_passes).0
+  keeps_same r = keeps_agrees test (g r) r (same r) q.cond (and_parts (given_cond_passes test q.cond) (list_all test q.keys) rest_passes).0
 
   key_same : (r : Row) → key_of q.keys (g r) ≡ key_of q.keys r
-  key_same r = key_agrees test (g r) r (same r) q.keys (both_true (given_cond_passes test q.cond) (list_all test q.keys) rest_passes).1
+  key_same r = key_agrees test (g r) r (same r) q.keys (and_parts (given_cond_passes test q.cond) (list_all test q.keys) rest_passes).1
 
   -- a row is kept, and has this key
   abbrev shows : List Value → Row → Bool
@@ -135,24 +137,24 @@ module _ (test : ℕ → Bool) (q : Query) (passes : query_passes test q ≡ tru
   plain_same : (r : Row) → plain_row q (g r) ≡ plain_row q r
   plain_same r = map_passing (item_passes test) (plain_item (g r)) (plain_item r) q.items items_pass (item_same r)
 
-  number_same : (agg : Agg) (i : ℕ) → test i ≡ true → (r : Row) → number_of (aggregate.Of agg i) (g r) ≡ number_of (aggregate.Of agg i) r
-  number_same agg i e r = ap (λ v. number_at (out-Value v)) (same r i e)
+  number_same : (agg : Agg) (i : ℕ) → test i ≡ true → (r : Row) → number_taken (aggregate.Of agg i) (g r) ≡ number_taken (aggregate.Of agg i) r
+  number_same agg i e r = ap (λ v. number_or_zero (out-Value v)) (same r i e)
 
   -- the folds over the rows of a key
   folds_same : (key : List Value) (before rows : List Row) (items : List Item) → list_all (item_passes test) items ≡ true
       → folds_of (aggregates items) (filter (shows key) (before ++ map g rows)) ≡ folds_of (aggregates items) (filter (shows key) (before ++ rows))
   folds_same key before rows [] e = refl
-  folds_same key before rows (Column i ∷ items) e = folds_same key before rows items (both_true (test i) (list_all (item_passes test) items) e).1
+  folds_same key before rows (Column i ∷ items) e = folds_same key before rows items (and_parts (test i) (list_all (item_passes test) items) e).1
   folds_same key before rows (Count ∷ items) e =
       let first : fold_of (filter (shows key) (before ++ map g rows)) aggregate.Count ≡ fold_of (filter (shows key) (before ++ rows)) aggregate.Count =
-      ap (state_of aggregate.Count) (seen_after (shows key) (number_of aggregate.Count) g (shows_same key) (λ r. refl) before rows) in
+      ap (state_of aggregate.Count) (seen_after (shows key) (number_taken aggregate.Count) g (shows_same key) (λ r. refl) before rows) in
       ap (λ s. s ∷ folds_of (aggregates items) (filter (shows key) (before ++ map g rows))) first
       ∙ ap (λ states. fold_of (filter (shows key) (before ++ rows)) aggregate.Count ∷ states) (folds_same key before rows items e)
   folds_same key before rows (Of agg i ∷ items) e =
-      let parts = both_true (test i) (list_all (item_passes test) items) e in
+      let parts = and_parts (test i) (list_all (item_passes test) items) e in
       let a : Aggregate = aggregate.Of agg i in
       let first : fold_of (filter (shows key) (before ++ map g rows)) a ≡ fold_of (filter (shows key) (before ++ rows)) a =
-      ap (state_of a) (seen_after (shows key) (number_of a) g (shows_same key) (number_same agg i parts.0) before rows) in
+      ap (state_of a) (seen_after (shows key) (number_taken a) g (shows_same key) (number_same agg i parts.0) before rows) in
       ap (λ s. s ∷ folds_of (aggregates items) (filter (shows key) (before ++ map g rows))) first
       ∙ ap (λ states. fold_of (filter (shows key) (before ++ rows)) a ∷ states) (folds_same key before rows items parts.1)
 
@@ -169,14 +171,14 @@ module _ (test : ℕ → Bool) (q : Query) (passes : query_passes test q ≡ tru
       (subst (λ made. IsPermutation (map (plain_row q) (kept_rows q other)) made) (sym (seen_after (keeps q.cond) (plain_row q) g keeps_same plain_same before rows)) (IsPermutation-refl (map (plain_row q) (kept_rows q other))))
 
 -- stored rows that are some columns of the rows, in any order, seen as rows of the table, are as good as the rows
-pub columns_stand : (places : List ℕ) (width : ℕ) (q : Query) (partial : Partial) (before rows stored : List Row) → query_passes (is_placed places width) q ≡ true → IsPermutation (map (key_of places) rows) stored
+pub columns_stand : (places : List ℕ) (width : ℕ) (q : Query) (partial : Partial) (before rows stored : List Row) → query_passes (is_stored_column places width) q ≡ true → IsPermutation (map (key_of places) rows) stored
     → Gathers partial q (before ++ map (as_row places width) stored) → Gathers partial q (before ++ rows)
 columns_stand places width q partial before rows stored passes moved had =
     let seen = as_row places width in
-    let again : map seen (map (key_of places) rows) ≡ map (λ r. seen (key_of places r)) rows = map_twice seen (key_of places) rows in
+    let again : map seen (map (key_of places) rows) ≡ map (λ r. seen (key_of places r)) rows = map_map seen (key_of places) rows in
     let back : IsPermutation (map seen stored) (map (λ r. seen (key_of places r)) rows) =
     subst (IsPermutation (map seen stored)) again (IsPermutation-map seen stored (map (key_of places) rows) (IsPermutation-sym _ _ moved)) in
-    seen_alike (is_placed places width) q passes (λ r. seen (key_of places r)) (as_stored places width) partial before rows
+    seen_alike (is_stored_column places width) q passes (λ r. seen (key_of places r)) (as_stored places width) partial before rows
     (order_free q partial (before ++ map seen stored) (before ++ map (λ r. seen (key_of places r)) rows) (IsPermutation-append_right before _ _ back) had)
 
 -- ---- rows on which the condition isn't true
@@ -184,5 +186,5 @@ columns_stand places width q partial before rows stored passes moved had =
 pub none_more : (q : Query) (partial : Partial) (rows more : List Row) → list_any (keeps q.cond) more ≡ false → Gathers partial q rows → Gathers partial q (rows ++ more)
 none_more q partial rows more none =
     let kept : kept_rows q (rows ++ more) ≡ kept_rows q rows = filter-append (keeps q.cond) rows more ∙ ap (λ l. kept_rows q rows ++ l) (none_kept (keeps q.cond) more none) ∙ append-nil (kept_rows q rows) in
-    carried q partial rows (rows ++ more) (λ key. ap (λ l. group_at q l key) (sym kept))
+    carried q partial rows (rows ++ more) (λ key. ap (λ l. group_states q l key) (sym kept))
     (subst (λ l. IsPermutation (map (plain_row q) (kept_rows q (rows ++ more))) (map (plain_row q) l)) kept (IsPermutation-refl (map (plain_row q) (kept_rows q (rows ++ more)))))

@@ -1,7 +1,7 @@
 -- What a query sees of a row depends only on the columns that it names.
 use Rattle.std.proofs.Common.{◌≡◌, ℕ, ◌+◌, ◌<◌, ◌==◌, Bool, true, false, cond, ◌||◌, nat_lt, List, [], ◌∷◌, length, refl, ap, sym, ◌∙◌, subst, Option, Some, None, inl, inr, arith, add-one, ltb-true, eqb-true}
 use Rattle.std.specs.List.{list_all}
-use Rattle.std.proofs.lemmas.Bool.{cases_Bool, eq-eqb}
+use Rattle.std.proofs.lemmas.Bool.{cases_Bool, eq-eqb, and_parts}
 use Rattle.std.proofs.lemmas.List.{get_or-take}
 use Rattle.std.proofs.lemmas.List.FromFn.{get_or-map-range_with_len}
 use Rattle.mt_types.specs.declared.value.Value.TheVariants.{Null}
@@ -15,8 +15,7 @@ use Rattle.mt_query.specs.declared.cond.Cond.TheFolds.{fold-roll-Cond, ind-Cond}
 use Rattle.mt_query.specs.Named.{columns_step, cond_passes, given_cond_passes}
 use Rattle.mt_query.specs.Truth.{Truth, and3, or3, not3, truth_step, truth_of}
 use Rattle.mt_fold.specs.Answer.{is_true, keeps}
-use Rattle.mt_stored.specs.Placed.{is_placed, placed_cell, as_row}
-use Rattle.mt_stored.proofs.ListLemmas.{both_true}
+use Rattle.mt_stored.specs.Placed.{is_stored_column, placed_cell, as_row}
 
 -- ---- two rows with the same values of the columns that pass
 
@@ -40,10 +39,10 @@ module _ (test : ℕ → Bool) (r s : Row) (same : (column : ℕ) → test colum
   level_agrees (Cond-F.Starts column prefix) e = rw (same column e) refl
   level_agrees (Cond-F.Has column literal) e = rw (same column e) refl
   level_agrees (Cond-F.And a b) e =
-      let both = both_true (cond_passes test a.0) (cond_passes test b.0) e in
+      let both = and_parts (cond_passes test a.0) (cond_passes test b.0) e in
       ap (λ t. and3 t (truth_of b.0 r)) (a.1 both.0) ∙ ap (and3 (truth_of a.0 s)) (b.1 both.1)
   level_agrees (Cond-F.Or a b) e =
-      let both = both_true (cond_passes test a.0) (cond_passes test b.0) e in
+      let both = and_parts (cond_passes test a.0) (cond_passes test b.0) e in
       ap (λ t. or3 t (truth_of b.0 r)) (a.1 both.0) ∙ ap (or3 (truth_of a.0 s)) (b.1 both.1)
   level_agrees (Cond-F.Not a) e = ap not3 (a.1 e)
 
@@ -62,7 +61,7 @@ module _ (test : ℕ → Bool) (r s : Row) (same : (column : ℕ) → test colum
   pub key_agrees : (columns : List ℕ) → list_all test columns ≡ true → key_of columns r ≡ key_of columns s
   key_agrees [] e = refl
   key_agrees (column ∷ columns) e =
-      let both = both_true (test column) (list_all test columns) e in
+      let both = and_parts (test column) (list_all test columns) e in
       ap (λ v. v ∷ key_of columns r) (same column both.0) ∙ ap (λ vs. cell s column ∷ vs) (key_agrees columns both.1)
 
 -- ---- a stored row as a row of the table
@@ -95,19 +94,19 @@ pub chosen_at : (places : List ℕ) (r : Row) (i : ℕ) → is_one_of places i �
 chosen_at [] r i e = cc
 chosen_at (j ∷ js) r i e = chosen_by r i j js (j == i) refl (ap (λ b. b || is_one_of js i) (eqb-turn j i) ∙ e) (chosen_at js r i)
 
-pub as_row_at : (places : List ℕ) (width : ℕ) (s : Row) (i : ℕ) → is_placed places width i ≡ true → cell (as_row places width s) i ≡ cell s (index_in places i)
+pub as_row_at : (places : List ℕ) (width : ℕ) (s : Row) (i : ℕ) → is_stored_column places width i ≡ true → cell (as_row places width s) i ≡ cell s (index_in places i)
 as_row_at places width s i e =
-    let both = both_true (is_one_of places i) (nat_lt i width) e in
+    let both = and_parts (is_one_of places i) (nat_lt i width) e in
     get_or-map-range_with_len (placed_cell places s) 0 width i i Null (ltb-true i width both.1) (omega arith) ∙ ap (λ b. cond b (cell s (index_in places i)) Null) both.0
 
 -- a stored row shows what its key shows
-pub as_its_key : (keys : List ℕ) (width : ℕ) (s : Row) (i : ℕ) → is_placed keys width i ≡ true → cell (as_row keys width (stored_key keys s)) i ≡ cell (as_row keys width s) i
+pub as_its_key : (keys : List ℕ) (width : ℕ) (s : Row) (i : ℕ) → is_stored_column keys width i ≡ true → cell (as_row keys width (stored_key keys s)) i ≡ cell (as_row keys width s) i
 as_its_key keys width s i e =
-    let both = both_true (is_one_of keys i) (nat_lt i width) e in
+    let both = and_parts (is_one_of keys i) (nat_lt i width) e in
     as_row_at keys width (stored_key keys s) i e ∙ get_or-take (length keys) s (index_in keys i) Null (index_within keys i both.0) ∙ sym (as_row_at keys width s i e)
 
 -- a row's values, stored, show what the row shows
-pub as_stored : (places : List ℕ) (width : ℕ) (r : Row) (i : ℕ) → is_placed places width i ≡ true → cell (as_row places width (key_of places r)) i ≡ cell r i
+pub as_stored : (places : List ℕ) (width : ℕ) (r : Row) (i : ℕ) → is_stored_column places width i ≡ true → cell (as_row places width (key_of places r)) i ≡ cell r i
 as_stored places width r i e =
-    let both = both_true (is_one_of places i) (nat_lt i width) e in
+    let both = and_parts (is_one_of places i) (nat_lt i width) e in
     as_row_at places width (key_of places r) i e ∙ chosen_at places r i both.0

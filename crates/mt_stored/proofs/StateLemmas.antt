@@ -7,8 +7,8 @@ use Rattle.mt_types.specs.declared.value.AggState.{AggState}
 use Rattle.mt_types.specs.declared.value.AggState.TheVariants.{Count, Sum, Least, Greatest}
 use Rattle.mt_table.specs.declared.projection.Aggregate.{Aggregate}
 use Rattle.mt_defs.specs.Rows.{Row}
-use Rattle.mt_defs.specs.Folds.{lesser, greater, state_of, states_join, join, merge_upon, merge_of, fold_of, number_of}
-use Rattle.mt_agg.proofs.FoldLemmas.{joins}
+use Rattle.mt_defs.specs.Folds.{lesser, greater, state_of, states_join, join, merge_upon, merge_of, fold_of, number_taken}
+use Rattle.mt_agg.proofs.FoldLemmas.{joins, greater_assoc, lesser_assoc}
 use Rattle.mt_stored.proofs.SumLemmas.{Adds}
 
 sums_swap : (x y m : ℕ) → (x + (y + m) % 2 ^ 64) % 2 ^ 64 ≡ (y + (x + m) % 2 ^ 64) % 2 ^ 64
@@ -26,12 +26,6 @@ min_turn a b = omega (arith, ints, clamps)
 max_turn : (a b : ℤ) → int_max a b ≡ int_max b a
 max_turn a b = omega (arith, ints, clamps)
 
-min_assoc : (a b c : ℤ) → int_min (int_min a b) c ≡ int_min a (int_min b c)
-min_assoc a b c = omega (arith, ints, clamps)
-
-max_assoc : (a b c : ℤ) → int_max (int_max a b) c ≡ int_max a (int_max b c)
-max_assoc a b c = omega (arith, ints, clamps)
-
 lesser_turn : (a b : Option ℤ) → lesser a b ≡ lesser b a
 lesser_turn None None = refl
 lesser_turn None (Some b) = refl
@@ -43,18 +37,6 @@ greater_turn None None = refl
 greater_turn None (Some b) = refl
 greater_turn (Some a) None = refl
 greater_turn (Some a) (Some b) = ap Some (max_turn a b)
-
-lesser_assoc : (a b c : Option ℤ) → lesser (lesser a b) c ≡ lesser a (lesser b c)
-lesser_assoc None b c = refl
-lesser_assoc (Some a) None c = refl
-lesser_assoc (Some a) (Some b) None = refl
-lesser_assoc (Some a) (Some b) (Some c) = ap Some (min_assoc a b c)
-
-greater_assoc : (a b c : Option ℤ) → greater (greater a b) c ≡ greater a (greater b c)
-greater_assoc None b c = refl
-greater_assoc (Some a) None c = refl
-greater_assoc (Some a) (Some b) None = refl
-greater_assoc (Some a) (Some b) (Some c) = ap Some (max_assoc a b c)
 
 pub joins_turn : (s t : AggState) → states_join s t ≡ states_join t s
 joins_turn (Count m) (Count n) = ap (λ k. Some (Count k)) (sums_turn m n)
@@ -104,9 +86,9 @@ pub joins_add : (a : Aggregate) → Adds join (Some (state_of a []))
 joins_add a = record { swaps = join_swap; gathers = join_assoc; starts = joins a [] [] }
 
 -- the states of the rows alone together are the fold over the rows
-pub merged_rows : (a : Aggregate) (rows : List Row) → merge_of a (map (λ row. Some (state_of a (number_of a row ∷ []))) rows) ≡ Some (fold_of rows a)
+pub merged_rows : (a : Aggregate) (rows : List Row) → merge_of a (map (λ row. Some (state_of a (number_taken a row ∷ []))) rows) ≡ Some (fold_of rows a)
 merged_rows a [] = refl
-merged_rows a (row ∷ rows) = ap (join (Some (state_of a (number_of a row ∷ [])))) (merged_rows a rows) ∙ joins a (number_of a row ∷ []) (map (number_of a) rows)
+merged_rows a (row ∷ rows) = ap (join (Some (state_of a (number_taken a row ∷ [])))) (merged_rows a rows) ∙ joins a (number_taken a row ∷ []) (map (number_taken a) rows)
 
 -- ---- one after another
 

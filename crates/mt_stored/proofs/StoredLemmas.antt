@@ -8,6 +8,7 @@ use Rattle.std.proofs.Math.Seq.{take-suc-set}
 use Rattle.std.proofs.lemmas.List.{drop-set-lt, drop_all, get_or-map, map-append}
 use Rattle.std.proofs.lemmas.List.Elements.{filter-append}
 use Rattle.std.proofs.lemmas.List.Folds.{list_all-append}
+use Rattle.std.proofs.lemmas.Bool.{and_parts}
 use Rattle.mt_types.specs.declared.value.AggState.{AggState}
 use Rattle.mt_types.specs.declared.value.Value.{Value}
 use Rattle.mt_table.specs.declared.projection.Aggregate.{Aggregate}
@@ -15,35 +16,30 @@ use Rattle.mt_table.specs.Stored.{index_in}
 use Rattle.mt_defs.specs.Rows.{Row, cell, key_of}
 use Rattle.mt_defs.specs.Folds.{states_join}
 use Rattle.mt_defs.specs.Projections.{is_same_key}
-use Rattle.mt_look.specs.Seen.{row_at}
+use Rattle.mt_look.specs.Seen.{row_by_index}
 use Rattle.mt_query.specs.declared.query.Item.{Item}
 use Rattle.mt_query.specs.declared.query.Query.{Query}
 use Rattle.mt_fold.specs.Answer.{aggregates, item_aggregates, keeps}
 use Rattle.mt_fold.specs.Gathered.{Group, folds_of}
 use Rattle.mt_fold.specs.declared.partial.Partial.{Partial}
-use Rattle.mt_fold.proofs.StateLemmas.{at_place}
-use Rattle.mt_stored.specs.Placed.{as_row, is_placed}
+use Rattle.mt_fold.proofs.StateLemmas.{at_place, Left}
+use Rattle.mt_stored.specs.Placed.{as_row, is_stored_column}
 use Rattle.mt_stored.specs.Merged.{join_each, AreMerged, given_state, stored_group, stored_groups, Merges}
-use Rattle.mt_stored.proofs.ListLemmas.{both_true}
 use Rattle.mt_stored.proofs.SeenLemmas.{as_row_at}
 use Rattle.mt_stored.proofs.MergedLemmas.{merged_more}
 use Rattle.mt_stored.proofs.LawLemmas.{none_stored}
 
 -- ---- what is shown
 
-pub row_shown : (places : List ℕ) (width : ℕ) (rows : List Row) (i : ℕ) → i < length rows → row_at (map (as_row places width) rows) i ≡ as_row places width (row_at rows i)
+pub row_shown : (places : List ℕ) (width : ℕ) (rows : List Row) (i : ℕ) → i < length rows → row_by_index (map (as_row places width) rows) i ≡ as_row places width (row_by_index rows i)
 row_shown places width rows i there = get_or-map (as_row places width) rows i [] [] there
 
-pub cell_shown : (places : List ℕ) (width : ℕ) (rows : List Row) (i column : ℕ) (more : Bool) → i < length rows → (is_placed places width column && more) ≡ true
-    → cell (row_at rows i) (index_in places column) ≡ cell (row_at (map (as_row places width) rows) i) column
+pub cell_shown : (places : List ℕ) (width : ℕ) (rows : List Row) (i column : ℕ) (more : Bool) → i < length rows → (is_stored_column places width column && more) ≡ true
+    → cell (row_by_index rows i) (index_in places column) ≡ cell (row_by_index (map (as_row places width) rows) i) column
 cell_shown places width rows i column more there shown =
-    sym (ap (λ row. cell row column) (row_shown places width rows i there) ∙ as_row_at places width (row_at rows i) column (both_true (is_placed places width column) more shown).0)
+    sym (ap (λ row. cell row column) (row_shown places width rows i there) ∙ as_row_at places width (row_by_index rows i) column (and_parts (is_stored_column places width column) more shown).0)
 
 -- ---- states joined item by item
-
--- the aggregates of the items from this place on
-abbrev Left : List Item → ℕ → List Aggregate
-Left items i = aggregates (drop i items)
 
 pub joined_with : (old s t made : AggState) → made ≡ unwrap_or (states_join old s) old → s ≡ t → made ≡ unwrap_or (states_join old t) old
 joined_with old s t made is same = is ∙ ap (λ u. unwrap_or (states_join old u) old) same
@@ -82,10 +78,10 @@ module _ (given : Aggregate → AggState) (items : List Item) (states : List Agg
 pub one_passes : (p : Aggregate → Bool) (items : List Item) (i : ℕ) (d : Item) (a : Aggregate) → i < length items → list_all p (aggregates items) ≡ true → item_aggregates (get_or items i d) ≡ a ∷ [] → p a ≡ true
 one_passes p [] i d a l all is = let no : i < 0 = l in absurd (omega arith)
 one_passes p (item ∷ items) zero d a l all is =
-    let parts = both_true (list_all p (item_aggregates item)) (list_all p (aggregates items)) (sym (list_all-append p (item_aggregates item) (aggregates items)) ∙ all) in
-    (both_true (p a) true (sym (ap (list_all p) is) ∙ parts.0)).0
+    let parts = and_parts (list_all p (item_aggregates item)) (list_all p (aggregates items)) (sym (list_all-append p (item_aggregates item) (aggregates items)) ∙ all) in
+    (and_parts (p a) true (sym (ap (list_all p) is) ∙ parts.0)).0
 one_passes p (item ∷ items) (suc i) d a l all is =
-    let parts = both_true (list_all p (item_aggregates item)) (list_all p (aggregates items)) (sym (list_all-append p (item_aggregates item) (aggregates items)) ∙ all) in
+    let parts = and_parts (list_all p (item_aggregates item)) (list_all p (aggregates items)) (sym (list_all-append p (item_aggregates item) (aggregates items)) ∙ all) in
     one_passes p items i d a (omega arith) parts.1 is
 
 -- ---- one stored row more

@@ -6,7 +6,7 @@ use Rattle.mt_defs.specs.Projections.{is_same_aggregate}
 use Rattle.mt_query.specs.declared.query.Query.{Query}
 use Rattle.mt_fold.specs.Answer.{aggregates, is_grouped}
 use Rattle.mt_query.specs.Named.{given_cond_passes}
-use Rattle.mt_stored.specs.Placed.{is_placed}
+use Rattle.mt_stored.specs.Placed.{is_stored_column}
 
 -- the columns that a query tests and groups by pass, and so do the aggregates that it selects
 abbrev pub groups_pass : (column_passes : ℕ → Bool) → (aggregate_passes : Aggregate → Bool) → Query → Bool
@@ -20,4 +20,4 @@ is_aggregate_among aggs aggregate = list_any (λ a. is_same_aggregate a aggregat
 
 -- an aggregate projection of a table of so many columns has all that the query needs
 abbrev pub can_answer : (keys : List ℕ) → List Aggregate → (width : ℕ) → Query → Bool
-can_answer keys aggs width query = is_grouped query && groups_pass (is_placed keys width) (is_aggregate_among aggs) query
+can_answer keys aggs width query = is_grouped query && groups_pass (is_stored_column keys width) (is_aggregate_among aggs) query

@@ -8,8 +8,8 @@ use Rattle.mt_table.specs.Stored.{index_in}
 use Rattle.mt_defs.specs.Rows.{Row, cell}
 
 -- a table of so many columns has the column, and it is stored
-abbrev pub is_placed : (places : List ℕ) → (width column : ℕ) → Bool
-is_placed places width column = is_one_of places column && nat_lt column width
+abbrev pub is_stored_column : (places : List ℕ) → (width column : ℕ) → Bool
+is_stored_column places width column = is_one_of places column && nat_lt column width
 
 -- the value of a column in a stored row; NULL where it isn't stored
 abbrev pub placed_cell : (places : List ℕ) → Row → (column : ℕ) → Value

@@ -5,7 +5,7 @@ ghost use Rattle.std.specs.List.{list_all};
 ghost use Rattle.indexmap.specs.IndexMap.{get, IsUnique};
 ghost use Rattle.mt_types.specs.declared.value.Value.{Value};
 ghost use Rattle.mt_defs.specs.Projections.{aggregate_index, is_same_key};
-ghost use Rattle.mt_look.specs.Seen.{row_at};
+ghost use Rattle.mt_look.specs.Seen.{row_by_index};
 ghost use Rattle.mt_fold.specs.Answer.{aggregates};
 ghost use Rattle.mt_fold.specs.Gathered.{folds_of};
 ghost use Rattle.mt_stored.specs.Merged.{given_state, join_each};
@@ -38,7 +38,7 @@ pub fn join_to_group<L: Look>(
         ≡ cond (is_same_key key k)
         (Some (join_each (unwrap_or (get is_same_key groups key) (folds_of (aggregates items.now) []))
         (map (given_state projection.now.keys.now projection.now.aggs.now
-        (row_at (L.rows_of from.now) row)) (aggregates items.now))))
+        (row_by_index (L.rows_of from.now) row)) (aggregates items.now))))
         (get is_same_key groups k)) }
 {
     if let Some(states) = groups.get_mut(&key) {
@@ -64,7 +64,7 @@ fn join_row<L: Look>(
         + aggregate_index projection.now.aggs.now aggregate)) (aggregates items.now)) }
     requires there { row < length (L.rows_of from.now) }
     ensures { states.new ≡ join_each states.old (map (given_state projection.now.keys.now
-        projection.now.aggs.now (row_at (L.rows_of from.now) row)) (aggregates items.now)) }
+        projection.now.aggs.now (row_by_index (L.rows_of from.now) row)) (aggregates items.now)) }
 {
     let mut held = mem::replace(states, List::new(alloc)).into_vec();
     join_states(items, projection, from, row, held.as_mut_slice());
@@ -82,7 +82,7 @@ fn join_states<L: Look>(
         + aggregate_index projection.now.aggs.now aggregate)) (aggregates items.now)) }
     requires there { row < length (L.rows_of from.now) }
     ensures { states.new ≡ join_each states.old (map (given_state projection.now.keys.now
-        projection.now.aggs.now (row_at (L.rows_of from.now) row)) (aggregates items.now)) }
+        projection.now.aggs.now (row_by_index (L.rows_of from.now) row)) (aggregates items.now)) }
 {
     let mut place: usize = 0;
     for item in items {

@@ -3,7 +3,7 @@
 ghost use Rattle.std.specs.Prelude.{◌≡◌, ◌+◌, ◌<◌, ◌^◌, length, IsTrue};
 ghost use Rattle.mt_types.specs.declared.value.Value.{out-Value};
 ghost use Rattle.mt_defs.specs.Projections as defined;
-ghost use Rattle.mt_look.specs.Seen.{row_at, value_seen};
+ghost use Rattle.mt_look.specs.Seen.{row_by_index, value_seen};
 ghost use Rattle.mt_stored.specs.Merged as merged;
 
 use mt_agg::{Folding, aggregate_index};
@@ -31,7 +31,7 @@ impl<'a> Grouped<'a> {
             + defined.aggregate_index self.now.aggs.now aggregate)) }
         requires there { row < length (L.rows_of from.now) }
         ensures { result ≡ merged.given_state self.now.keys.now self.now.aggs.now
-            (row_at (L.rows_of from.now) row) aggregate }
+            (row_by_index (L.rows_of from.now) row) aggregate }
     {
         let column = self.keys.len() as u32 + aggregate_index(self.aggs, &aggregate) as u32;
         match state_in(from.item(column, row)) {
@@ -43,7 +43,7 @@ impl<'a> Grouped<'a> {
 
 /// The state of a value that is one.
 fn state_in(seen: Seen) -> Option<AggState>
-    ensures { result ≡ defined.state_at (out-Value (value_seen seen.entry)) }
+    ensures { result ≡ defined.state_of_value (out-Value (value_seen seen.entry)) }
 {
     match seen {
         Seen::Held(value) => match value {

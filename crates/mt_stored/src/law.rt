@@ -12,7 +12,7 @@ ghost use Rattle.mt_query.specs.Named.{query_passes};
 ghost use Rattle.mt_query.specs.declared.query.Query.{Query};
 ghost use Rattle.mt_stored.specs.Merged.{Merges};
 ghost use Rattle.mt_stored.specs.Needed.{can_answer};
-ghost use Rattle.mt_stored.specs.Placed.{as_row, is_placed};
+ghost use Rattle.mt_stored.specs.Placed.{as_row, is_stored_column};
 
 /// Stored rows that are some columns of rows, in any order, answer a query that names no other
 /// column as the rows do: what gathers them, seen as rows of the table, gathers the rows. So it is
@@ -20,7 +20,7 @@ ghost use Rattle.mt_stored.specs.Placed.{as_row, is_placed};
 /// order of its files.
 pub fn stored_columns_answer_for_rows()
     ensures { (places : List ℕ) (width : ℕ) (query : Query) (rows stored : List Row)
-        → IsTrue (query_passes (is_placed places width) query)
+        → IsTrue (query_passes (is_stored_column places width) query)
         → IsPermutation (map (key_of places) rows) stored
         → (partial : Partial) (before : List Row)
         → Gathers partial query (before ++ map (as_row places width) stored)

@@ -2,7 +2,7 @@
 
 ghost use Rattle.std.specs.Prelude.{◌&&◌, ◌<◌, ◌^◌, length, map};
 ghost use Rattle.mt_table.specs.Stored as defined;
-ghost use Rattle.mt_stored.specs.Placed.{as_row, is_placed};
+ghost use Rattle.mt_stored.specs.Placed.{as_row, is_stored_column};
 
 use mt_fold::index_in;
 use mt_look::{Look, Seen};
@@ -25,7 +25,7 @@ impl<'a, L: Look> Look for Placed<'a, L> {
     ghost rows_of = { λ placed. map (as_row placed.places.now placed.width)
         (L.rows_of placed.from.now) };
 
-    ghost shows = { λ placed column. is_placed placed.places.now placed.width column
+    ghost shows = { λ placed column. is_stored_column placed.places.now placed.width column
         && L.shows placed.from.now (defined.index_in placed.places.now column) };
 
     fn rows(&self) -> u64 {

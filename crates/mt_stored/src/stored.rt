@@ -4,12 +4,12 @@ ghost use Rattle.std.specs.Prelude.{◌&&◌, ◌+◌, ◌<◌, ◌++◌, ◌∷
 ghost use Rattle.mt_table.specs.Stored.{index_in};
 ghost use Rattle.mt_defs.specs.Projections.{aggregate_index};
 ghost use Rattle.mt_defs.specs.Rows as defined;
-ghost use Rattle.mt_look.specs.Seen.{row_at};
+ghost use Rattle.mt_look.specs.Seen.{row_by_index};
 ghost use Rattle.mt_fold.specs.Gathered.{Suits};
 ghost use Rattle.mt_fold.specs.declared.partial.Partial as answer;
 ghost use Rattle.mt_stored.specs.Merged.{Merges};
 ghost use Rattle.mt_stored.specs.Needed.{groups_pass};
-ghost use Rattle.mt_stored.specs.Placed.{is_placed};
+ghost use Rattle.mt_stored.specs.Placed.{is_stored_column};
 
 use crate::group::join_to_group;
 use crate::grouped::Grouped;
@@ -32,7 +32,7 @@ pub fn add_stored<L: Look>(
 ) -> Result<Partial, NoMemory>
     requires suits { Suits partial query.now }
     requires shown { IsTrue (groups_pass
-        (λ column. is_placed projection.now.keys.now projection.now.width column
+        (λ column. is_stored_column projection.now.keys.now projection.now.width column
         && L.shows from.now (index_in projection.now.keys.now column))
         (λ aggregate. L.shows from.now (length projection.now.keys.now
         + aggregate_index projection.now.aggs.now aggregate)) query.now) }
@@ -43,7 +43,7 @@ pub fn add_stored<L: Look>(
         query.now before stored partial
         → IfOk result (λ made. Merges projection.now.keys.now projection.now.aggs.now
         projection.now.width query.now before
-        (stored ++ row_at (L.rows_of from.now) row ∷ []) made) }
+        (stored ++ row_by_index (L.rows_of from.now) row ∷ []) made) }
 {
     let placed = Placed {
         from,

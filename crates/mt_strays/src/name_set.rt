@@ -1,7 +1,7 @@
 //! Sets of names, in which a name is found at once.
 
 ghost use Rattle.std.specs.Prelude.{◌≡◌, IfOk};
-ghost use Rattle.mt_strays.specs.NameSets.{HasNames, is_in};
+ghost use Rattle.mt_strays.specs.NameSets.{HasNames, is_in_set};
 
 use indexmap::IndexSet;
 use mt_types::{List, NoMemory};
@@ -27,7 +27,7 @@ impl<'a> NameSet<'a> {
 
     /// Whether the name is one of them.
     pub(crate) fn contains(&self, name: &[u8]) -> bool
-        ensures { result ≡ is_in self.now name.now }
+        ensures { result ≡ is_in_set self.now name.now }
     {
         self.set.contains(name)
     }

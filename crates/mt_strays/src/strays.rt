@@ -2,7 +2,7 @@
 
 ghost use Rattle.mt_shelf.specs.Files.{IsListing};
 ghost use Rattle.mt_table.specs.Kept.{is_place};
-ghost use Rattle.mt_files.specs.Listings.{names_of};
+ghost use Rattle.mt_files.specs.Listings.{entry_names};
 ghost use Rattle.mt_strays.specs.NameSets.{HasNames};
 ghost use Rattle.mt_strays.specs.Strays.{names_reading, strays_reading};
 ghost use Rattle.mt_fault.specs.Results.{Gives};
@@ -37,7 +37,7 @@ pub fn check_names(
 
 /// That each listed name is known.
 fn check_among(alloc: Global, known: &[List<u8>], listing: &[Entry]) -> Result<(), FileError>
-    ensures { Gives result (strays_reading known.now (names_of listing.now)) }
+    ensures { Gives result (strays_reading known.now (entry_names listing.now)) }
 {
     match NameSet::of(alloc, known) {
         Ok(set) => check_each(alloc, &set, listing),
@@ -48,7 +48,7 @@ fn check_among(alloc: Global, known: &[List<u8>], listing: &[Entry]) -> Result<(
 /// That each listed name is in a set.
 fn check_each(alloc: Global, set: &NameSet, listing: &[Entry]) -> Result<(), FileError>
     ensures { (known : Seq (Seq ℕ)) → HasNames set.now known
-        → Gives result (strays_reading known (names_of listing.now)) }
+        → Gives result (strays_reading known (entry_names listing.now)) }
 {
     for entry in listing {
         if !set.contains(entry.name.as_slice()) {

@@ -2,9 +2,10 @@
 use Rattle.mt_element_syntax.proofs.FormedLemmas.{Named, names_hold, Some', key_some, Formed, elements_hold, all_formed}
 use Rattle.mt_phrases.proofs.PhrasesHold.{any_one, any_in_chain, any_made, any_both, any_parens}
 use Rattle.std.proofs.Common.{◌≡◌, ℕ, Bool, true, false, List, [], ◌∷◌, ap, sym, ◌∙◌, subst, refl}
-use Rattle.std.specs.Prelude.{if◌then◌else◌, is_none, Option, Some, None, option_and_then, option_map}
+use Rattle.std.specs.Prelude.{if◌then◌else◌, is_none, Option, Some, None, option_map}
 use Rattle.std.specs.List.{list_any}
 use Rattle.mt_types.proofs.StepLemmas.{both_of}
+use Rattle.mt_types.proofs.OptionLemmas.{then_is}
 use Rattle.mt_tokens.specs.declared.sign.Sign.TheVariants.{Open, Close, Dot, Semicolon, Equal}
 use Rattle.mt_tokens.specs.Lexis.{skip_blanks}
 use Rattle.mt_tokens.specs.Words.{is_sign, name_of}
@@ -21,7 +22,7 @@ use Rattle.mt_syntax.specs.Grammar.{IsBody, IsClause, IsClauses, IsEnd, IsEngine
 use Rattle.mt_element_syntax.specs.Terminals as terminal
 use Rattle.mt_element_syntax.specs.Terminals.{word_of}
 use Rattle.mt_syntax.specs.Terminals.{value_of}
-use Rattle.mt_element_syntax.specs.Trees.{is_column}
+use Rattle.mt_element_syntax.specs.Trees.{is_column_element}
 use Rattle.mt_syntax.specs.Trees.{no_clauses, ordered_sentence, sentence_of, setting_of, with_clause, with_clauses}
 use Rattle.mt_element_syntax.specs.Formed.{has_one_given}
 use Rattle.mt_syntax.specs.Formed.{is_formed}
@@ -77,10 +78,6 @@ one_clause c d (clause.Primary names) e named some = subst KeysNamed (if_none c.
 one_clause c d (clause.Order names) e named some = subst KeysNamed (if_none c.order _ d e) (named.0, some)
 one_clause c d (clause.Settings given) e named some = subst KeysNamed (if_none c.settings _ d e) named
 
-then_is : {A B : Type 0} (f : A → Option B) (o : Option A) (y : B) → option_and_then f o ≡ Some y → (x : A) × (o ≡ Some x) × (f x ≡ Some y)
-then_is f None y e = cc
-then_is f (Some x) y e = (x, refl, e)
-
 all_clauses : (clauses : List Clause) (c d : Clauses) → with_clauses c clauses ≡ Some d → KeysNamed c → Each SomeIn clauses → KeysNamed d
 all_clauses [] c d e named each = let same : c ≡ d = cc in subst KeysNamed same named
 all_clauses (one ∷ clauses) c d e named each =
@@ -105,7 +102,7 @@ BodyFormed x = Named x.0 × (Each Formed x.1.0 × KeysNamed x.1.1)
 body_holds : Holds IsBody BodyFormed
 body_holds =
     let Rest : Phrase (List Element × Clauses) = Perhaps (key "UUID" ∷ is_text ∷ []) (IsElements & IsEngine) in
-    perhaps_holds (terminal.is_name ∷ is_sign Dot ∷ []) (IsName & Rest) BodyFormed
+    perhaps_holds (terminal.is_name_token ∷ is_sign Dot ∷ []) (IsName & Rest) BodyFormed
     (both_hold IsName Rest Named (λ x. Each Formed x.0 × KeysNamed x.1) names_hold
     (perhaps_holds (key "UUID" ∷ is_text ∷ []) (IsElements & IsEngine) (λ x. Each Formed x.0 × KeysNamed x.1)
     (both_hold IsElements IsEngine (Each Formed) KeysNamed elements_hold engine_holds)))
@@ -115,16 +112,16 @@ primary_named None given = refl
 primary_named (Some names) given = given
 
 made_formed : (x : List ℕ × (List Element × Clauses)) (text : TableText) → sentence_of x ≡ Some text → BodyFormed x → is_formed text ≡ true
-made_formed x text e formed = by_column (list_any is_column x.1.0) refl e
+made_formed x text e formed = by_column (list_any is_column_element x.1.0) refl e
   where
-    by_order : (order : Option (List (List ℕ))) → Given Some' order → list_any is_column x.1.0 ≡ true → option_map (ordered_sentence x.0 x.1.0 x.1.1) order ≡ Some text → is_formed text ≡ true
+    by_order : (order : Option (List (List ℕ))) → Given Some' order → list_any is_column_element x.1.0 ≡ true → option_map (ordered_sentence x.0 x.1.0 x.1.1) order ≡ Some text → is_formed text ≡ true
     by_order None given any e = cc
     by_order (Some order) given any e =
         let same : ordered_sentence x.0 x.1.0 x.1.1 order ≡ text = cc in
         ap is_formed (sym same)
         ∙ both_of _ _ formed.0 (both_of _ _ (all_formed x.1.0 formed.1.0) (both_of _ _ any (both_of _ _ (primary_named x.1.1.primary formed.1.1.0) given)))
 
-    by_column : (b : Bool) → list_any is_column x.1.0 ≡ b → (if b then option_map (ordered_sentence x.0 x.1.0 x.1.1) x.1.1.order else None) ≡ Some text → is_formed text ≡ true
+    by_column : (b : Bool) → list_any is_column_element x.1.0 ≡ b → (if b then option_map (ordered_sentence x.0 x.1.0 x.1.1) x.1.1.order else None) ≡ Some text → is_formed text ≡ true
     by_column true any e = by_order x.1.1.order formed.1.1.1 any e
     by_column false any e = cc
 

@@ -9,8 +9,8 @@ use Rattle.mt_tokens.specs.Lexis.{IsTokens}
 use Rattle.mt_phrases.specs.declared.error.SyntaxError.{SyntaxError}
 use Rattle.mt_phrases.specs.Phrases.{Phrase, ◌◃◌, ◌&◌, ◌◂◌, OneEach, Kept, Perhaps, second_is, Chain}
 use Rattle.mt_phrases.specs.Terminals.{is_text}
-use Rattle.mt_phrases.specs.Readers.{with_tree_if, one_each, skip, skip_if, whole}
-use Rattle.mt_phrases.specs.Answers.{Gives, GivesSentence}
+use Rattle.mt_phrases.specs.Readers.{with_tree_if, one_each, skip, skip_if, whole_tree}
+use Rattle.mt_phrases.specs.Answers.{GivesPhrase, GivesSentence}
 use Rattle.mt_phrases.proofs.PhraseLaws.{IsRead, Not, then_law, kept_law}
 use Rattle.mt_phrases.proofs.ListLaws.{Skips, one_each_sound, one_each_complete, skip_sound, skip_none, skip_all, skip_if_sound, perhaps_law, perhaps_if_law}
 use Rattle.mt_phrases.proofs.TokenTests.{Apart, keys_apart, signs_apart, key_no_sign, sign_no_key, after_begins, skips_begin}
@@ -22,7 +22,7 @@ use Rattle.mt_syntax.specs.declared.clause.Clauses.{Clauses}
 use Rattle.mt_element_syntax.specs.Grammar.{IsName, IsElement, IsElements}
 use Rattle.mt_syntax.specs.Grammar.{IsEngine, IsBody, IsEnd, IsSentence, IsTableText}
 use Rattle.mt_syntax.specs.Trees.{sentence_of}
-use Rattle.mt_element_syntax.specs.Terminals.{is_name}
+use Rattle.mt_element_syntax.specs.Terminals.{is_name_token}
 use Rattle.mt_syntax.specs.Reading.{is_clause_key, body_at, end_at, rest_at, sentence_at}
 use Rattle.mt_syntax.proofs.TokenTests.{comment_no_clause, sign_no_clause}
 use Rattle.mt_element_syntax.proofs.ElementLaws.{name_law}
@@ -51,7 +51,7 @@ second_begins test u o [] tree rest h = absurd h.1
 second_begins test u o (token ∷ tokens) tree rest h =
     subst (λ (us : List Tok). Not test us) (sym h.1.1) (definition_begins test u o h.0 tree.1 rest h.2)
 
-point_is_second : (tokens rest : List Tok) → OneEach (is_name ∷ is_sign Dot ∷ []) tokens rest → second_is (is_sign Dot) tokens ≡ true
+point_is_second : (tokens rest : List Tok) → OneEach (is_name_token ∷ is_sign Dot ∷ []) tokens rest → second_is (is_sign Dot) tokens ≡ true
 point_is_second [] rest h = absurd h
 point_is_second (token ∷ []) rest h = absurd h.1
 point_is_second (token ∷ other ∷ tokens) rest h = h.1.0
@@ -60,7 +60,7 @@ body_law : IsRead IsBody body_at EndsClauses
 unfolding body_at
 body_law =
     let definition = perhaps_law uuid_key (is_text ∷ []) (then_law elements_law engine_law) (λ tokens tree rest h s. opens uuid_key (sign_no_key Open (codes "UUID")) tokens tree rest h) in
-    perhaps_if_law (second_is (is_sign Dot)) (is_name ∷ is_sign Dot ∷ []) (then_law name_law definition) point_is_second
+    perhaps_if_law (second_is (is_sign Dot)) (is_name_token ∷ is_sign Dot ∷ []) (then_law name_law definition) point_is_second
     (λ tokens tree rest h s. second_begins (is_sign Dot) (key_no_sign (codes "UUID") Dot) (signs_apart Open Dot refl) tokens tree rest h)
 
 -- ---- the end
@@ -102,8 +102,8 @@ IsRest = Kept sentence_of IsBody ◂ IsEnd
 rest_sound : (tokens : List Tok) (tree : TableText) → rest_at tokens ≡ Some tree → IsRest tokens tree []
 unfolding rest_at
 rest_sound tokens tree e =
-    let y = then_is (λ (x : TableText × List Tok). option_and_then (whole x.0) (end_at x.1)) (with_tree_if sentence_of body_at tokens) tree e in
-    let z = then_is (whole y.0.0) (end_at y.0.1) tree y.2 in
+    let y = then_is (λ (x : TableText × List Tok). option_and_then (whole_tree x.0) (end_at x.1)) (with_tree_if sentence_of body_at tokens) tree e in
+    let z = then_is (whole_tree y.0.0) (end_at y.0.1) tree y.2 in
     let w = whole_is y.0.0 tree z.0 z.2 in
     let read = (kept_law sentence_of body_law).sound tokens y.0 y.1 in
     (y.0.1, subst (λ (t : TableText). Kept sentence_of IsBody tokens t y.0.1) w.1 read, subst (λ (us : List Tok). IsEnd y.0.1 tt us) w.0 (end_sound y.0.1 z.0 z.1))
@@ -133,7 +133,7 @@ not_is_second (token ∷ []) rest h = absurd h.1
 not_is_second (token ∷ other ∷ tokens) rest h = h.1.0
 
 -- the name of a database and a point, or none, then the table's name: NOT is no second token of them
-body_begins : (tokens middle : List Tok) (tree : List ℕ × (List Element × Clauses)) (rest : List Tok) → Skips (is_name ∷ is_sign Dot ∷ []) tokens middle → IsNamed middle tree rest → second_is not_key tokens ≡ false
+body_begins : (tokens middle : List Tok) (tree : List ℕ × (List Element × Clauses)) (rest : List Tok) → Skips (is_name_token ∷ is_sign Dot ∷ []) tokens middle → IsNamed middle tree rest → second_is not_key tokens ≡ false
 body_begins tokens middle tree rest (inl e) h =
     subst (λ (us : List Tok). second_is not_key us ≡ false) (sym e) (second_begins not_key (keys_apart (codes "UUID") (codes "NOT") refl) (sign_no_key Open (codes "NOT")) middle tree rest h)
 body_begins [] middle tree rest (inr m) h = absurd m
@@ -177,10 +177,10 @@ sentence_complete (token ∷ other ∷ tokens) tree h =
 
 -- ---- the text
 
-pub sentence_is_found : (text : List ℕ) (tokens : List Tok) (result : Result TableText SyntaxError) → IsTokens text tokens → Gives (λ (x : TableText). x) result (sentence_at tokens) → IfOk result (λ sentence. IsTableText text sentence)
+pub sentence_is_found : (text : List ℕ) (tokens : List Tok) (result : Result TableText SyntaxError) → IsTokens text tokens → GivesPhrase (λ (x : TableText). x) result (sentence_at tokens) → IfOk result (λ sentence. IsTableText text sentence)
 sentence_is_found = laws.sentence_is_found IsWhole sentence_at sentence_sound sentence_complete
 
-pub sentence_is_only : (text : List ℕ) (tokens : List Tok) (result : Result TableText SyntaxError) → ((others : List Tok) → IsTokens text others → others ≡ tokens) → Gives (λ (x : TableText). x) result (sentence_at tokens)
+pub sentence_is_only : (text : List ℕ) (tokens : List Tok) (result : Result TableText SyntaxError) → ((others : List Tok) → IsTokens text others → others ≡ tokens) → GivesPhrase (λ (x : TableText). x) result (sentence_at tokens)
     → (sentence : TableText) → IsTableText text sentence → GivesSentence result sentence
 sentence_is_only = laws.sentence_is_only IsWhole sentence_at sentence_sound sentence_complete
 

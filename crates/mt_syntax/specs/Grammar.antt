@@ -24,7 +24,7 @@ use Rattle.mt_syntax.specs.declared.tree.TableText.{TableText}
 use Rattle.mt_syntax.specs.declared.clause.Clause.{Clause}
 use Rattle.mt_syntax.specs.declared.clause.Clause.TheVariants as clause
 use Rattle.mt_syntax.specs.declared.clause.Clauses.{Clauses}
-use Rattle.mt_element_syntax.specs.Terminals.{is_name}
+use Rattle.mt_element_syntax.specs.Terminals.{is_name_token}
 use Rattle.mt_syntax.specs.Terminals.{value_of}
 use Rattle.mt_syntax.specs.Trees.{setting_of, no_clauses, with_clauses, sentence_of}
 
@@ -67,7 +67,7 @@ IsEngine =
 -- [name .] name [UUID text] ( element {, element} ) ENGINE = MergeTree [( )] {clause}
 abbrev pub IsBody : Phrase (List ℕ × (List Element × Clauses))
 IsBody =
-    Perhaps (is_name ∷ is_sign Dot ∷ []) (IsName &
+    Perhaps (is_name_token ∷ is_sign Dot ∷ []) (IsName &
     Perhaps (key "UUID" ∷ is_text ∷ []) (IsElements & IsEngine))
 
 -- [COMMENT text] [;], and no more

@@ -5,8 +5,8 @@ use Rattle.mt_tokens.specs.Tokens.{Tok}
 use Rattle.mt_tokens.specs.Words.{is_sign}
 use Rattle.mt_phrases.specs.Phrases.{first_is, second_is, singleton}
 use Rattle.mt_phrases.specs.Terminals.{key, fixed, is_text}
-use Rattle.mt_phrases.specs.Readers.{Reader, one, after, both, with_tree, with_tree_if, either, either_if, one_each, skip, skip_if, perhaps, perhaps_if, chain, to_close, in_parens, whole}
-use Rattle.mt_element_syntax.specs.Reading.{name_at, word_at, key_at, elements_at}
+use Rattle.mt_phrases.specs.Readers.{Reader, one, after, both, with_tree, with_tree_if, either, either_if, one_each, skip, skip_if, perhaps, perhaps_if, chain, to_close, in_parens, whole_tree}
+use Rattle.mt_element_syntax.specs.Reading.{name_at, word_at, key_at, element_list_at}
 use Rattle.mt_element_syntax.specs.declared.tree.Element.{Element}
 use Rattle.mt_syntax.specs.declared.tree.PartitionText.{PartitionText}
 use Rattle.mt_syntax.specs.declared.tree.PartitionText.TheVariants.{Plain, Month}
@@ -16,7 +16,7 @@ use Rattle.mt_syntax.specs.declared.clause.Clause.{Clause}
 use Rattle.mt_syntax.specs.declared.clause.Clause.TheVariants as clause
 use Rattle.mt_syntax.specs.declared.clause.Clauses.{Clauses}
 use Rattle.mt_syntax.specs.Trees.{setting_of, with_clause, no_clauses, sentence_of}
-use Rattle.mt_element_syntax.specs.Terminals.{is_name}
+use Rattle.mt_element_syntax.specs.Terminals.{is_name_token}
 use Rattle.mt_syntax.specs.Terminals.{value_of}
 
 -- ---- clauses
@@ -78,8 +78,8 @@ engine_at =
 -- the table's name, its elements and its clauses
 unfoldable pub body_at : Reader (List ℕ × (List Element × Clauses))
 body_at =
-    perhaps_if (second_is (is_sign Dot)) (is_name ∷ is_sign Dot ∷ []) (both name_at
-    (perhaps (key "UUID") (is_text ∷ []) (both elements_at engine_at)))
+    perhaps_if (second_is (is_sign Dot)) (is_name_token ∷ is_sign Dot ∷ []) (both name_at
+    (perhaps (key "UUID") (is_text ∷ []) (both element_list_at engine_at)))
 
 -- what follows [COMMENT text] [;]
 abbrev pub end_at : List Tok → Option (List Tok)
@@ -90,7 +90,7 @@ end_at tokens =
 -- the sentence behind [IF NOT EXISTS]
 unfoldable pub rest_at : List Tok → Option TableText
 rest_at tokens =
-    option_and_then (λ x. option_and_then (whole x.0) (end_at x.1)) (with_tree_if sentence_of body_at tokens)
+    option_and_then (λ x. option_and_then (whole_tree x.0) (end_at x.1)) (with_tree_if sentence_of body_at tokens)
 
 -- the whole sentence
 unfoldable pub sentence_at : List Tok → Option TableText

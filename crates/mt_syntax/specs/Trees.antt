@@ -1,7 +1,7 @@
 -- The tree of a production, made of those of its parts.
 use Rattle.std.specs.Prelude.{ℕ, List, [], ◌∷◌, Option, Some, None, is_none, unwrap_or, option_map, option_and_then, if◌then◌else◌}
 use Rattle.std.specs.List.{list_any}
-use Rattle.mt_element_syntax.specs.Trees.{is_column}
+use Rattle.mt_element_syntax.specs.Trees.{is_column_element}
 use Rattle.mt_element_syntax.specs.declared.tree.Element.{Element}
 use Rattle.mt_syntax.specs.declared.tree.SettingValue.{SettingValue}
 use Rattle.mt_syntax.specs.declared.tree.SettingText.{SettingText}
@@ -48,4 +48,4 @@ ordered_sentence name elements clauses order = record {
 -- what a name, elements and clauses say, where there are a column and ORDER BY
 abbrev pub sentence_of : List ℕ × (List Element × Clauses) → Option TableText
 sentence_of x =
-    if list_any is_column x.1.0 then option_map (ordered_sentence x.0 x.1.0 x.1.1) x.1.1.order else None
+    if list_any is_column_element x.1.0 then option_map (ordered_sentence x.0 x.1.0 x.1.1) x.1.1.order else None

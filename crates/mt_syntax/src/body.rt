@@ -6,10 +6,10 @@ ghost use Rattle.mt_tokens.specs.Tokens.{plains};
 ghost use Rattle.mt_tokens.specs.Words.{is_keyword};
 ghost use Rattle.mt_phrases.specs.Terminals.{is_text};
 ghost use Rattle.mt_phrases.specs.Readers.{both, with_tree_if, skip};
-ghost use Rattle.mt_phrases.specs.Answers.{Gives};
-ghost use Rattle.mt_element_syntax.specs.Trees.{is_column};
+ghost use Rattle.mt_phrases.specs.Answers.{GivesPhrase};
+ghost use Rattle.mt_element_syntax.specs.Trees.{is_column_element};
 ghost use Rattle.mt_syntax.specs.Trees.{sentence_of};
-ghost use Rattle.mt_element_syntax.specs.Reading.{elements_at};
+ghost use Rattle.mt_element_syntax.specs.Reading.{element_list_at};
 ghost use Rattle.mt_syntax.specs.Reading.{body_at, engine_at};
 
 use crate::clause::Clauses;
@@ -27,7 +27,7 @@ pub(crate) fn body<'a, 't>(
     alloc: Global,
     tokens: &'t [Token<'a>],
 ) -> Result<(TableText, &'t [Token<'a>]), SyntaxError>
-    ensures { Gives (λ x. (x.0, plains x.1.now)) result (with_tree_if sentence_of body_at (plains tokens.now)) }
+    ensures { GivesPhrase (λ x. (x.0, plains x.1.now)) result (with_tree_if sentence_of body_at (plains tokens.now)) }
 {
     let rest = skip_database(NameRule::Any, tokens)?;
     let (name, rest) = name(NameRule::Any, alloc, rest)?;
@@ -41,7 +41,7 @@ pub(crate) fn body<'a, 't>(
 
 /// What follows `UUID text`, where it is given.
 fn skip_uuid<'a, 't>(tokens: &'t [Token<'a>]) -> Result<&'t [Token<'a>], SyntaxError>
-    ensures { Gives (λ x. plains x.now) result
+    ensures { GivesPhrase (λ x. plains x.now) result
         (skip (is_keyword (codes "UUID")) (is_text ∷ []) (plains tokens.now)) }
 {
     match after_keyword(tokens, b"UUID") {
@@ -55,7 +55,7 @@ fn definition<'a, 't>(
     alloc: Global,
     tokens: &'t [Token<'a>],
 ) -> Result<(List<Element>, Clauses, &'t [Token<'a>]), SyntaxError>
-    ensures { Gives (λ x. ((x.0, x.1), plains x.2.now)) result (both elements_at engine_at (plains tokens.now)) }
+    ensures { GivesPhrase (λ x. ((x.0, x.1), plains x.2.now)) result (both element_list_at engine_at (plains tokens.now)) }
 {
     let (elements, rest) = elements(alloc, tokens)?;
     let (clauses, rest) = engine(alloc, rest)?;
@@ -68,7 +68,7 @@ fn engine<'a, 't>(
     alloc: Global,
     tokens: &'t [Token<'a>],
 ) -> Result<(Clauses, &'t [Token<'a>]), SyntaxError>
-    ensures { Gives (λ x. (x.0, plains x.1.now)) result (engine_at (plains tokens.now)) }
+    ensures { GivesPhrase (λ x. (x.0, plains x.1.now)) result (engine_at (plains tokens.now)) }
 {
     let rest = keyword(tokens, b"ENGINE")?;
     let rest = sign(rest, Sign::Equal)?;
@@ -107,7 +107,7 @@ fn table_text(
 
 /// Whether one of the elements is a column.
 fn has_column(elements: &[Element]) -> bool
-    ensures { result ≡ list_any is_column elements.now }
+    ensures { result ≡ list_any is_column_element elements.now }
 {
     elements
         .iter()

@@ -2,11 +2,11 @@
 
 ghost use Rattle.std.specs.Prelude.{◌≡◌, ◌∷◌, [], codes};
 ghost use Rattle.mt_tokens.specs.declared.sign.Sign.TheVariants.{Open, Close};
-ghost use Rattle.mt_tokens.specs.Tokens.{plain, plains};
+ghost use Rattle.mt_tokens.specs.Tokens.{as_read, plains};
 ghost use Rattle.mt_tokens.specs.Words.{is_keyword, is_sign};
 ghost use Rattle.mt_phrases.specs.Phrases.{first_is};
 ghost use Rattle.mt_phrases.specs.Readers.{after, with_tree, skip};
-ghost use Rattle.mt_phrases.specs.Answers.{Gives};
+ghost use Rattle.mt_phrases.specs.Answers.{GivesPhrase};
 ghost use Rattle.mt_syntax.specs.declared.clause.Clause.TheVariants as clause;
 ghost use Rattle.mt_element_syntax.specs.Reading.{key_at};
 ghost use Rattle.mt_syntax.specs.Reading.{clause_at, parens_and_clauses_at, is_clause_key, expressions_at};
@@ -24,7 +24,7 @@ pub(crate) fn read_clauses<'a, 't>(
     alloc: Global,
     tokens: &'t [Token<'a>],
 ) -> Result<(Clauses, &'t [Token<'a>]), SyntaxError>
-    ensures { Gives (λ x. (x.0, plains x.1.now)) result (parens_and_clauses_at (plains tokens.now)) }
+    ensures { GivesPhrase (λ x. (x.0, plains x.1.now)) result (parens_and_clauses_at (plains tokens.now)) }
 {
     let mut clauses = Clauses::none();
     let mut rest = skip_parens(tokens)?;
@@ -41,7 +41,7 @@ pub(crate) fn read_clauses<'a, 't>(
 
 /// What follows `()`, where it is given.
 fn skip_parens<'a, 't>(tokens: &'t [Token<'a>]) -> Result<&'t [Token<'a>], SyntaxError>
-    ensures { Gives (λ x. plains x.now) result
+    ensures { GivesPhrase (λ x. plains x.now) result
         (skip (is_sign Open) (is_sign Close ∷ []) (plains tokens.now)) }
 {
     match after_sign(tokens, Sign::Open) {
@@ -62,7 +62,7 @@ fn begins_with_clause(tokens: &[Token<'_>]) -> bool
 
 /// Whether a clause begins with this token.
 fn is_clause_key(token: Token<'_>) -> bool
-    ensures { result ≡ is_clause_key (plain token.entry) }
+    ensures { result ≡ is_clause_key (as_read token.entry) }
 {
     is_keyword(token, b"PARTITION")
         || is_keyword(token, b"PRIMARY")
@@ -76,7 +76,7 @@ fn read_clause<'a, 't>(
     alloc: Global,
     tokens: &'t [Token<'a>],
 ) -> Result<(Clause, &'t [Token<'a>]), SyntaxError>
-    ensures { Gives (λ x. (x.0, plains x.1.now)) result (clause_at (plains tokens.now)) }
+    ensures { GivesPhrase (λ x. (x.0, plains x.1.now)) result (clause_at (plains tokens.now)) }
 {
     if let Some(after) = after_keyword(tokens, b"PARTITION") {
         return partition_by(alloc, after);
@@ -97,7 +97,7 @@ fn partition_by<'a, 't>(
     alloc: Global,
     tokens: &'t [Token<'a>],
 ) -> Result<(Clause, &'t [Token<'a>]), SyntaxError>
-    ensures { Gives (λ x. (x.0, plains x.1.now)) result (after (is_keyword (codes "BY")) (with_tree clause.Partition expressions_at) (plains tokens.now)) }
+    ensures { GivesPhrase (λ x. (x.0, plains x.1.now)) result (after (is_keyword (codes "BY")) (with_tree clause.Partition expressions_at) (plains tokens.now)) }
 {
     let rest = keyword(tokens, b"BY")?;
     let (expressions, rest) = expressions(alloc, rest)?;
@@ -109,7 +109,7 @@ fn primary_key<'a, 't>(
     alloc: Global,
     tokens: &'t [Token<'a>],
 ) -> Result<(Clause, &'t [Token<'a>]), SyntaxError>
-    ensures { Gives (λ x. (x.0, plains x.1.now)) result (after (is_keyword (codes "KEY")) (with_tree clause.Primary key_at) (plains tokens.now)) }
+    ensures { GivesPhrase (λ x. (x.0, plains x.1.now)) result (after (is_keyword (codes "KEY")) (with_tree clause.Primary key_at) (plains tokens.now)) }
 {
     let rest = keyword(tokens, b"KEY")?;
     let (names, rest) = key(alloc, rest)?;
@@ -121,7 +121,7 @@ fn order_by<'a, 't>(
     alloc: Global,
     tokens: &'t [Token<'a>],
 ) -> Result<(Clause, &'t [Token<'a>]), SyntaxError>
-    ensures { Gives (λ x. (x.0, plains x.1.now)) result (after (is_keyword (codes "BY")) (with_tree clause.Order key_at) (plains tokens.now)) }
+    ensures { GivesPhrase (λ x. (x.0, plains x.1.now)) result (after (is_keyword (codes "BY")) (with_tree clause.Order key_at) (plains tokens.now)) }
 {
     let rest = keyword(tokens, b"BY")?;
     let (order, rest) = key(alloc, rest)?;

@@ -2,7 +2,7 @@
 
 ghost use Rattle.mt_tokens.specs.Tokens.{plains};
 ghost use Rattle.mt_phrases.specs.Readers.{chain};
-ghost use Rattle.mt_phrases.specs.Answers.{Gives};
+ghost use Rattle.mt_phrases.specs.Answers.{GivesPhrase};
 ghost use Rattle.mt_syntax.specs.Reading.{expression_at, expressions_at};
 
 use crate::tree::PartitionText;
@@ -16,7 +16,7 @@ pub(crate) fn expressions<'a, 't>(
     alloc: Global,
     tokens: &'t [Token<'a>],
 ) -> Result<(List<PartitionText>, &'t [Token<'a>]), SyntaxError>
-    ensures { Gives (λ x. (x.0, plains x.1.now)) result (expressions_at (plains tokens.now)) }
+    ensures { GivesPhrase (λ x. (x.0, plains x.1.now)) result (expressions_at (plains tokens.now)) }
 {
     match after_sign(tokens, Sign::Open) {
         Some(inner) => {
@@ -36,7 +36,7 @@ fn expression_list<'a, 't>(
     alloc: Global,
     tokens: &'t [Token<'a>],
 ) -> Result<(List<PartitionText>, &'t [Token<'a>]), SyntaxError>
-    ensures { Gives (λ x. (x.0, plains x.1.now)) result (chain expression_at (plains tokens.now)) }
+    ensures { GivesPhrase (λ x. (x.0, plains x.1.now)) result (chain expression_at (plains tokens.now)) }
 {
     let (first, mut rest) = expression(alloc, tokens)?;
     let mut expressions = List::new(alloc);
@@ -58,7 +58,7 @@ fn expression<'a, 't>(
     alloc: Global,
     tokens: &'t [Token<'a>],
 ) -> Result<(PartitionText, &'t [Token<'a>]), SyntaxError>
-    ensures { Gives (λ x. (x.0, plains x.1.now)) result (expression_at (plains tokens.now)) }
+    ensures { GivesPhrase (λ x. (x.0, plains x.1.now)) result (expression_at (plains tokens.now)) }
 {
     if second_is_sign(tokens, Sign::Open) {
         let rest = fixed_word(tokens, b"toYYYYMM")?;

@@ -5,7 +5,7 @@ ghost use Rattle.mt_tokens.specs.Tokens.{plains};
 ghost use Rattle.mt_tokens.specs.Words.{is_keyword};
 ghost use Rattle.mt_phrases.specs.Phrases.{second_is};
 ghost use Rattle.mt_phrases.specs.Readers.{skip_if};
-ghost use Rattle.mt_phrases.specs.Answers.{Gives};
+ghost use Rattle.mt_phrases.specs.Answers.{GivesPhrase};
 ghost use Rattle.mt_syntax.specs.Reading.{rest_at, sentence_at};
 
 use crate::body::body;
@@ -18,7 +18,7 @@ use std::alloc::Global;
 /// The sentence that the tokens are.
 #[tactic(auto, unfolding(crate::specs::Reading::sentence_at))]
 pub(crate) fn sentence(alloc: Global, tokens: &[Token<'_>]) -> Result<TableText, SyntaxError>
-    ensures { Gives (λ x. x) result (sentence_at (plains tokens.now)) }
+    ensures { GivesPhrase (λ x. x) result (sentence_at (plains tokens.now)) }
 {
     let rest = keyword(tokens, b"CREATE")?;
     let rest = keyword(rest, b"TABLE")?;
@@ -28,7 +28,7 @@ pub(crate) fn sentence(alloc: Global, tokens: &[Token<'_>]) -> Result<TableText,
 
 /// What follows IF NOT EXISTS, where it is given. A table may have the name `if`.
 fn skip_exists<'a, 't>(tokens: &'t [Token<'a>]) -> Result<&'t [Token<'a>], SyntaxError>
-    ensures { Gives (λ x. plains x.now) result (skip_if (second_is (is_keyword (codes "NOT")))
+    ensures { GivesPhrase (λ x. plains x.now) result (skip_if (second_is (is_keyword (codes "NOT")))
         (is_keyword (codes "IF") ∷ is_keyword (codes "NOT") ∷ is_keyword (codes "EXISTS") ∷ [])
         (plains tokens.now)) }
 {
@@ -43,7 +43,7 @@ fn skip_exists<'a, 't>(tokens: &'t [Token<'a>]) -> Result<&'t [Token<'a>], Synta
 /// The sentence from the table's name on.
 #[tactic(auto, unfolding(crate::specs::Reading::rest_at))]
 fn named_table(alloc: Global, tokens: &[Token<'_>]) -> Result<TableText, SyntaxError>
-    ensures { Gives (λ x. x) result (rest_at (plains tokens.now)) }
+    ensures { GivesPhrase (λ x. x) result (rest_at (plains tokens.now)) }
 {
     let (table, rest) = body(alloc, tokens)?;
     let rest = skip_comment(rest)?;

@@ -2,7 +2,7 @@
 
 ghost use Rattle.mt_tokens.specs.Tokens.{plains};
 ghost use Rattle.mt_phrases.specs.Readers.{chain, one};
-ghost use Rattle.mt_phrases.specs.Answers.{Gives};
+ghost use Rattle.mt_phrases.specs.Answers.{GivesPhrase};
 ghost use Rattle.mt_syntax.specs.Terminals.{value_of};
 ghost use Rattle.mt_syntax.specs.Reading.{setting_at};
 
@@ -18,7 +18,7 @@ pub(crate) fn settings<'a, 't>(
     alloc: Global,
     tokens: &'t [Token<'a>],
 ) -> Result<(List<SettingText>, &'t [Token<'a>]), SyntaxError>
-    ensures { Gives (λ x. (x.0, plains x.1.now)) result (chain setting_at (plains tokens.now)) }
+    ensures { GivesPhrase (λ x. (x.0, plains x.1.now)) result (chain setting_at (plains tokens.now)) }
 {
     let (first, mut rest) = setting(alloc, tokens)?;
     let mut settings = List::new(alloc);
@@ -39,7 +39,7 @@ fn setting<'a, 't>(
     alloc: Global,
     tokens: &'t [Token<'a>],
 ) -> Result<(SettingText, &'t [Token<'a>]), SyntaxError>
-    ensures { Gives (λ x. (x.0, plains x.1.now)) result (setting_at (plains tokens.now)) }
+    ensures { GivesPhrase (λ x. (x.0, plains x.1.now)) result (setting_at (plains tokens.now)) }
 {
     let (name, rest) = word(alloc, tokens)?;
     let rest = sign(rest, Sign::Equal)?;
@@ -49,7 +49,7 @@ fn setting<'a, 't>(
 
 /// The value of a setting.
 fn value<'a, 't>(tokens: &'t [Token<'a>]) -> Result<(SettingValue, &'t [Token<'a>]), SyntaxError>
-    ensures { Gives (λ x. (x.0, plains x.1.now)) result (one value_of (plains tokens.now)) }
+    ensures { GivesPhrase (λ x. (x.0, plains x.1.now)) result (one value_of (plains tokens.now)) }
 {
     match split_first(tokens) {
         Some((Token::Digits(digits), rest)) => match number_of(digits) {

@@ -3,3 +3,5 @@ pub mod KeptLemmas
 pub mod StoredLemmas
 pub mod FormLemmas
 pub mod NumbersKept
+pub mod PointwiseLemmas
+pub mod WidthLemmas

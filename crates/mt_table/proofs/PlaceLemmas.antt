@@ -5,7 +5,7 @@ use Rattle.std.specs.List.{range_with_len}
 more_is_suc : (n : ℕ) → n + 1 ≡ suc n
 more_is_suc n = omega arith
 
-from_more : (a n : ℕ) → range_with_len a (n + 1) ≡ range_with_len a n ++ (a + n) ∷ []
+pub from_more : (a n : ℕ) → range_with_len a (n + 1) ≡ range_with_len a n ++ (a + n) ∷ []
 from_more a zero = let same : a ≡ a + 0 = omega arith in ap (λ x. x ∷ []) same
 from_more a (suc n) =
     let same : a + 1 + n ≡ a + suc n = omega arith in

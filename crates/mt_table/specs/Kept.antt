@@ -126,14 +126,14 @@ max_place (Of Max place) = Some place
 max_place _ = None
 
 -- a count of rows
-abbrev pub is_count : Aggregate → Bool
-is_count Count = true
-is_count _ = false
+abbrev pub is_count_aggregate : Aggregate → Bool
+is_count_aggregate Count = true
+is_count_aggregate _ = false
 
 -- an aggregate stands once
 abbrev pub aggregates_differ : List Aggregate → Bool
 aggregates_differ aggregates =
-    nat_le (count_by is_count aggregates) 1
+    nat_le (count_by is_count_aggregate aggregates) 1
     && (places_differ (filter_map sum_place aggregates)
     && (places_differ (filter_map min_place aggregates) && places_differ (filter_map max_place aggregates)))
 
@@ -156,15 +156,15 @@ abbrev pub keeps_projection : List Column → Projection → Bool
 keeps_projection columns (Normal name selected sort) = is_name name && keeps_normal columns selected sort
 keeps_projection columns (Grouped name keys aggregates) = is_name name && keeps_grouped columns keys aggregates
 
-abbrev pub name_of : Projection → List ℕ
-name_of (Normal name selected sort) = name
-name_of (Grouped name keys aggregates) = name
+abbrev pub name_of_projection : Projection → List ℕ
+name_of_projection (Normal name selected sort) = name
+name_of_projection (Grouped name keys aggregates) = name
 
 -- at most 8 projections, of different names
 abbrev pub keeps_projections : List Column → List Projection → Bool
 keeps_projections columns projections =
     nat_le (length projections) MAX_PROJECTIONS
-    && (list_all (keeps_projection columns) projections && names_differ (map name_of projections))
+    && (list_all (keeps_projection columns) projections && names_differ (map name_of_projection projections))
 
 -- ---- settings
 

@@ -8,11 +8,8 @@ use Rattle.std.proofs.lemmas.List.{map-append, drop_all, drop_more, take_more, t
 use Rattle.std.proofs.lemmas.List.Folds.{list_any-append}
 use Rattle.std.proofs.lemmas.List.Sums.{prefix_len-le-length}
 use Rattle.std.proofs.lemmas.Slice.Eq.{bytes_eq-Decides}
+use Rattle.mt_facts.proofs.Truth.{and_true}
 use Rattle.mt_table.specs.Names.{is_among, names_differ}
-
-pub any_map : {A B : Type 0} (test : B → Bool) (f : A → B) (xs : List A) → list_any test (map f xs) ≡ list_any (λ x. test (f x)) xs
-any_map test f [] = refl
-any_map test f (x ∷ xs) = ap (λ b. test (f x) || b) (any_map test f xs)
 
 pub len_map : {A B : Type 0} (test : B → Bool) (f : A → B) (xs : List A) → prefix_len test (map f xs) ≡ prefix_len (λ x. test (f x)) xs
 len_map test f [] = refl
@@ -93,10 +90,6 @@ after_is seen (x ∷ xs) =
 none_of_none : (xs : List (List ℕ)) → none_among [] xs ≡ true
 none_of_none [] = refl
 none_of_none (x ∷ xs) = none_of_none xs
-
-and_true : (b : Bool) → (b && true) ≡ b
-and_true true = refl
-and_true false = refl
 
 -- all names differ where none was seen before
 pub differ_from_none : (names : List (List ℕ)) → differ_after [] names ≡ names_differ names

@@ -28,14 +28,14 @@ expression_of names (part.Plain name) = Plain (place_in names name)
 expression_of names (part.Month name) = Month (place_in names name)
 
 -- what an index keeps
-abbrev pub kind_of : IndexKind → SkipKind
-kind_of Minmax = kept.Minmax
-kind_of (Set rows) = kept.Set rows
+abbrev pub skip_kind_of : IndexKind → SkipKind
+skip_kind_of Minmax = kept.Minmax
+skip_kind_of (Set rows) = kept.Set rows
 
 -- the index of an element, if it is one
 abbrev pub skip_of : List (List ℕ) → Element → Option Skip
 skip_of names (element.Index name column kind granularity) =
-    Some (record { name = name; column = place_in names column; kind = kind_of kind; granularity = granularity })
+    Some (record { name = name; column = place_in names column; kind = skip_kind_of kind; granularity = granularity })
 skip_of names _ = None
 
 -- the aggregate of an item, if it is one

@@ -19,23 +19,23 @@ column_name (element.Column name ty codecs) = Some name
 column_name _ = None
 
 -- the name of an index
-abbrev pub index_name : Element → Option (List ℕ)
-index_name (element.Index name column kind granularity) = Some name
-index_name _ = None
+abbrev pub index_element_name : Element → Option (List ℕ)
+index_element_name (element.Index name column kind granularity) = Some name
+index_element_name _ = None
 
 -- the name of a projection
-abbrev pub projection_name : Element → Option (List ℕ)
-projection_name (element.Projection name items group order) = Some name
-projection_name _ = None
+abbrev pub projection_element_name : Element → Option (List ℕ)
+projection_element_name (element.Projection name items group order) = Some name
+projection_element_name _ = None
 
-abbrev pub column_names : List Element → List (List ℕ)
-column_names = filter_map column_name
+abbrev pub column_element_names : List Element → List (List ℕ)
+column_element_names = filter_map column_name
 
 abbrev pub index_names : List Element → List (List ℕ)
-index_names = filter_map index_name
+index_names = filter_map index_element_name
 
-abbrev pub projection_names : List Element → List (List ℕ)
-projection_names = filter_map projection_name
+abbrev pub projection_element_names : List Element → List (List ℕ)
+projection_element_names = filter_map projection_element_name
 
 -- ---- the partition key
 
@@ -72,14 +72,14 @@ max_column (selection.Of Max name) = Some name
 max_column _ = None
 
 -- an item that counts rows
-abbrev pub is_count : Selection → Bool
-is_count selection.Count = true
-is_count _ = false
+abbrev pub is_count_selection : Selection → Bool
+is_count_selection selection.Count = true
+is_count_selection _ = false
 
 -- an aggregate
-abbrev pub is_aggregate : Selection → Bool
-is_aggregate (selection.Column name) = false
-is_aggregate _ = true
+abbrev pub is_aggregate_selection : Selection → Bool
+is_aggregate_selection (selection.Column name) = false
+is_aggregate_selection _ = true
 
 -- the names of a list that may be left out
 abbrev pub names_or_none : Option (List (List ℕ)) → List (List ℕ)

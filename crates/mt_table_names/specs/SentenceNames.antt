@@ -7,13 +7,13 @@ use Rattle.mt_syntax.specs.declared.tree.PartitionText.{PartitionText}
 use Rattle.mt_table_names.specs.declared.sentence.ElementNames.{ElementNames}
 use Rattle.mt_table_names.specs.declared.sentence.ItemNames.{ItemNames}
 use Rattle.mt_table_names.specs.declared.sentence.PartitionNames.{PartitionNames}
-use Rattle.mt_table_names.specs.Sentence.{column_names, index_names, item_column, max_column, min_column, month_name, plain_name, projection_names, sum_column}
+use Rattle.mt_table_names.specs.Sentence.{column_element_names, index_names, item_column, max_column, min_column, month_name, plain_name, projection_element_names, sum_column}
 
 -- the names are those of the elements
 pub record AreOfElements (names : ElementNames) (elements : List Element) : Type 0 where
-  pub columns : names.columns ≡ column_names elements
+  pub columns : names.columns ≡ column_element_names elements
   pub indexes : names.indexes ≡ index_names elements
-  pub projections : names.projections ≡ projection_names elements
+  pub projections : names.projections ≡ projection_element_names elements
 
 -- the names are those of the expressions
 pub record AreOfPartition (names : PartitionNames) (partition : List PartitionText) : Type 0 where

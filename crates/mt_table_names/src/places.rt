@@ -27,7 +27,7 @@ fn append_found<T: Drop>(list: &mut List<T>, found: Option<T>) -> Result<(), NoM
 }
 
 fn skip_kind(kind: IndexKind) -> SkipKind
-    ensures { result ≡ defined.kind_of kind }
+    ensures { result ≡ defined.skip_kind_of kind }
 {
     match kind {
         IndexKind::Minmax => SkipKind::Minmax,

@@ -15,8 +15,8 @@ use Rattle.mt_element_syntax.specs.declared.tree.Element.TheVariants.{Column as 
 use Rattle.mt_element_syntax.specs.declared.tree.TypeText.{TypeText}
 use Rattle.mt_table.specs.ColumnTypes.{column_named}
 use Rattle.mt_table.specs.Kept.{names_of}
-use Rattle.mt_table_names.specs.Sentence.{column_names, place_in}
-use Rattle.mt_table_rules.specs.Columns.{columns_of, with_column}
+use Rattle.mt_table_names.specs.Sentence.{column_element_names, place_in}
+use Rattle.mt_table_rules.specs.Columns.{columns_of, with_listed_column}
 use Rattle.mt_table_rules.specs.TypeTexts.{column_type_of}
 use Rattle.mt_table.specs.declared.column.Column.{Column}
 
@@ -35,11 +35,11 @@ at_element elements front i element d h is = ap (λ left. with_front front (colu
 pub no_type : (elements : List Element) (front : List Column) (i : ℕ) (element d : Element) (name : List ℕ) (text : TypeText) (codecs : Option (List CodecText)) → i < length elements → element ≡ get_or elements i d
     → element ≡ Column' name text codecs → None ≡ column_type_of text → with_front front (columns_of (drop i elements)) ≡ columns_of elements → None ≡ columns_of elements
 no_type elements front i element d name text codecs h is column none read =
-    sym (ap (λ ty. with_front front (with_column name ty (columns_of (drop (i + 1) elements)))) (sym none))
+    sym (ap (λ ty. with_front front (with_listed_column name ty (columns_of (drop (i + 1) elements)))) (sym none))
     ∙ sym (ap (λ e. with_front front (columns_of (e ∷ drop (i + 1) elements))) column)
     ∙ sym (at_element elements front i element d h is) ∙ read
 
-one_onto : (front : List Column) (name : List ℕ) (ty : Ty) (rest : Option (List Column)) → with_front front (with_column name (Some ty) rest) ≡ with_front (front ++ record { name = name; ty = ty } ∷ []) rest
+one_onto : (front : List Column) (name : List ℕ) (ty : Ty) (rest : Option (List Column)) → with_front front (with_listed_column name (Some ty) rest) ≡ with_front (front ++ record { name = name; ty = ty } ∷ []) rest
 one_onto front name ty None = refl
 one_onto front name ty (Some columns) = ap Some (sym (append_assoc front (record { name = name; ty = ty } ∷ []) columns))
 
@@ -51,7 +51,7 @@ one_column elements front new i element d name copied text codecs ty h is column
     let rest : Option (List Column) = columns_of (drop (i + 1) elements) in
     ap (λ columns. with_front columns rest) (more ∙ ap (λ n. front ++ record { name = n; ty = ty } ∷ []) same)
     ∙ sym (one_onto front name ty rest)
-    ∙ ap (λ found. with_front front (with_column name found rest)) some
+    ∙ ap (λ found. with_front front (with_listed_column name found rest)) some
     ∙ sym (ap (λ e. with_front front (columns_of (e ∷ drop (i + 1) elements))) column)
     ∙ sym (at_element elements front i element d h is) ∙ read
 
@@ -97,11 +97,11 @@ got xs i (Some x) g = ap Some g.1 ∙ sym (slice_get-get_or xs i x.now (ltb-true
 -- ---- their names
 
 -- the columns that were read have the names of the columns
-pub read_names : (elements : List Element) (columns : List Column) → Some columns ≡ columns_of elements → column_names elements ≡ names_of columns
+pub read_names : (elements : List Element) (columns : List Column) → Some columns ≡ columns_of elements → column_element_names elements ≡ names_of columns
 read_names [] columns read = let none : columns ≡ [] = cc in sym (ap names_of none)
 read_names (Column' name text codecs ∷ elements) columns read = by_type (column_type_of text) (columns_of elements) refl read (read_names elements)
   where
-    by_type : (ty : Option Ty) (rest : Option (List Column)) → columns_of elements ≡ rest → Some columns ≡ with_column name ty rest → ((others : List Column) → Some others ≡ columns_of elements → column_names elements ≡ names_of others) → (name ∷ column_names elements) ≡ names_of columns
+    by_type : (ty : Option Ty) (rest : Option (List Column)) → columns_of elements ≡ rest → Some columns ≡ with_listed_column name ty rest → ((others : List Column) → Some others ≡ columns_of elements → column_element_names elements ≡ names_of others) → (name ∷ column_element_names elements) ≡ names_of columns
     by_type None rest is e later = cc
     by_type (Some ty) None is e later = cc
     by_type (Some ty) (Some others) is e later =

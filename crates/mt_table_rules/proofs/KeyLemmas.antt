@@ -1,13 +1,10 @@
 -- Lists that begin others.
-use Rattle.std.proofs.Common.{◌≡◌, ℕ, ◌+◌, ◌<◌, ◌≤◌, arith, Bool, true, false, List, [], ◌∷◌, length, refl, ap, sym, ◌∙◌, get_or, drop}
+use Rattle.std.proofs.Common.{◌≡◌, ℕ, ◌+◌, ◌<◌, ◌≤◌, arith, true, false, List, [], ◌∷◌, length, refl, ap, sym, ◌∙◌, get_or, drop}
 use Rattle.std.specs.Prelude.{◌&&◌}
 use Rattle.std.specs.Str.{bytes_eq}
 use Rattle.std.proofs.lemmas.List.{drop_all, drop_more}
+use Rattle.mt_facts.proofs.Truth.{and_false}
 use Rattle.mt_table.specs.Names.{begins}
-
-and_false : (b : Bool) → (b && false) ≡ false
-and_false true = refl
-and_false false = refl
 
 -- a longer list begins no shorter one
 pub too_long : (first names : List (List ℕ)) → length names < length first → false ≡ begins first names

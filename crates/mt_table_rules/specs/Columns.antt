@@ -12,8 +12,8 @@ abbrev pub ◌>>=◌ : {A B : Type 0} → Option A → (A → Option B) → Opti
 o >>= f = option_and_then f o
 
 -- one column more, if its type and the others are there
-abbrev pub with_column : List ℕ → Option Ty → Option (List Column) → Option (List Column)
-with_column name ty columns = do
+abbrev pub with_listed_column : List ℕ → Option Ty → Option (List Column) → Option (List Column)
+with_listed_column name ty columns = do
   ty ← ty
   columns ← columns
   Some (record { name = name; ty = ty } ∷ columns)
@@ -21,6 +21,6 @@ with_column name ty columns = do
 -- the columns, if each type is one of a column
 abbrev pub columns_of : List Element → Option (List Column)
 columns_of [] = Some []
-columns_of (element.Column name ty codecs ∷ elements) = with_column name (column_type_of ty) (columns_of elements)
+columns_of (element.Column name ty codecs ∷ elements) = with_listed_column name (column_type_of ty) (columns_of elements)
 columns_of (element.Index name column kind granularity ∷ elements) = columns_of elements
 columns_of (element.Projection name items group order ∷ elements) = columns_of elements

@@ -18,7 +18,7 @@ use Rattle.mt_table.specs.declared.limits.TheConstants.{MAX_COLUMNS, MAX_GRANULA
 use Rattle.mt_table.specs.ColumnTypes.{is_date_type, is_key_type, named_has}
 use Rattle.mt_table.specs.Names.{begins, names_differ}
 use Rattle.mt_table_rules.specs.Projections.{is_key, is_projection}
-use Rattle.mt_table_names.specs.Sentence.{column_names, index_names, is_aggregate, month_name, names_or_none, plain_name, projection_names}
+use Rattle.mt_table_names.specs.Sentence.{column_element_names, index_names, is_aggregate_selection, month_name, names_or_none, plain_name, projection_element_names}
 
 -- ---- BadKey
 
@@ -85,18 +85,18 @@ is_short names = nat_le (length names) MAX_KEY
 -- at most 16 aggregates
 abbrev pub has_few_aggregates : Selected → Bool
 has_few_aggregates All = true
-has_few_aggregates (Items items) = nat_le (count_by is_aggregate items) MAX_KEY
+has_few_aggregates (Items items) = nat_le (count_by is_aggregate_selection items) MAX_KEY
 
 -- a projection has short keys and few aggregates
-abbrev pub is_small : Element → Bool
-is_small (element.Projection name items group order) =
+abbrev pub is_small_projection : Element → Bool
+is_small_projection (element.Projection name items group order) =
     has_few_aggregates items && (is_short (names_or_none group) && is_short (names_or_none order))
-is_small _ = true
+is_small_projection _ = true
 
 -- at most 256 columns, 16 indexes, 8 projections, 4 partition expressions, and so many names in keys
 abbrev pub are_few : TableText → Bool
 are_few text =
-    nat_le (length (column_names text.elements)) MAX_COLUMNS
+    nat_le (length (column_element_names text.elements)) MAX_COLUMNS
     && (nat_le (length (index_names text.elements)) MAX_SKIPS
-    && (nat_le (length (projection_names text.elements)) MAX_PROJECTIONS
-    && (list_all is_small text.elements && (is_short text.order && nat_le (length text.partition) MAX_PARTITION))))
+    && (nat_le (length (projection_element_names text.elements)) MAX_PROJECTIONS
+    && (list_all is_small_projection text.elements && (is_short text.order && nat_le (length text.partition) MAX_PARTITION))))

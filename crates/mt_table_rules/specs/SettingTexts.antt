@@ -18,14 +18,14 @@ abbrev pub values_named : List ℕ → List SettingText → List SettingValue
 values_named name = filter_map (value_if_named name)
 
 -- a number from one to another
-abbrev pub number_in : (least most : ℕ) → SettingValue → Option ℕ
-number_in least most (Number n) = if nat_le least n && nat_le n most then Some n else None
-number_in least most _ = None
+abbrev pub number_in_range : (least most : ℕ) → SettingValue → Option ℕ
+number_in_range least most (Number n) = if nat_le least n && nat_le n most then Some n else None
+number_in_range least most _ = None
 
 -- the one value, if it is a number from one to another, or the default where there is none
 abbrev pub one_in : (least most default : ℕ) → List SettingValue → Option ℕ
 one_in least most default [] = Some default
-one_in least most default (value ∷ []) = number_in least most value
+one_in least most default (value ∷ []) = number_in_range least most value
 one_in least most default _ = None
 
 -- a setting from one number to another, with a default where it isn't given

@@ -36,7 +36,7 @@ fn has_few_aggregates(items: &Selected) -> bool
 
 /// Whether an element has short keys and few aggregates, if it is a projection.
 fn is_small(element: &Element) -> bool
-    ensures { result ≡ defined.is_small element.now }
+    ensures { result ≡ defined.is_small_projection element.now }
 {
     match element {
         Element::Projection {
@@ -51,7 +51,7 @@ fn is_small(element: &Element) -> bool
 
 /// Whether all projections have short keys and few aggregates.
 fn are_small(elements: &[Element]) -> bool
-    ensures { result ≡ list_all defined.is_small elements.now }
+    ensures { result ≡ list_all defined.is_small_projection elements.now }
 {
     elements.iter().all(is_small)
 }

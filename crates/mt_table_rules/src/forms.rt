@@ -15,32 +15,32 @@ use mt_types::{Agg, List, NoMemory};
 use std::alloc::Global;
 
 fn is_aggregate(item: &Selection) -> bool
-    ensures { result ≡ sentence.is_aggregate item.now }
+    ensures { result ≡ sentence.is_aggregate_selection item.now }
 {
     !matches!(item, Selection::Column(_))
 }
 
 fn is_count(item: &Selection) -> bool
-    ensures { result ≡ sentence.is_count item.now }
+    ensures { result ≡ sentence.is_count_selection item.now }
 {
     matches!(item, Selection::Count)
 }
 
 fn has_aggregate(items: &[Selection]) -> bool
-    ensures { result ≡ list_any sentence.is_aggregate items.now }
+    ensures { result ≡ list_any sentence.is_aggregate_selection items.now }
 {
     items.iter().any(is_aggregate)
 }
 
 fn count_of_counts(items: &[Selection]) -> usize
-    ensures { result ≡ count_by sentence.is_count items.now }
+    ensures { result ≡ count_by sentence.is_count_selection items.now }
 {
     items.iter().filter(|item| is_count(item)).count()
 }
 
 /// How many aggregates are selected.
 pub(crate) fn count_of_aggregates(items: &[Selection]) -> usize
-    ensures { result ≡ count_by sentence.is_aggregate items.now }
+    ensures { result ≡ count_by sentence.is_aggregate_selection items.now }
 {
     items.iter().filter(|item| is_aggregate(item)).count()
 }
@@ -92,7 +92,7 @@ fn aggregates_differ(
     names: &ItemNames,
 ) -> Result<bool, NoMemory>
     requires { AreOfItems names.now items.now }
-    ensures { IfOk result (λ they_do. they_do ≡ defined.aggregates_differ items.now) }
+    ensures { IfOk result (λ they_do. they_do ≡ defined.selections_differ items.now) }
 {
     if count_of_counts(items) > 1 {
         return Ok(false);
@@ -119,7 +119,7 @@ impl<'n, 'c> Columns<'n, 'c> {
 
     /// Whether an item is over a column that it may be over.
     fn is_over(&self, item: &Selection) -> bool
-        ensures { result ≡ defined.is_over self.now.columns.now item.now }
+        ensures { result ≡ defined.is_selection_over self.now.columns.now item.now }
     {
         match item {
             Selection::Of(agg, name) => self.takes(*agg, name.as_slice()),
@@ -129,7 +129,7 @@ impl<'n, 'c> Columns<'n, 'c> {
 
     /// Whether all items are over such columns.
     fn are_over(&self, items: &[Selection]) -> bool
-        ensures { result ≡ list_all (defined.is_over self.now.columns.now) items.now }
+        ensures { result ≡ list_all (defined.is_selection_over self.now.columns.now) items.now }
     {
         items.iter().all(|item| self.is_over(item))
     }
@@ -156,7 +156,7 @@ impl<'n, 'c> Columns<'n, 'c> {
         items: &[Selection],
         keys: &[List<u8>],
     ) -> Result<bool, NoMemory>
-        ensures { IfOk result (λ it_has. it_has ≡ defined.is_grouped self.now.columns.now items.now keys.now) }
+        ensures { IfOk result (λ it_has. it_has ≡ defined.is_grouped_projection self.now.columns.now items.now keys.now) }
     {
         if !self.has_key(alloc, keys)? {
             return Ok(false);

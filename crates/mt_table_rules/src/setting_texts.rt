@@ -11,7 +11,7 @@ use mt_table::{
 
 /// A number from one to another.
 fn number_in(least: u64, most: u64, value: SettingValue) -> Option<u64>
-    ensures { result ≡ defined.number_in least most value }
+    ensures { result ≡ defined.number_in_range least most value }
 {
     match value {
         SettingValue::Number(number) if least <= number && number <= most => Some(number),

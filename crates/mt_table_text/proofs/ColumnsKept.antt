@@ -20,8 +20,8 @@ use Rattle.mt_table.specs.Kept.{is_column, keeps_columns, keeps_key, names_of}
 use Rattle.mt_table.specs.Names.{are_among, begins, names_differ}
 use Rattle.mt_table_rules.specs.Projections.{is_key}
 use Rattle.mt_table_rules.specs.Rules.{is_short}
-use Rattle.mt_table_names.specs.Sentence.{column_names, places_in}
-use Rattle.mt_table_rules.specs.Columns.{columns_of, with_column}
+use Rattle.mt_table_names.specs.Sentence.{column_element_names, places_in}
+use Rattle.mt_table_rules.specs.Columns.{columns_of, with_listed_column}
 use Rattle.mt_table_rules.specs.TypeTexts.{column_type_if, column_type_of, type_text}
 use Rattle.mt_table_text.proofs.PlacesDiffer.{differ_in, places_are_named}
 
@@ -41,7 +41,7 @@ is_type text ty e =
     let both = unless_state (type_named (type_text text)) ty e in
     both_of _ _ (name_of_type_named (type_text text) ty both.0).0 (ap not both.1)
 
-one_column : (name : List ℕ) (ty : Option Ty) (rest : Option (List Column)) (columns : List Column) → Some columns ≡ with_column name ty rest
+one_column : (name : List ℕ) (ty : Option Ty) (rest : Option (List Column)) (columns : List Column) → Some columns ≡ with_listed_column name ty rest
     → (t : Ty) × (others : List Column) × (ty ≡ Some t) × (rest ≡ Some others) × (columns ≡ record { name = name; ty = t } ∷ others)
 one_column name None rest columns e = cc
 one_column name (Some t) None columns e = cc
@@ -58,10 +58,10 @@ are_columns (Column' name text codecs ∷ elements) columns read formed =
 are_columns (Index name column kind granularity ∷ elements) columns read formed = are_columns elements columns read (both_true (is_formed_element (Index name column kind granularity)) _ formed).1
 are_columns (Projection name items group order ∷ elements) columns read formed = are_columns elements columns read (both_true (is_formed_element (Projection name items group order)) _ formed).1
 
-pub columns_kept : (elements : List Element) (columns : List Column) → Some columns ≡ columns_of elements → column_names elements ≡ names_of columns → list_all is_formed_element elements ≡ true
-    → has_one (column_names elements) ≡ true → nat_le (length (column_names elements)) MAX_COLUMNS ≡ true → names_differ (column_names elements) ≡ true → keeps_columns columns ≡ true
+pub columns_kept : (elements : List Element) (columns : List Column) → Some columns ≡ columns_of elements → column_element_names elements ≡ names_of columns → list_all is_formed_element elements ≡ true
+    → has_one (column_element_names elements) ≡ true → nat_le (length (column_element_names elements)) MAX_COLUMNS ≡ true → names_differ (column_element_names elements) ≡ true → keeps_columns columns ≡ true
 columns_kept elements columns read are formed some few differ =
-    let as_many : length (column_names elements) ≡ length columns = ap length are ∙ length-map columns (λ column. column.name) in
+    let as_many : length (column_element_names elements) ≡ length columns = ap length are ∙ length-map columns (λ column. column.name) in
     both_of _ _ (both_of _ _ (ap (nat_le 1) (sym as_many) ∙ some) (ap (λ n. nat_le n MAX_COLUMNS) (sym as_many) ∙ few))
     (both_of _ _ (are_columns elements columns read formed) (ap names_differ (sym are) ∙ differ))
 

@@ -23,7 +23,7 @@ use Rattle.mt_table_rules.specs.Rules.{are_few, has_form, has_keys, is_index, is
 use Rattle.mt_table_names.specs.OwnNames.{are_own, has_own_names}
 use Rattle.mt_table_text.specs.Judging.{fields_judged, fields_of, from_codecs, from_counts, from_forms, from_indexes, from_keys, from_partition, from_present, from_settings}
 use Rattle.mt_table_names.specs.NameSets.{AreListed, listed}
-use Rattle.mt_table_names.specs.Sentence.{column_names, index_names, projection_names}
+use Rattle.mt_table_names.specs.Sentence.{column_element_names, index_names, projection_element_names}
 use Rattle.mt_table_rules.specs.Columns.{columns_of}
 use Rattle.mt_table_names.specs.SentenceNames.{AreOfElements}
 use Rattle.mt_table_rules.specs.SettingTexts.{settings_of}
@@ -43,13 +43,13 @@ broken b why next judging is e = is ∙ ap (λ (t : Bool). require t why >>= λ 
 
 pub owned : (names : ElementNames) (elements : List Element) (b : Bool) → AreOfElements names elements → are_own names.columns names.indexes names.projections ≡ b → has_own_names elements ≡ b
 owned names elements b are own =
-    ap (λ columns. are_own columns (index_names elements) (projection_names elements)) (sym are.columns)
-    ∙ ap (λ indexes. are_own names.columns indexes (projection_names elements)) (sym are.indexes)
+    ap (λ columns. are_own columns (index_names elements) (projection_element_names elements)) (sym are.columns)
+    ∙ ap (λ indexes. are_own names.columns indexes (projection_element_names elements)) (sym are.indexes)
     ∙ ap (are_own names.columns names.indexes) (sym are.projections) ∙ own
 
 -- the set of the columns' names, where all names are as they should be
 pub set_found : (names : ElementNames) (elements : List Element) (set : Names) → AreOfElements names elements
-    → (are_own names.columns names.indexes names.projections ≡ true) × AreListed set names.columns → (listed set ≡ column_names elements) × (has_own_names elements ≡ true)
+    → (are_own names.columns names.indexes names.projections ≡ true) × AreListed set names.columns → (listed set ≡ column_element_names elements) × (has_own_names elements ≡ true)
 set_found names elements set are found = (found.1.are ∙ are.columns, owned names elements true are found.0)
 
 -- the types are types, and the names differ
@@ -103,7 +103,7 @@ unfolding fields_judged
 judged_keeps text f formed e =
     ok_then (ok_or NotAType (columns_of text.elements)) (λ columns. require (has_own_names text.elements) TwoNames >>= λ _. from_present columns text) f e
     (λ columns read e. required (has_own_names text.elements) TwoNames (λ _. from_present columns text) f e
-    (λ own e. required (all_are_there (column_names text.elements) text) NoSuchColumn (λ _. from_keys columns text) f e
+    (λ own e. required (all_are_there (column_element_names text.elements) text) NoSuchColumn (λ _. from_keys columns text) f e
     (λ there e. required (has_keys columns text) BadKey (λ _. from_partition columns text) f e
     (λ keys e. required (is_partition columns text.partition) BadPartition (λ _. from_indexes columns text) f e
     (λ partition e. required (list_all (is_index columns) text.elements) BadSkip (λ _. from_forms columns text) f e

@@ -17,17 +17,17 @@ use Rattle.mt_table.specs.declared.limits.TheConstants.{DEFAULT_GRANULE_BYTES, D
 use Rattle.mt_table.specs.declared.settings.Settings.{Settings}
 use Rattle.mt_element_syntax.specs.Formed.{has_one, has_one_given, is_formed_element}
 use Rattle.mt_syntax.specs.Formed.{is_formed}
-use Rattle.mt_element_syntax.specs.Trees.{is_column}
+use Rattle.mt_element_syntax.specs.Trees.{is_column_element}
 use Rattle.mt_table.specs.Kept.{keeps_rules, keeps_settings, names_of}
 use Rattle.mt_table.specs.Names.{are_among, are_apart, begins, names_differ}
 use Rattle.mt_table_rules.specs.Projections.{is_key}
 use Rattle.mt_table_names.specs.Present.{all_are_there, element_is_there, expression_is_there}
-use Rattle.mt_table_rules.specs.Rules.{are_few, has_form, has_keys, is_index, is_partition, is_short, is_small, primary_names}
+use Rattle.mt_table_rules.specs.Rules.{are_few, has_form, has_keys, is_index, is_partition, is_short, is_small_projection, primary_names}
 use Rattle.mt_table_text.specs.Judging.{fields_of}
 use Rattle.mt_table_names.specs.OwnNames.{has_own_names}
 use Rattle.mt_table_rules.specs.Columns.{◌>>=◌, columns_of}
-use Rattle.mt_table_names.specs.Sentence.{column_names, index_names, names_or_none, places_in, projection_names}
-use Rattle.mt_table_rules.specs.SettingTexts.{number_in, one_in, setting_in, settings_of, values_named}
+use Rattle.mt_table_names.specs.Sentence.{column_element_names, index_names, names_or_none, places_in, projection_element_names}
+use Rattle.mt_table_rules.specs.SettingTexts.{number_in_range, one_in, setting_in, settings_of, values_named}
 use Rattle.mt_table_rules.proofs.ColumnLemmas.{read_names}
 use Rattle.mt_table_text.proofs.ColumnsKept.{begins_within, columns_kept, key_kept}
 use Rattle.mt_table_text.proofs.PartitionKept.{partition_kept, skips_kept}
@@ -35,7 +35,7 @@ use Rattle.mt_table_text.proofs.ProjectionsKept.{projections_kept}
 
 -- ---- settings
 
-number_within : (least most : ℕ) (value : SettingValue) (n : ℕ) → number_in least most value ≡ Some n → (nat_le least n && nat_le n most) ≡ true
+number_within : (least most : ℕ) (value : SettingValue) (n : ℕ) → number_in_range least most value ≡ Some n → (nat_le least n && nat_le n most) ≡ true
 number_within least most (Number m) n e = by_test (nat_le least m && nat_le m most) refl e
   where
     by_test : (b : Bool) → (nat_le least m && nat_le m most) ≡ b → (if b then Some m else None) ≡ Some n → (nat_le least n && nat_le n most) ≡ true
@@ -70,9 +70,9 @@ settings_kept texts settings e =
 
 -- ---- what a sentence has
 
-has_column : (elements : List Element) → list_any is_column elements ≡ true → has_one (column_names elements) ≡ true
+has_column : (elements : List Element) → list_any is_column_element elements ≡ true → has_one (column_element_names elements) ≡ true
 has_column [] any = cc
-has_column (element.Column name ty codecs ∷ elements) any = le-leb 1 (length (name ∷ column_names elements)) (omega arith)
+has_column (element.Column name ty codecs ∷ elements) any = le-leb 1 (length (name ∷ column_element_names elements)) (omega arith)
 has_column (element.Index name column kind granularity ∷ elements) any = has_column elements any
 has_column (element.Projection name items group order ∷ elements) any = has_column elements any
 
@@ -83,27 +83,27 @@ primary_named (Some names) order given some = given
 -- ---- all of it
 
 pub rules_are_kept : (text : TableText) (columns : List Column) (settings : Settings) → is_formed text ≡ true
-    → Some columns ≡ columns_of text.elements → has_own_names text.elements ≡ true → all_are_there (column_names text.elements) text ≡ true
+    → Some columns ≡ columns_of text.elements → has_own_names text.elements ≡ true → all_are_there (column_element_names text.elements) text ≡ true
     → has_keys columns text ≡ true → is_partition columns text.partition ≡ true → list_all (is_index columns) text.elements ≡ true → list_all (has_form columns) text.elements ≡ true
     → Some settings ≡ settings_of text.settings → are_few text ≡ true → keeps_rules (fields_of columns settings text) ≡ true
 rules_are_kept text columns settings formed read own there keys partition indexes forms setting few =
-    let names : List (List ℕ) = column_names text.elements in
+    let names : List (List ℕ) = column_element_names text.elements in
     let are : names ≡ names_of columns = read_names text.elements columns read in
     let f_name = both_true (is_name text.name) _ formed in
     let f_elements = both_true (list_all is_formed_element text.elements) _ f_name.1 in
-    let f_columns = both_true (list_any is_column text.elements) _ f_elements.1 in
+    let f_columns = both_true (list_any is_column_element text.elements) _ f_elements.1 in
     let f_keys = both_true (has_one_given text.primary) (has_one text.order) f_columns.1 in
     let o = both_true (names_differ names && names_differ (index_names text.elements)) _ own in
     let o_two = both_true (names_differ names) (names_differ (index_names text.elements)) o.0 in
-    let o_rest = both_true (names_differ (projection_names text.elements)) (are_apart names (index_names text.elements)) o.1 in
+    let o_rest = both_true (names_differ (projection_element_names text.elements)) (are_apart names (index_names text.elements)) o.1 in
     let t = both_true (list_all (element_is_there names) text.elements) _ there in
     let t_partition = both_true (list_all (expression_is_there names) text.partition) _ t.1 in
     let t_keys = both_true (are_among names (names_or_none text.primary)) (are_among names text.order) t_partition.1 in
     let k = both_true (is_key columns text.order) (begins (primary_names text) text.order) keys in
     let c = both_true (nat_le (length names) MAX_COLUMNS) _ few in
     let c_skips = both_true (nat_le (length (index_names text.elements)) MAX_SKIPS) _ c.1 in
-    let c_projections = both_true (nat_le (length (projection_names text.elements)) MAX_PROJECTIONS) _ c_skips.1 in
-    let c_small = both_true (list_all is_small text.elements) _ c_projections.1 in
+    let c_projections = both_true (nat_le (length (projection_element_names text.elements)) MAX_PROJECTIONS) _ c_skips.1 in
+    let c_small = both_true (list_all is_small_projection text.elements) _ c_projections.1 in
     let c_keys = both_true (is_short text.order) (nat_le (length text.partition) MAX_PARTITION) c_small.1 in
     let as_many : length text.order ≡ length (places_in names text.order) = sym (length-map text.order _) in
     let within : length (primary_names text) ≤ length (places_in names text.order) = subst (λ n. length (primary_names text) ≤ n) as_many (begins_within (primary_names text) text.order k.1) in

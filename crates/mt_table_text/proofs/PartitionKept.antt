@@ -20,7 +20,7 @@ use Rattle.mt_element_syntax.specs.Formed.{is_formed_element}
 use Rattle.mt_table.specs.Kept.{keeps_expression, keeps_kind, keeps_partition, keeps_skip, keeps_skips, month_place, names_of, plain_place, skip_names}
 use Rattle.mt_table.specs.Names.{are_among, are_apart, is_among, names_differ, places_differ}
 use Rattle.mt_table_names.specs.Present.{expression_is_there}
-use Rattle.mt_table_names.specs.Places.{expression_of, kind_of, skip_of}
+use Rattle.mt_table_names.specs.Places.{expression_of, skip_kind_of, skip_of}
 use Rattle.mt_table_rules.specs.Rules.{is_expression, is_index, is_kind, is_partition}
 use Rattle.mt_table_names.specs.Sentence.{index_names, month_name, place_in, places_in, plain_name}
 use Rattle.mt_table_text.proofs.PlacesDiffer.{all_same, differ_in, place_is_named}
@@ -69,7 +69,7 @@ skips_named names (element.Column name ty codecs ∷ elements) = skips_named nam
 skips_named names (element.Index name column kind granularity ∷ elements) = ap (λ list. name ∷ list) (skips_named names elements)
 skips_named names (element.Projection name items group order ∷ elements) = skips_named names elements
 
-kind_kept : (kind : IndexKind) → keeps_kind (kind_of kind) ≡ is_kind kind
+kind_kept : (kind : IndexKind) → keeps_kind (skip_kind_of kind) ≡ is_kind kind
 kind_kept Minmax = refl
 kind_kept (Set rows) = refl
 

@@ -7,6 +7,7 @@ use Rattle.std.proofs.lemmas.Bool.Decides.{Decides-eqb}
 use Rattle.std.proofs.lemmas.List.Folds.{list_all-map}
 use Rattle.std.proofs.lemmas.List.Sums.{prefix_len_stops}
 use Rattle.std.proofs.lemmas.Slice.Eq.{bytes_eq-Decides}
+use Rattle.std.proofs.lemmas.Bool.{or_from, or_parts, not-false, not-true}
 use Rattle.mt_types.specs.declared.ty.Ty.{Ty}
 use Rattle.mt_types.proofs.StepLemmas.{both_of, both_true}
 use Rattle.mt_table.specs.declared.column.Column.{Column}
@@ -22,7 +23,7 @@ within_by : (b : Bool) (n count : ℕ) → (b ≡ false → n < count) → cond 
 within_by true n count later = omega arith
 within_by false n count later = let within = later refl in omega (arith, within)
 
-later_any : (b c : Bool) → (b || c) ≡ true → b ≡ false → c ≡ true
+pub later_any : (b c : Bool) → (b || c) ≡ true → b ≡ false → c ≡ true
 later_any b c any e = sym (ap (λ t. t || c) e) ∙ any
 
 one_longer : {A : Type 0} (x : A) (xs : List A) → length xs + 1 ≡ length (x ∷ xs)
@@ -37,14 +38,10 @@ found_within test (x ∷ xs) any =
 pub place_below : (names : List (List ℕ)) (name : List ℕ) → is_among names name ≡ true → place_in names name < length names
 place_below names name among = found_within (bytes_eq name) names among
 
-not_is : (b : Bool) → not b ≡ false → b ≡ true
-not_is true e = refl
-not_is false e = sym e
-
 -- there stands the name
 name_at : (names : List (List ℕ)) (name : List ℕ) → is_among names name ≡ true → name ≡ get_or names (place_in names name) []
 name_at names name among =
-    let stops : bytes_eq name (get_or names (place_in names name) []) ≡ true = not_is _ (prefix_len_stops (λ other. not (bytes_eq name other)) names [] (place_below names name among)) in
+    let stops : bytes_eq name (get_or names (place_in names name) []) ≡ true = not-false _ (prefix_len_stops (λ other. not (bytes_eq name other)) names [] (place_below names name among)) in
     (bytes_eq-Decides name (get_or names (place_in names name) [])).0 stops
 
 -- names at one place are one name
@@ -62,26 +59,12 @@ apart names x y in_x in_y differ = by_test (nat_eq (place_in names x) (place_in 
 
 -- ---- lists of names
 
-either_false : (a b : Bool) → (a || b) ≡ false → (a ≡ false) × (b ≡ false)
-either_false true b e = (e, absurd (true_is_false e))
-  where
-    true_is_false : true ≡ false → ⊥
-    true_is_false e = cc
-either_false false b e = (refl, e)
-
-both_false : (a b : Bool) → a ≡ false → b ≡ false → (a || b) ≡ false
-both_false a b e f = rw (e, f) refl
-
 others_apart : (names : List (List ℕ)) (x : List ℕ) (xs : List (List ℕ)) → is_among names x ≡ true → are_among names xs ≡ true → list_any (bytes_eq x) xs ≡ false → list_any (nat_eq (place_in names x)) (places_in names xs) ≡ false
 others_apart names x [] in_x in_xs none = refl
 others_apart names x (y ∷ ys) in_x in_xs none =
     let here = both_true (is_among names y) (are_among names ys) in_xs in
-    let other = either_false (bytes_eq x y) (list_any (bytes_eq x) ys) none in
-    both_false _ _ (apart names x y in_x here.0 other.0) (others_apart names x ys in_x here.1 other.1)
-
-not_true : (b : Bool) → not b ≡ true → b ≡ false
-not_true true e = sym e
-not_true false e = refl
+    let other = or_parts (bytes_eq x y) (list_any (bytes_eq x) ys) none in
+    or_from _ _ (apart names x y in_x here.0 other.0) (others_apart names x ys in_x here.1 other.1)
 
 -- different names that are there stand at different places
 pub differ_in : (names list : List (List ℕ)) → names_differ list ≡ true → are_among names list ≡ true → places_differ (places_in names list) ≡ true
@@ -89,7 +72,7 @@ differ_in names [] differ among = refl
 differ_in names (x ∷ xs) differ among =
     let parts = both_true (not (list_any (bytes_eq x) xs)) (names_differ xs) differ in
     let here = both_true (is_among names x) (are_among names xs) among in
-    both_of _ _ (ap not (others_apart names x xs here.0 here.1 (not_true _ parts.0))) (differ_in names xs parts.1 here.1)
+    both_of _ _ (ap not (others_apart names x xs here.0 here.1 (not-true _ parts.0))) (differ_in names xs parts.1 here.1)
 
 -- ---- types
 

@@ -3,7 +3,7 @@ use Rattle.std.proofs.Common.{◌≡◌, inl, inr, ℕ, zero, suc, ◌+◌, ◌<
 use Rattle.std.specs.Prelude.{◌||◌, cond, not, nat_le, nat_lt, Option, Some, None}
 use Rattle.std.specs.List.{count_by, filter_map, list_all, list_any, range_with_len}
 use Rattle.std.specs.Str.{bytes_eq}
-use Rattle.std.proofs.lemmas.Bool.{le-leb}
+use Rattle.std.proofs.lemmas.Bool.{le-leb, or_left, or_right}
 use Rattle.std.proofs.lemmas.Bool.Decides.{Decides-eqb, Decides-ltb, not_from_Decides}
 use Rattle.std.proofs.lemmas.List.Sums.{sum_by-cons}
 use Rattle.std.proofs.Math.Nat.{eq-or-lt_of_le}
@@ -27,15 +27,15 @@ use Rattle.mt_table.specs.declared.projection.Projection.{Projection}
 use Rattle.mt_types.specs.Numbers.{is_argument_type}
 use Rattle.mt_table.specs.ColumnTypes.{is_integer_type}
 use Rattle.mt_table.specs.Kept as kept
-use Rattle.mt_table.specs.Kept.{is_one_of, is_place, keeps_aggregate, keeps_grouped, keeps_key, keeps_normal, keeps_projection, keeps_projections, max_place, min_place, name_of, names_of, sum_place}
+use Rattle.mt_table.specs.Kept.{is_one_of, is_place, keeps_aggregate, keeps_grouped, keeps_key, keeps_normal, keeps_projection, keeps_projections, max_place, min_place, name_of_projection, names_of, sum_place}
 use Rattle.mt_table.specs.Names.{are_among, is_among, names_differ, places_differ}
 use Rattle.mt_table_names.specs.Places.{aggregate_of, projection_in, projection_of, selected_places}
-use Rattle.mt_table_rules.specs.Projections.{aggregates_differ, are_same, is_grouped, is_key, is_normal, is_over, is_projection, selects_key}
+use Rattle.mt_table_rules.specs.Projections.{selections_differ, are_same, is_grouped_projection, is_key, is_normal, is_selection_over, is_projection, selects_key}
 use Rattle.mt_table_names.specs.Present.{element_is_there, item_is_there, items_are_there}
-use Rattle.mt_table_rules.specs.Rules.{has_few_aggregates, has_form, is_short, is_small}
-use Rattle.mt_table_names.specs.Sentence.{is_aggregate, is_count, item_column, max_column, min_column, names_or_none, place_in, places_in, projection_names, sum_column}
+use Rattle.mt_table_rules.specs.Rules.{has_few_aggregates, has_form, is_short, is_small_projection}
+use Rattle.mt_table_names.specs.Sentence.{is_aggregate_selection, is_count_selection, item_column, max_column, min_column, names_or_none, place_in, places_in, projection_element_names, sum_column}
 use Rattle.mt_table_text.proofs.ColumnsKept.{key_kept}
-use Rattle.mt_table_text.proofs.PlacesDiffer.{differ_in, place_below, place_is_named}
+use Rattle.mt_table_text.proofs.PlacesDiffer.{differ_in, place_below, place_is_named, later_any}
 
 -- ---- all places
 
@@ -81,22 +81,12 @@ places_within names (name ∷ list) count are among =
     let parts = both_true (is_among names name) (are_among names list) among in
     both_of _ _ ((Decides-ltb (place_in names name) count).1 (subst (λ n. place_in names name < n) are (place_below names name parts.0))) (places_within names list count are parts.1)
 
-either_true : (a b : Bool) → a ≡ true → (a || b) ≡ true
-either_true a b e = ap (λ t. t || b) e
-
-or_true : (a b : Bool) → b ≡ true → (a || b) ≡ true
-or_true true b e = refl
-or_true false b e = e
-
 same_or_later : (names : List (List ℕ)) (name other : List ℕ) (rest : Bool) → (bytes_eq name other ≡ false → rest ≡ true) → (nat_eq (place_in names name) (place_in names other) || rest) ≡ true
 same_or_later names name other rest later = by_test (bytes_eq name other) refl
   where
     by_test : (b : Bool) → bytes_eq name other ≡ b → (nat_eq (place_in names name) (place_in names other) || rest) ≡ true
-    by_test true e = either_true (nat_eq (place_in names name) (place_in names other)) rest ((Decides-eqb (place_in names name) (place_in names other)).1 (ap (place_in names) ((bytes_eq-Decides name other).0 e)))
-    by_test false e = or_true (nat_eq (place_in names name) (place_in names other)) rest (later e)
-
-later_any : (b c : Bool) → (b || c) ≡ true → b ≡ false → c ≡ true
-later_any b c any e = sym (ap (λ t. t || c) e) ∙ any
+    by_test true e = or_left (nat_eq (place_in names name) (place_in names other)) rest ((Decides-eqb (place_in names name) (place_in names other)).1 (ap (place_in names) ((bytes_eq-Decides name other).0 e)))
+    by_test false e = or_right (nat_eq (place_in names name) (place_in names other)) rest (later e)
 
 one_of_places : (names list : List (List ℕ)) (name : List ℕ) → is_among list name ≡ true → is_one_of (places_in names list) (place_in names name) ≡ true
 one_of_places names [] name among = among
@@ -133,7 +123,7 @@ normal_kept columns names All sort are count there among some short normal =
 normal_kept columns names (Items items) sort are count there among some short normal =
     let parts = both_true (selects_key items sort) (is_key columns sort) normal in
     let plain : List (List ℕ) = filter_map item_column items in
-    let selects = both_true (not (list_any is_aggregate items)) _ parts.0 in
+    let selects = both_true (not (list_any is_aggregate_selection items)) _ parts.0 in
     let two = both_true (names_differ plain) (are_among plain sort) selects.1 in
     let plain_there = columns_there names items there in
     both_of _ _ (both_of _ _ (differ_in names plain two.0 plain_there) (places_within names plain (length columns) count plain_there))
@@ -192,48 +182,48 @@ max_places names (selection.Of Sum name ∷ items) = max_places names items
 max_places names (selection.Of Min name ∷ items) = max_places names items
 max_places names (selection.Of Max name ∷ items) = ap (λ places. place_in names name ∷ places) (max_places names items)
 
-counts_same : (names : List (List ℕ)) (items : List Selection) → count_by kept.is_count (filter_map (aggregate_of names) items) ≡ count_by is_count items
+counts_same : (names : List (List ℕ)) (items : List Selection) → count_by kept.is_count_aggregate (filter_map (aggregate_of names) items) ≡ count_by is_count_selection items
 counts_same names [] = refl
 counts_same names (selection.Column name ∷ items) = counts_same names items
 counts_same names (selection.Count ∷ items) =
     let aggregates : List Aggregate = filter_map (aggregate_of names) items in
-    count_by_cons kept.is_count Count aggregates ∙ ap (λ n. 1 + n) (counts_same names items) ∙ sym (count_by_cons is_count selection.Count items)
+    count_by_cons kept.is_count_aggregate Count aggregates ∙ ap (λ n. 1 + n) (counts_same names items) ∙ sym (count_by_cons is_count_selection selection.Count items)
 counts_same names (selection.Of agg name ∷ items) = counts_same names items
 
 one_more : (n : ℕ) → suc n ≡ 1 + n
 one_more n = omega arith
 
-aggregate_count : (names : List (List ℕ)) (items : List Selection) → length (filter_map (aggregate_of names) items) ≡ count_by is_aggregate items
+aggregate_count : (names : List (List ℕ)) (items : List Selection) → length (filter_map (aggregate_of names) items) ≡ count_by is_aggregate_selection items
 aggregate_count names [] = refl
 aggregate_count names (selection.Column name ∷ items) = aggregate_count names items
 aggregate_count names (selection.Count ∷ items) =
-    one_more (length (filter_map (aggregate_of names) items)) ∙ ap (λ n. 1 + n) (aggregate_count names items) ∙ sym (count_by_cons is_aggregate selection.Count items)
+    one_more (length (filter_map (aggregate_of names) items)) ∙ ap (λ n. 1 + n) (aggregate_count names items) ∙ sym (count_by_cons is_aggregate_selection selection.Count items)
 aggregate_count names (selection.Of agg name ∷ items) =
-    one_more (length (filter_map (aggregate_of names) items)) ∙ ap (λ n. 1 + n) (aggregate_count names items) ∙ sym (count_by_cons is_aggregate (selection.Of agg name) items)
+    one_more (length (filter_map (aggregate_of names) items)) ∙ ap (λ n. 1 + n) (aggregate_count names items) ∙ sym (count_by_cons is_aggregate_selection (selection.Of agg name) items)
 
-some_aggregate : (names : List (List ℕ)) (items : List Selection) → list_any is_aggregate items ≡ true → 1 ≤ length (filter_map (aggregate_of names) items)
+some_aggregate : (names : List (List ℕ)) (items : List Selection) → list_any is_aggregate_selection items ≡ true → 1 ≤ length (filter_map (aggregate_of names) items)
 some_aggregate names [] any = cc
 some_aggregate names (selection.Column name ∷ items) any = some_aggregate names items any
 some_aggregate names (selection.Count ∷ items) any = omega arith
 some_aggregate names (selection.Of agg name ∷ items) any = omega arith
 
-each_aggregate : (columns : List Column) (names : List (List ℕ)) (items : List Selection) → names ≡ names_of columns → list_all (is_over columns) items ≡ true → list_all (keeps_aggregate columns) (filter_map (aggregate_of names) items) ≡ true
+each_aggregate : (columns : List Column) (names : List (List ℕ)) (items : List Selection) → names ≡ names_of columns → list_all (is_selection_over columns) items ≡ true → list_all (keeps_aggregate columns) (filter_map (aggregate_of names) items) ≡ true
 each_aggregate columns names [] are over = refl
 each_aggregate columns names (selection.Column name ∷ items) are over = each_aggregate columns names items are over
 each_aggregate columns names (selection.Count ∷ items) are over = each_aggregate columns names items are over
 each_aggregate columns names (selection.Of Sum name ∷ items) are over =
-    let parts = both_true (is_over columns (selection.Of Sum name)) _ over in
+    let parts = both_true (is_selection_over columns (selection.Of Sum name)) _ over in
     both_of _ _ (place_is_named is_integer_type columns names name are ∙ parts.0) (each_aggregate columns names items are parts.1)
 each_aggregate columns names (selection.Of Min name ∷ items) are over =
-    let parts = both_true (is_over columns (selection.Of Min name)) _ over in
+    let parts = both_true (is_selection_over columns (selection.Of Min name)) _ over in
     both_of _ _ (place_is_named is_argument_type columns names name are ∙ parts.0) (each_aggregate columns names items are parts.1)
 each_aggregate columns names (selection.Of Max name ∷ items) are over =
-    let parts = both_true (is_over columns (selection.Of Max name)) _ over in
+    let parts = both_true (is_selection_over columns (selection.Of Max name)) _ over in
     both_of _ _ (place_is_named is_argument_type columns names name are ∙ parts.0) (each_aggregate columns names items are parts.1)
 
-aggregates_kept : (names : List (List ℕ)) (items : List Selection) → list_all (item_is_there names) items ≡ true → aggregates_differ items ≡ true → kept.aggregates_differ (filter_map (aggregate_of names) items) ≡ true
+aggregates_kept : (names : List (List ℕ)) (items : List Selection) → list_all (item_is_there names) items ≡ true → selections_differ items ≡ true → kept.aggregates_differ (filter_map (aggregate_of names) items) ≡ true
 aggregates_kept names items there differ =
-    let one = both_true (nat_le (count_by is_count items) 1) _ differ in
+    let one = both_true (nat_le (count_by is_count_selection items) 1) _ differ in
     let two = both_true (names_differ (filter_map sum_column items)) _ one.1 in
     let three = both_true (names_differ (filter_map min_column items)) (names_differ (filter_map max_column items)) two.1 in
     both_of _ _ (ap (λ n. nat_le n 1) (counts_same names items) ∙ one.0)
@@ -242,12 +232,12 @@ aggregates_kept names items there differ =
     (ap places_differ (max_places names items) ∙ differ_in names (filter_map max_column items) three.1 (maxs_there names items there))))
 
 grouped_kept : (columns : List Column) (names : List (List ℕ)) (items : List Selection) (keys : List (List ℕ)) → names ≡ names_of columns → list_all (item_is_there names) items ≡ true → are_among names keys ≡ true
-    → has_one keys ≡ true → is_short keys ≡ true → nat_le (count_by is_aggregate items) MAX_KEY ≡ true → is_grouped columns items keys ≡ true → keeps_grouped columns (places_in names keys) (filter_map (aggregate_of names) items) ≡ true
+    → has_one keys ≡ true → is_short keys ≡ true → nat_le (count_by is_aggregate_selection items) MAX_KEY ≡ true → is_grouped_projection columns items keys ≡ true → keeps_grouped columns (places_in names keys) (filter_map (aggregate_of names) items) ≡ true
 grouped_kept columns names items keys are there among some short few grouped =
     let one = both_true (is_key columns keys) _ grouped in
     let two = both_true (are_same (filter_map item_column items) keys) _ one.1 in
-    let three = both_true (list_any is_aggregate items) _ two.1 in
-    let four = both_true (aggregates_differ items) (list_all (is_over columns) items) three.1 in
+    let three = both_true (list_any is_aggregate_selection items) _ two.1 in
+    let four = both_true (selections_differ items) (list_all (is_selection_over columns) items) three.1 in
     both_of _ _ (key_kept columns names keys are one.0 among some short)
     (both_of _ _ (both_of _ _ (le-leb 1 _ (some_aggregate names items three.0)) (ap (λ n. nat_le n MAX_KEY) (aggregate_count names items) ∙ few))
     (both_of _ _ (aggregates_kept names items there four.0) (each_aggregate columns names items are four.1)))
@@ -270,7 +260,7 @@ projection_kept columns names name All (Some keys) None are count named there in
 projection_kept columns names name All (Some keys) (Some sort) are count named there in_group in_order some_group some_order few short_group short_order form = absurd (no form)
 projection_kept columns names name (Items items) (Some keys) (Some sort) are count named there in_group in_order some_group some_order few short_group short_order form = absurd (no form)
 
-projections_named : (names : List (List ℕ)) (elements : List Element) → map name_of (filter_map (projection_in names) elements) ≡ projection_names elements
+projections_named : (names : List (List ℕ)) (elements : List Element) → map name_of_projection (filter_map (projection_in names) elements) ≡ projection_element_names elements
 projections_named names [] = refl
 projections_named names (element.Column name ty codecs ∷ elements) = projections_named names elements
 projections_named names (element.Index name column kind granularity ∷ elements) = projections_named names elements
@@ -278,7 +268,7 @@ projections_named names (element.Projection name items (Some keys) order ∷ ele
 projections_named names (element.Projection name items None order ∷ elements) = ap (λ list. name ∷ list) (projections_named names elements)
 
 each_projection : (columns : List Column) (names : List (List ℕ)) (elements : List Element) → names ≡ names_of columns → length names ≡ length columns → list_all is_formed_element elements ≡ true
-    → list_all (element_is_there names) elements ≡ true → list_all (has_form columns) elements ≡ true → list_all is_small elements ≡ true → list_all (keeps_projection columns) (filter_map (projection_in names) elements) ≡ true
+    → list_all (element_is_there names) elements ≡ true → list_all (has_form columns) elements ≡ true → list_all is_small_projection elements ≡ true → list_all (keeps_projection columns) (filter_map (projection_in names) elements) ≡ true
 each_projection columns names [] are count formed there forms small = refl
 each_projection columns names (element.Column name ty codecs ∷ elements) are count formed there forms small =
     each_projection columns names elements are count (both_true (is_name name) _ formed).1 there forms small
@@ -292,18 +282,18 @@ each_projection columns names (element.Projection name items group order ∷ ele
     let t_items = both_true (items_are_there names items) _ t.0 in
     let t_keys = both_true (are_among names (names_or_none group)) (are_among names (names_or_none order)) t_items.1 in
     let g = both_true (is_projection columns items group order) (list_all (has_form columns) elements) forms in
-    let s = both_true (is_small (element.Projection name items group order)) (list_all is_small elements) small in
+    let s = both_true (is_small_projection (element.Projection name items group order)) (list_all is_small_projection elements) small in
     let s_items = both_true (has_few_aggregates items) _ s.0 in
     let s_keys = both_true (is_short (names_or_none group)) (is_short (names_or_none order)) s_items.1 in
     both_of _ _ (projection_kept columns names name items group order are count named.0 t_items.0 t_keys.0 t_keys.1 some.0 some.1 s_items.0 s_keys.0 s_keys.1 g.0)
     (each_projection columns names elements are count f.1 t.1 g.1 s.1)
 
 pub projections_kept : (columns : List Column) (names : List (List ℕ)) (elements : List Element) → names ≡ names_of columns → list_all is_formed_element elements ≡ true
-    → list_all (element_is_there names) elements ≡ true → list_all (has_form columns) elements ≡ true → list_all is_small elements ≡ true
-    → nat_le (length (projection_names elements)) MAX_PROJECTIONS ≡ true → names_differ (projection_names elements) ≡ true → keeps_projections columns (filter_map (projection_in names) elements) ≡ true
+    → list_all (element_is_there names) elements ≡ true → list_all (has_form columns) elements ≡ true → list_all is_small_projection elements ≡ true
+    → nat_le (length (projection_element_names elements)) MAX_PROJECTIONS ≡ true → names_differ (projection_element_names elements) ≡ true → keeps_projections columns (filter_map (projection_in names) elements) ≡ true
 projections_kept columns names elements are formed there forms small few differ =
     let projections : List Projection = filter_map (projection_in names) elements in
-    let as_many : length projections ≡ length (projection_names elements) = sym (length-map projections name_of) ∙ ap length (projections_named names elements) in
+    let as_many : length projections ≡ length (projection_element_names elements) = sym (length-map projections name_of_projection) ∙ ap length (projections_named names elements) in
     let count : length names ≡ length columns = ap length are ∙ length-map columns (λ column. column.name) in
     both_of _ _ (ap (λ n. nat_le n MAX_PROJECTIONS) as_many ∙ few)
     (both_of _ _ (each_projection columns names elements are count formed there forms small) (ap names_differ (projections_named names elements) ∙ differ))

@@ -1,7 +1,9 @@
 -- The function that reads a table text gives what the text defines.
 use Rattle.std.proofs.Common.{◌≡◌, inl, inr, ℕ, zero, suc, ◌≤◌, arith, List, [], ◌∷◌, length, ap, sym, ◌∙◌, subst, refl}
 use Rattle.std.specs.Prelude.{true, Option, Some, None, option_and_then, option_map, Result, Ok, Err}
+use Rattle.std.proofs.lemmas.Option.{same_Some}
 use Rattle.mt_types.specs.Steps.{◌>>=◌}
+use Rattle.mt_types.proofs.OptionLemmas.{then_is}
 use Rattle.mt_tokens.specs.Lexis.{AreTokens, IsTokens, skip_blanks, token_at}
 use Rattle.mt_tokens.specs.Tokens.{Tok}
 use Rattle.mt_tokens.proofs.TokenRuns.{shorter}
@@ -19,17 +21,13 @@ use Rattle.mt_table_text.specs.TextReading.{judged, judged_sentence, table_of_fi
 use Rattle.mt_table_text.proofs.JudgeLemmas.{judged_keeps}
 use Rattle.mt_table_text.proofs.ReadLemmas.{table_kept}
 
-then_is : {A B : Type 0} (f : A → Option B) (o : Option A) (y : B) → option_and_then f o ≡ Some y → (x : A) × (o ≡ Some x) × (f x ≡ Some y)
-then_is f None y e = cc
-then_is f (Some x) y e = (x, refl, e)
-
 mapped_is : {A B : Type 0} (f : A → B) (o : Option A) (y : B) → option_map f o ≡ Some y → (x : A) × (o ≡ Some x) × (f x ≡ y)
 mapped_is f None y e = cc
 mapped_is f (Some x) y e = let same : f x ≡ y = cc in (x, refl, same)
 
 -- ---- tokens
 
-sound : (most : ℕ) (text : List ℕ) (tokens : List Tok) → tokens_from most text ≡ Some tokens → AreTokens text tokens
+pub sound : (most : ℕ) (text : List ℕ) (tokens : List Tok) → tokens_from most text ≡ Some tokens → AreTokens text tokens
 unfolding tokens_from
 sound most [] tokens e = let none : [] ≡ tokens = cc in subst (AreTokens []) none refl
 sound zero (byte ∷ text) tokens e = cc
@@ -57,9 +55,6 @@ tokens_are text tokens are = complete tokens (length (skip_blanks text)) (skip_b
 
 -- ---- the sentence and the table
 
-some_is : {A : Type 0} (a b : A) → Some a ≡ Some b → a ≡ b
-some_is a b e = cc
-
 -- what is judged of fields that keep the rules is their table
 answered : (judging : Result Fields TableWhy) → ((f : Fields) → judging ≡ Ok f → keeps_rules f ≡ true) → judging ≡ fields_answered (judging >>= table_of_fields)
 answered (Ok f) keeps = sym (ap fields_answered (table_kept f (keeps f refl)))
@@ -85,7 +80,7 @@ by_tokens text None e = inr (none, refl)
     none : (sentence : TableText) → IsTableText text sentence → ⊥
     none sentence (tokens, are, is) = let never : None ≡ Some tokens = sym e ∙ tokens_are text tokens are in cc
 by_tokens text (Some tokens) e =
-    by_sentence text tokens (sentence_at tokens) (sound (length (skip_blanks text)) (skip_blanks text) tokens e) (λ others are. some_is others tokens (sym (tokens_are text others are) ∙ e)) refl
+    by_sentence text tokens (sentence_at tokens) (sound (length (skip_blanks text)) (skip_blanks text) tokens e) (λ others are. same_Some others tokens (sym (tokens_are text others are) ∙ e)) refl
 
 -- the reading of a text is what it defines
 pub reading_defines : (text : List ℕ) → Defines text (table_reading text)

@@ -10,7 +10,7 @@ use Rattle.mt_table.specs.Fields.{Fields}
 use Rattle.mt_table_names.specs.OwnNames.{has_own_names}
 use Rattle.mt_table_names.specs.Places.{expression_of, projection_in, skip_of}
 use Rattle.mt_table_names.specs.Present.{all_are_there}
-use Rattle.mt_table_names.specs.Sentence.{column_names, places_in}
+use Rattle.mt_table_names.specs.Sentence.{column_element_names, places_in}
 use Rattle.mt_table_rules.specs.Columns.{columns_of}
 use Rattle.mt_table_rules.specs.Rules.{are_few, has_form, has_keys, is_index, is_partition, is_uncompressed, primary_names}
 use Rattle.mt_table_rules.specs.SettingTexts.{settings_of}
@@ -20,7 +20,7 @@ use Rattle.mt_table_text.specs.declared.why.TableWhy.TheVariants.{BadKey, BadPar
 -- the table of a sentence that keeps the rules
 abbrev pub fields_of : List Column → Settings → TableText → Fields
 fields_of columns settings text =
-    let names = column_names text.elements in record {
+    let names = column_element_names text.elements in record {
       name = text.name;
       columns = columns;
       partition = map (expression_of names) text.partition;
@@ -36,7 +36,7 @@ unfoldable pub fields_judged : TableText → Result Fields TableWhy
 fields_judged text = do
   columns ← ok_or NotAType (columns_of text.elements)
   _ ← require (has_own_names text.elements) TwoNames
-  _ ← require (all_are_there (column_names text.elements) text) NoSuchColumn
+  _ ← require (all_are_there (column_element_names text.elements) text) NoSuchColumn
   _ ← require (has_keys columns text) BadKey
   _ ← require (is_partition columns text.partition) BadPartition
   _ ← require (list_all (is_index columns) text.elements) BadSkip
@@ -78,4 +78,4 @@ from_keys columns text = require (has_keys columns text) BadKey >>= λ _. from_p
 
 -- what is left from the named columns on
 abbrev pub from_present : List Column → TableText → Result Fields TableWhy
-from_present columns text = require (all_are_there (column_names text.elements) text) NoSuchColumn >>= λ _. from_keys columns text
+from_present columns text = require (all_are_there (column_element_names text.elements) text) NoSuchColumn >>= λ _. from_keys columns text

@@ -5,7 +5,7 @@ ghost use Rattle.mt_syntax.specs.Formed.{is_formed};
 ghost use Rattle.mt_table.specs.Kept.{keeps_rules, names_of};
 ghost use Rattle.mt_table_text.specs.Judging.{fields_judged, fields_of, from_codecs, from_keys};
 ghost use Rattle.mt_table_names.specs.NameSets.{listed};
-ghost use Rattle.mt_table_names.specs.Sentence.{column_names};
+ghost use Rattle.mt_table_names.specs.Sentence.{column_element_names};
 ghost use Rattle.mt_table_names.specs.SentenceNames.{AreOfElements};
 ghost use Rattle.mt_table.specs.Tables.{fields_of_table};
 ghost use Rattle.mt_table_text.specs.Tables.{GivesFields};
@@ -28,7 +28,7 @@ fn table_of(
     columns: List<Column>,
     settings: Settings,
 ) -> Result<Table, NoMemory>
-    requires named { listed names.now ≡ column_names text.now.elements }
+    requires named { listed names.now ≡ column_element_names text.now.elements }
     requires few { length (listed names.now) ≤ MAX_COLUMNS }
     requires rules { IsTrue (keeps_rules (fields_of columns settings text.now)) }
     ensures { IfOk result (λ table. fields_of_table table ≡ fields_of columns settings text.now) }
@@ -60,7 +60,7 @@ fn judge_rest(
 ) -> Result<Table, TableError>
     requires formed { IsTrue (is_formed text.now) }
     requires names { AreOfElements names.now text.now.elements }
-    requires named { listed set.now ≡ column_names text.now.elements }
+    requires named { listed set.now ≡ column_element_names text.now.elements }
     requires so_far { fields_judged text.now ≡ from_codecs columns text.now }
     ensures { GivesFields result (fields_judged text.now) }
 {
@@ -86,7 +86,7 @@ fn judge_uses(
 ) -> Result<Table, TableError>
     requires formed { IsTrue (is_formed text.now) }
     requires names { AreOfElements names.now text.now.elements }
-    requires named { listed set ≡ column_names text.now.elements }
+    requires named { listed set ≡ column_element_names text.now.elements }
     requires same { listed set ≡ names_of columns }
     requires so_far { fields_judged text.now ≡ from_keys columns text.now }
     ensures { GivesFields result (fields_judged text.now) }

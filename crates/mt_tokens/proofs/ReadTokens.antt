@@ -12,7 +12,7 @@ use Rattle.mt_types.specs.Words.{is_word_start, is_word_byte, is_word_text, is_n
 use Rattle.mt_tokens.specs.Tokens.{Tok, Word, Quoted, Digits, OfSign}
 use Rattle.mt_tokens.specs.Texts.{is_escape, plus, text_len, escape_len}
 use Rattle.mt_tokens.specs.Signs.{double_sign, single_sign, sign_or, sign_at}
-use Rattle.mt_tokens.specs.Lexis.{run_of, text_of_len, text_at, name_of_len, quoted_at, token_at}
+use Rattle.mt_tokens.specs.Lexis.{run_of, text_of_len, text_after_quote, name_of_len, quoted_at, token_at}
 use Rattle.mt_tokens.specs.Writing.{is_digit_text, is_quotable, is_quotable_escape, IsSign, IsWritten}
 
 -- what was read of a text is a token that it begins with
@@ -169,6 +169,6 @@ token_is_read (c ∷ rest) =
     let P : Option (Tok × List ℕ) → Type 0 = λ o. IsRead (c ∷ rest) o in
     cond_both (is_word_start c) _ _ P (λ h. word_is_read c rest h) (λ h.
     cond_both (is_ascii_digit c) _ _ P (λ h. digits_are_read c rest h) (λ h.
-    cond_both (eqb c QUOTE) _ _ P (λ h. at_quote QUOTE c rest (text_at rest) h (text_is_read rest (text_len rest) (text_ends_so rest))) (λ h.
+    cond_both (eqb c QUOTE) _ _ P (λ h. at_quote QUOTE c rest (text_after_quote rest) h (text_is_read rest (text_len rest) (text_ends_so rest))) (λ h.
     cond_both (eqb c BACKQUOTE) _ _ P (λ h. at_quote BACKQUOTE c rest (quoted_at rest) h (name_is_read rest (position (λ d. d == BACKQUOTE) rest) refl)) (λ h.
     of_sign_is_read (c ∷ rest) (sign_at (c ∷ rest)) (sign_is_read c rest)))))

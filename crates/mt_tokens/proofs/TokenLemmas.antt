@@ -5,7 +5,7 @@ use Rattle.std.proofs.lemmas.Bool.{cases_Bool, eqb-true}
 use Rattle.mt_tokens.specs.declared.sign.Sign.{Sign}
 use Rattle.mt_tokens.specs.declared.sign.Sign.TheVariants.{Open, Close, Comma, Dot, Semicolon, Star, Minus, Equal, NotEqual, Less, LessEqual, Greater, GreaterEqual}
 use Rattle.mt_tokens.specs.Tokens.{Tok, Word, Quoted, Text, Digits, OfSign}
-use Rattle.mt_tokens.specs.Words.{rank, is_sign, name_of}
+use Rattle.mt_tokens.specs.Words.{sign_rank, is_sign, name_of}
 use Rattle.mt_tokens.specs.Numbers.{number_of}
 use Rattle.mt_tokens.specs.Splits.{after_if, after_sign, split_name, split_number}
 
@@ -18,7 +18,7 @@ sign_at_rank n =
     else if n == 7 then Equal else if n == 8 then NotEqual else if n == 9 then Less
     else if n == 10 then LessEqual else if n == 11 then Greater else GreaterEqual
 
-sign_at_its_rank : (sign : Sign) → sign_at_rank (rank sign) ≡ sign
+sign_at_its_rank : (sign : Sign) → sign_at_rank (sign_rank sign) ≡ sign
 unfolding sign_at_rank
 sign_at_its_rank Open = refl
 sign_at_its_rank Close = refl
@@ -34,12 +34,12 @@ sign_at_its_rank LessEqual = refl
 sign_at_its_rank Greater = refl
 sign_at_its_rank GreaterEqual = refl
 
-pub same_rank_same_sign : (a b : Sign) → rank a ≡ rank b → a ≡ b
+pub same_rank_same_sign : (a b : Sign) → sign_rank a ≡ sign_rank b → a ≡ b
 same_rank_same_sign a b e = sym (sign_at_its_rank a) ∙ ap sign_at_rank e ∙ sign_at_its_rank b
 
 -- a token that passes the test for a sign is that sign
 pub is_sign_true : (sign : Sign) (token : Tok) → is_sign sign token ≡ true → token ≡ OfSign sign
-is_sign_true sign (OfSign found) e = ap (λ (s : Sign). let t : Tok = OfSign s in t) (same_rank_same_sign found sign (eqb-true (rank found) (rank sign) e))
+is_sign_true sign (OfSign found) e = ap (λ (s : Sign). let t : Tok = OfSign s in t) (same_rank_same_sign found sign (eqb-true (sign_rank found) (sign_rank sign) e))
 is_sign_true sign (Word w) e = absurd cc
 is_sign_true sign (Quoted w) e = absurd cc
 is_sign_true sign (Text w) e = absurd cc

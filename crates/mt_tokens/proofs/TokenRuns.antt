@@ -20,7 +20,7 @@ pub record Reads (text : List ℕ) (front : List Tok) (rest : List ℕ) : Type 0
   pub completes : (more : List Tok) → AreTokens rest more → IsTokens text (front ++ more)
   pub goes_on : (tokens : List Tok) → IsTokens text tokens → (more : List Tok) × (tokens ≡ front ++ more) × AreTokens rest more
 
-no_token_of_none : (rest : List ℕ) (token : Tok) (after : List ℕ) → rest ≡ [] → token_at rest ≡ Some (token, after) → ⊥
+pub no_token_of_none : (rest : List ℕ) (token : Tok) (after : List ℕ) → rest ≡ [] → token_at rest ≡ Some (token, after) → ⊥
 unfolding token_at
 no_token_of_none rest token after none e = let k = sym (ap token_at none) ∙ e in cc
 

@@ -24,8 +24,8 @@ text_of_len text None = None
 text_of_len text (Some count) = Some (Text (take count text), drop 1 (drop count text))
 
 -- the text that a quote before these bytes begins, and what follows its last quote
-abbrev pub text_at : List ℕ → Option (Tok × List ℕ)
-text_at text = text_of_len text (text_len text)
+abbrev pub text_after_quote : List ℕ → Option (Tok × List ℕ)
+text_after_quote text = text_of_len text (text_len text)
 
 -- so many bytes as a name, if they are one, and what follows the backquote behind them
 abbrev pub name_of_len : List ℕ → Option ℕ → Option (Tok × List ℕ)
@@ -44,7 +44,7 @@ token_at [] = None
 token_at (c ∷ rest) =
     if is_word_start c then run_of Word is_word_byte (c ∷ rest)
     else if is_ascii_digit c then run_of Digits is_ascii_digit (c ∷ rest)
-    else if c == QUOTE then text_at rest
+    else if c == QUOTE then text_after_quote rest
     else if c == BACKQUOTE then quoted_at rest
     else option_map (λ x. (OfSign x.0, x.1)) (sign_at (c ∷ rest))
 

@@ -13,13 +13,13 @@ pub data Tok : Type 0 where
   OfSign : Sign → Tok
 
 -- a token of the code, as it reads
-abbrev pub plain : Token → Tok
-plain (token.Word bytes) = Word bytes.now
-plain (token.Quoted bytes) = Quoted bytes.now
-plain (token.Text bytes) = Text bytes.now
-plain (token.Digits bytes) = Digits bytes.now
-plain (token.Sign sign) = OfSign sign
+abbrev pub as_read : Token → Tok
+as_read (token.Word bytes) = Word bytes.now
+as_read (token.Quoted bytes) = Quoted bytes.now
+as_read (token.Text bytes) = Text bytes.now
+as_read (token.Digits bytes) = Digits bytes.now
+as_read (token.Sign sign) = OfSign sign
 
 -- tokens of the code, as they read
 abbrev pub plains : List Token → List Tok
-plains tokens = map plain tokens
+plains tokens = map as_read tokens

@@ -33,22 +33,22 @@ is_word fixed (Word word) = bytes_eq word fixed
 is_word fixed _ = false
 
 -- the number of a sign, so that signs can be told apart
-abbrev pub rank : Sign → ℕ
-rank Open = 0
-rank Close = 1
-rank Comma = 2
-rank Dot = 3
-rank Semicolon = 4
-rank Star = 5
-rank Minus = 6
-rank Equal = 7
-rank NotEqual = 8
-rank Less = 9
-rank LessEqual = 10
-rank Greater = 11
-rank GreaterEqual = 12
+abbrev pub sign_rank : Sign → ℕ
+sign_rank Open = 0
+sign_rank Close = 1
+sign_rank Comma = 2
+sign_rank Dot = 3
+sign_rank Semicolon = 4
+sign_rank Star = 5
+sign_rank Minus = 6
+sign_rank Equal = 7
+sign_rank NotEqual = 8
+sign_rank Less = 9
+sign_rank LessEqual = 10
+sign_rank Greater = 11
+sign_rank GreaterEqual = 12
 
 -- a token is this sign
 abbrev pub is_sign : Sign → Tok → Bool
-is_sign sign (OfSign found) = rank found == rank sign
+is_sign sign (OfSign found) = sign_rank found == sign_rank sign
 is_sign sign _ = false

@@ -46,14 +46,14 @@ IsSign Greater bytes = bytes ≡ codes ">"
 IsSign GreaterEqual bytes = bytes ≡ codes ">="
 
 -- bytes with a quote of this kind before and behind them
-abbrev pub between : (quote : ℕ) → List ℕ → List ℕ
-between quote inside = quote ∷ (inside ++ quote ∷ [])
+abbrev pub between_quotes : (quote : ℕ) → List ℕ → List ℕ
+between_quotes quote inside = quote ∷ (inside ++ quote ∷ [])
 
 -- the bytes are this token
 abbrev pub IsWritten : Tok → List ℕ → Type 0
 IsWritten (Word word) bytes = (is_word_text word ≡ true) × (bytes ≡ word)
-IsWritten (Quoted name) bytes = (is_name name ≡ true) × (bytes ≡ between BACKQUOTE name)
-IsWritten (Text text) bytes = (is_quotable text ≡ true) × (bytes ≡ between QUOTE text)
+IsWritten (Quoted name) bytes = (is_name name ≡ true) × (bytes ≡ between_quotes BACKQUOTE name)
+IsWritten (Text text) bytes = (is_quotable text ≡ true) × (bytes ≡ between_quotes QUOTE text)
 IsWritten (Digits digits) bytes = (is_digit_text digits ≡ true) × (bytes ≡ digits)
 IsWritten (OfSign sign) bytes = IsSign sign bytes
 

@@ -6,8 +6,8 @@ ghost use Rattle.std.specs.Char.{is_ascii_digit};
 ghost use Rattle.mt_tokens.specs.declared.ascii.TheConstants.{BACKQUOTE};
 ghost use Rattle.mt_types.specs.Words.{is_word_byte, is_name, is_word_text};
 ghost use Rattle.mt_tokens.specs.Bytes.{is_blank};
-ghost use Rattle.mt_tokens.specs.Tokens.{Word, Digits, plain};
-ghost use Rattle.mt_tokens.specs.Lexis.{run_of, text_at, quoted_at, token_at, skip_blanks};
+ghost use Rattle.mt_tokens.specs.Tokens.{Word, Digits, as_read};
+ghost use Rattle.mt_tokens.specs.Lexis.{run_of, text_after_quote, quoted_at, token_at, skip_blanks};
 
 use crate::ascii::{BACKQUOTE, QUOTE, is_blank, is_word_byte, is_word_start};
 use crate::escape::text_len;
@@ -71,7 +71,7 @@ fn split_digits(bytes: &[u8]) -> (&[u8], &[u8])
 
 /// The text that a quote before these bytes begins, and what follows its last quote.
 fn split_text(bytes: &[u8]) -> Option<(Token<'_>, &[u8])>
-    ensures { option_map (λ x. (plain x.0, x.1.now)) result ≡ text_at bytes.now }
+    ensures { option_map (λ x. (as_read x.0, x.1.now)) result ≡ text_after_quote bytes.now }
 {
     let count = text_len(bytes)?;
     let (body, rest) = bytes.split_at(count);
@@ -103,7 +103,7 @@ fn is_name(bytes: &[u8]) -> bool
 
 /// The name that a backquote before these bytes begins, and what follows its last backquote.
 fn split_quoted(bytes: &[u8]) -> Option<(Token<'_>, &[u8])>
-    ensures { option_map (λ x. (plain x.0, x.1.now)) result ≡ quoted_at bytes.now }
+    ensures { option_map (λ x. (as_read x.0, x.1.now)) result ≡ quoted_at bytes.now }
 {
     let count = backquote(bytes)?;
     let (name, rest) = bytes.split_at(count);
@@ -117,7 +117,7 @@ fn split_quoted(bytes: &[u8]) -> Option<(Token<'_>, &[u8])>
 /// The token at the front, and what follows it.
 #[tactic(auto, unfolding(crate::specs::Lexis::token_at))]
 pub(crate) fn split_token(bytes: &[u8]) -> Option<(Token<'_>, &[u8])>
-    ensures { option_map (λ x. (plain x.0, x.1.now)) result ≡ token_at bytes.now }
+    ensures { option_map (λ x. (as_read x.0, x.1.now)) result ≡ token_at bytes.now }
 {
     let (first, rest) = split_byte(bytes)?;
     if is_word_start(first) {

@@ -1,7 +1,7 @@
 //! Tokens taken off the front, one at a time: what readers of a grammar are made of.
 
 ghost use Rattle.std.specs.Prelude.{◌≡◌, ◌∷◌, [], MatchOption, option_map};
-ghost use Rattle.mt_tokens.specs.Tokens.{plain, plains};
+ghost use Rattle.mt_tokens.specs.Tokens.{as_read, plains};
 ghost use Rattle.mt_tokens.specs.Splits.{after_keyword, after_sign, after_word, split_name, split_number};
 
 use crate::digits::number_of;
@@ -12,7 +12,7 @@ use crate::token::Token;
 /// The first token and the others.
 pub fn split_first<'a, 't>(tokens: &'t [Token<'a>]) -> Option<(Token<'a>, &'t [Token<'a>])>
     ensures { MatchOption result (plains tokens.now ≡ [])
-        (λ p. plains tokens.now ≡ plain p.0 ∷ plains p.1.now) }
+        (λ p. plains tokens.now ≡ as_read p.0 ∷ plains p.1.now) }
 {
     let (first, rest) = tokens.split_first()?;
     Some((*first, rest))

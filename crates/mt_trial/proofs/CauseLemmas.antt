@@ -1,12 +1,9 @@
 -- A step that uses no object, beside a shelf.
-use Rattle.std.proofs.Common.{ℕ, Result, Err, refl, arith}
-use Rattle.mt_shelf.specs.Causes.{Rose}
+use Rattle.std.proofs.Common.{ℕ, Result, Err, refl}
 use Rattle.mt_command.specs.Steps.{StepCausedBy, of_nothing, of_shelf}
 use Rattle.mt_command.specs.declared.status.Status.{Status}
 use Rattle.mt_command.specs.declared.status.Status.TheVariants.{Done, AtFault, BadWords, NoTable, NoPart, BadTable, BadQuery, Exists, NoRows, BadRows, ManyPartitions, MixedPartitions, TooMuch, SourceFault, ShelfFault, SinkFault, NoMemory}
-
-never_rose : {A : Type 0} → Rose 0 0 → A
-never_rose rose = absurd (omega (arith, rose))
+use Rattle.mt_command.proofs.RefusedLemmas.{never_rose}
 
 pub at_rest : (A : Type 0) (status : Status) (count : ℕ) → StepCausedBy (let r : Result A Status = Err status in r) of_nothing of_nothing → StepCausedBy (let r : Result A Status = Err status in r) (of_shelf count) (of_shelf count)
 at_rest A Done count cause = absurd cause

@@ -5,32 +5,27 @@ use Rattle.std.specs.List.{sum_by}
 use Rattle.std.proofs.lemmas.List.Elements.{All-head, All-tail}
 use Rattle.std.proofs.lemmas.List.Sums.{sum_by-cons}
 use Rattle.mt_types.specs.declared.value.AggState.{AggState}
-use Rattle.mt_types.specs.declared.value.Value.{Value, map-Value, out-Value}
 use Rattle.mt_types.specs.declared.value.Value.TheVariants.{Num, Text, State, outs-Num, outs-Text, outs-State}
-use Rattle.mt_types.specs.declared.value.Value.TheOpen.{Value-F}
-use Rattle.mt_types.specs.declared.value.Value.TheFolds.{fold_out-Value}
 use Rattle.mt_table.specs.declared.column.Column.{Column}
-use Rattle.mt_table.specs.Rows.{cell_count, element_count, element_count_step}
+use Rattle.mt_table.specs.Rows.{cell_count, element_count}
 use Rattle.mt_defs.specs.Rows.{Row}
-use Rattle.mt_trial.specs.Rows.{row_of}
-
-element_at : (value : Value) (level : Value-F Value) → out-Value value ≡ level → element_count value ≡ element_count_step (map-Value Value ℕ element_count level)
-element_at value level is = fold_out-Value ℕ element_count_step value ∙ ap (λ l. element_count_step (map-Value Value ℕ element_count l)) is
+use Rattle.mt_law_written.proofs.CellSums.{elements_at}
+use Rattle.mt_trial.specs.Rows.{row_of_number}
 
 pub num_none : (n : ℤ) → element_count (Num n) ≡ 0
-num_none n = element_at (Num n) _ (outs-Num n)
+num_none n = elements_at (Num n) _ (outs-Num n)
 
 text_none : (bytes : List ℕ) → element_count (Text bytes) ≡ 0
-text_none bytes = element_at (Text bytes) _ (outs-Text bytes)
+text_none bytes = elements_at (Text bytes) _ (outs-Text bytes)
 
 pub state_none : (state : AggState) → element_count (State state) ≡ 0
-state_none state = element_at (State state) _ (outs-State state)
+state_none state = elements_at (State state) _ (outs-State state)
 
 -- a row without elements of arrays
 abbrev pub HasNone : Row → Type 0
 HasNone row = sum_by element_count row ≡ 0
 
-pub row_none : (x : ℕ) → HasNone (row_of x)
+pub row_none : (x : ℕ) → HasNone (row_of_number x)
 row_none x = simp (num_none, text_none) refl
 
 no_elements : (rows : List Row) → All HasNone rows → sum_by (λ row. sum_by element_count row) rows ≡ 0

@@ -1,5 +1,5 @@
 -- A part is free where no file is at or below it; it stays free where another part is published.
-use Rattle.std.proofs.Common.{◌≡◌, Bool, true, false, ◌||◌, ℕ, List, [], ◌∷◌, map, refl, ap, ◌∙◌}
+use Rattle.std.proofs.Common.{◌≡◌, Bool, false, ℕ, List, [], ◌∷◌, map, refl, ap, ◌∙◌}
 use Rattle.std.specs.FinMap.{entries, entries-insert, insert, put}
 use Rattle.std.specs.FinMap.Entries.{by_order}
 use Rattle.std.specs.List.{list_any}
@@ -8,21 +8,12 @@ use Rattle.std.specs.Cmp.Lexicographic.{slice_cmp}
 use Rattle.std.specs.declared.cmp.Ordering.{Ordering}
 use Rattle.std.specs.declared.cmp.Ordering.TheVariants.{Less, Equal, Greater}
 use Rattle.std.proofs.lemmas.Cmp.{nat_list_cmp_total}
+use Rattle.mt_facts.proofs.Truth.{left_false, right_false}
+use Rattle.std.proofs.lemmas.Bool.{or_from}
 use Rattle.mt_shelf.specs.Files.{Draft, Files, gained_files, stands}
 use Rattle.mt_shelf.specs.Held.{files_in}
 use Rattle.mt_shelf.specs.KeptPaths.{entries-empty}
 use Rattle.mt_shelf.specs.Paths.{is_at_or_below, joined_path}
-
-neither : (a b : Bool) → a ≡ false → b ≡ false → (a || b) ≡ false
-neither a b p q = rw (p, q) refl
-
-first_fails : (a b : Bool) → (a || b) ≡ false → a ≡ false
-first_fails true b e = cc
-first_fails false b e = refl
-
-second_fails : (a b : Bool) → (a || b) ≡ false → b ≡ false
-second_fails true b e = cc
-second_fails false b e = e
 
 -- ---- keys
 
@@ -30,16 +21,16 @@ abbrev any_key : (List ℕ → Bool) → List (List ℕ × List ℕ) → Bool
 any_key test files = list_any test (map (λ file. file.0) files)
 
 none_put : (test : List ℕ → Bool) (path bytes : List ℕ) (files : List (List ℕ × List ℕ)) → test path ≡ false → any_key test files ≡ false → any_key test (put (slice_cmp nat_cmp) path bytes files) ≡ false
-none_put test path bytes [] fails none = neither (test path) false fails refl
-none_put test path bytes (file ∷ files) fails none = by (slice_cmp nat_cmp path file.0) (none_put test path bytes files fails (second_fails (test file.0) (any_key test files) none))
+none_put test path bytes [] fails none = or_from (test path) false fails refl
+none_put test path bytes (file ∷ files) fails none = by (slice_cmp nat_cmp path file.0) (none_put test path bytes files fails (right_false (test file.0) (any_key test files) none))
   where
     here : test file.0 ≡ false
-    here = first_fails (test file.0) (any_key test files) none
+    here = left_false (test file.0) (any_key test files) none
 
     by : (o : Ordering) → any_key test (put (slice_cmp nat_cmp) path bytes files) ≡ false → any_key test (by_order o ((path, bytes) ∷ file ∷ files) ((file.0, bytes) ∷ files) (file ∷ put (slice_cmp nat_cmp) path bytes files)) ≡ false
-    by Less rest = neither (test path) (any_key test (file ∷ files)) fails none
+    by Less rest = or_from (test path) (any_key test (file ∷ files)) fails none
     by Equal rest = none
-    by Greater rest = neither (test file.0) (any_key test (put (slice_cmp nat_cmp) path bytes files)) here rest
+    by Greater rest = or_from (test file.0) (any_key test (put (slice_cmp nat_cmp) path bytes files)) here rest
 
 -- ---- a part
 

@@ -1,5 +1,5 @@
 -- The rows of the trial's projection: a key, a count and a sum, one for each key.
-use Rattle.std.proofs.Common.{◌≡◌, ℕ, ◌%◌, ◌^◌, ◌≤◌, arith, Bool, not, List, [], ◌∷◌, ◌++◌, length, map, refl, ap, sym, subst}
+use Rattle.std.proofs.Common.{◌≡◌, ℕ, ◌%◌, ◌^◌, ◌≤◌, arith, Bool, List, [], ◌∷◌, ◌++◌, length, map, refl, ap, sym, subst}
 use Rattle.std.specs.Prelude.{All, IsTrue, pos}
 use Rattle.std.proofs.lemmas.List.{length-map}
 use Rattle.std.proofs.lemmas.List.Elements.{All-map, All-weaker}
@@ -14,14 +14,14 @@ use Rattle.mt_table.specs.Kept.{keeps_rules}
 use Rattle.mt_table.specs.Rows.{cell_count}
 use Rattle.mt_table.specs.Stored.{inner_of}
 use Rattle.mt_table.specs.Tables.{table_with}
-use Rattle.mt_defs.specs.Folds.{number_of, wrapped_sum}
+use Rattle.mt_defs.specs.Folds.{number_taken, wrapped_sum}
 use Rattle.mt_defs.specs.Lists.{distinct_by}
 use Rattle.mt_defs.specs.Projections.{is_same_key, with_key}
 use Rattle.mt_defs.specs.Rows.{Row, key_of}
 use Rattle.mt_defs.specs.Sorting.{sorted_rows}
 use Rattle.mt_defs.specs.Writer.{folded_row, projection_rows}
 use Rattle.mt_defs.proofs.Sorted.{length-sorted_rows}
-use Rattle.mt_build.proofs.ProjectionRowLemmas.{All-distinct_by}
+use Rattle.mt_defs.proofs.ListLemmas.{All-distinct_by, length-distinct_by}
 use Rattle.mt_trial.specs.Tables.{trial_fields, trial_projection}
 use Rattle.mt_trial.specs.declared.rows.TheConstants.{MAX_TRIAL_ROWS}
 use Rattle.mt_trial.proofs.CellLemmas.{HasNone, cells_are, num_none, state_none}
@@ -30,16 +30,6 @@ use Rattle.mt_trial.proofs.TrialRows.{IsTrialRow, all_trial, sorted_trial}
 -- its rows
 abbrev pub group_rows : IsTrue (keeps_rules trial_fields) → List Row → List Row
 group_rows rules rows = projection_rows (table_with trial_fields rules) trial_projection rows
-
--- ---- how many distinct elements there are
-
-few_distinct : {X : Type 0} (same : X → X → Bool) (xs : List X) → length (distinct_by same xs) ≤ length xs
-few_distinct same [] = omega arith
-few_distinct same (x ∷ xs) =
-    let later = few_distinct same xs in
-    let kept = length-filter (λ y. not (same x y)) (distinct_by same xs) in
-    let few = count_by-le-length (λ y. not (same x y)) (distinct_by same xs) in
-    omega (arith, later, kept, few)
 
 -- ---- their values
 
@@ -65,10 +55,10 @@ keys_known rows are =
     All-distinct_by IsGroupKey is_same_key (map (key_of (1 ∷ [])) sorted)
     (All-map IsGroupKey (key_of (1 ∷ [])) sorted (all_trial (λ row. IsGroupKey (key_of (1 ∷ []) row)) (λ x. (x % 100, refl)) sorted (sorted_trial (1 ∷ []) rows are)))
 
-count_few : (key : List Value) (rows : List Row) → length (map (number_of aggregate.Count) (with_key (1 ∷ []) key rows)) % 2 ^ 64 ≤ length rows
+count_few : (key : List Value) (rows : List Row) → length (map (number_taken aggregate.Count) (with_key (1 ∷ []) key rows)) % 2 ^ 64 ≤ length rows
 count_few key rows =
     let same : Row → Bool = λ row. is_same_key key (key_of (1 ∷ []) row) in
-    let all = length-map (with_key (1 ∷ []) key rows) (number_of aggregate.Count) in
+    let all = length-map (with_key (1 ∷ []) key rows) (number_taken aggregate.Count) in
     let kept = length-filter same rows in
     let few = count_by-le-length same rows in
     omega (arith, all, kept, few)
@@ -76,11 +66,11 @@ count_few key rows =
 group_row : (rows : List Row) (key : List Value) → IsGroupKey key → IsGroupRow (length rows) (folded_row trial_projection rows key)
 group_row rows key is =
     let some : List Row = with_key (1 ∷ []) key rows in
-    let states : List Value = State (state.Count (length (map (number_of aggregate.Count) some) % 2 ^ 64)) ∷ State (state.Sum (wrapped_sum (map (number_of (aggregate.Of Sum 2)) some))) ∷ [] in
+    let states : List Value = State (state.Count (length (map (number_taken aggregate.Count) some) % 2 ^ 64)) ∷ State (state.Sum (wrapped_sum (map (number_taken (aggregate.Of Sum 2)) some))) ∷ [] in
     record {
       k = is.0;
-      count = length (map (number_of aggregate.Count) some) % 2 ^ 64;
-      sum = wrapped_sum (map (number_of (aggregate.Of Sum 2)) some);
+      count = length (map (number_taken aggregate.Count) some) % 2 ^ 64;
+      sum = wrapped_sum (map (number_taken (aggregate.Of Sum 2)) some);
       few = count_few key rows;
       is = ap (λ (k : List Value). k ++ states) is.1;
     }
@@ -96,7 +86,7 @@ pub groups_few : (rules : IsTrue (keeps_rules trial_fields)) (rows : List Row) �
 groups_few rules rows =
     let sorted = sorted_rows (1 ∷ []) rows in
     let one = length-map (group_keys rows) (folded_row trial_projection rows) in
-    let two = few_distinct is_same_key (map (key_of (1 ∷ [])) sorted) in
+    let two = length-distinct_by is_same_key (map (key_of (1 ∷ [])) sorted) in
     let three = length-map sorted (key_of (1 ∷ [])) in
     omega (arith, one, two, three, length-sorted_rows (1 ∷ []) rows)
 

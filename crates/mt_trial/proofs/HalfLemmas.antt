@@ -7,7 +7,7 @@ use Rattle.mt_defs.specs.Partition.{HaveOnePartition}
 use Rattle.std.specs.List.Sorted.{IsSorted}
 use Rattle.mt_fault.specs.declared.file.FileBytes.{FileBytes}
 use Rattle.mt_defs.specs.Writer.{written_folder}
-use Rattle.mt_command.specs.Status.{Gives}
+use Rattle.mt_command.specs.Status.{GivesOutcome}
 use Rattle.mt_command.specs.Targets.{within_limit}
 use Rattle.mt_command.specs.declared.status.Status.{Status}
 use Rattle.mt_trial.specs.Steps.{half_folder}
@@ -42,6 +42,6 @@ pub sorted_order : (table : Table) (half sorted : List Row) → sorted ≡ sorte
 sorted_order table half sorted is = subst (IsSorted (key_cmp table.sort)) (sym is) (IsSorted-sorted_rows table.sort half)
 
 pub half_given : (table : Table) (number rows remainder : ℕ) (half sorted : List Row) (r : Result (List FileBytes) Status) → half ≡ half_rows number rows remainder → sorted ≡ sorted_rows table.sort half
-    → Gives r (within_limit (written_folder table sorted)) → Gives r (half_folder table number rows remainder)
+    → GivesOutcome r (within_limit (written_folder table sorted)) → GivesOutcome r (half_folder table number rows remainder)
 half_given table number rows remainder half sorted r made is gives =
-    let P : List Row → Type 0 = λ rows. Gives r (within_limit (written_folder table rows)) in subst P (is ∙ ap (sorted_rows table.sort) made) gives
+    let P : List Row → Type 0 = λ rows. GivesOutcome r (within_limit (written_folder table rows)) in subst P (is ∙ ap (sorted_rows table.sort) made) gives

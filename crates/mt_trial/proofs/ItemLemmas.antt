@@ -20,7 +20,7 @@ use Rattle.mt_types.specs.declared.value.Value.TheVariants.{Num, Text, State, ou
 use Rattle.mt_types.specs.Items.{item_bytes, item_step, state_at, text_at, whole_at}
 use Rattle.mt_types.specs.Leb128.{leb128}
 use Rattle.mt_types.proofs.Leb128Lemmas.{leb128_more, leb128_small}
-use Rattle.mt_trial.specs.Rows.{text_of}
+use Rattle.mt_trial.specs.Rows.{text_of_number}
 
 -- a test that all numbers below a bound pass
 pub below_pass : (test : ℕ → Bool) (bound k : ℕ) → list_all test (range_with_len 0 bound) ≡ true → k < bound → test k ≡ true
@@ -42,14 +42,14 @@ u32_size n = ap length (item_at (UInt W32) _ (Num (pos n)) (outs-UInt W32) ∙ a
 pub u64_size : (n : ℕ) → length (item_bytes (UInt W64) (Num (pos n))) ≡ 8
 u64_size n = ap length (item_at (UInt W64) _ (Num (pos n)) (outs-UInt W64) ∙ ap (whole_at w64) (outs-Num (pos n)))
 
-text_few : (k : ℕ) → k < 100 → nat_le (length (leb128 (length (text_of k)) ++ text_of k)) 4 ≡ true
+text_few : (k : ℕ) → k < 100 → nat_le (length (leb128 (length (text_of_number k)) ++ text_of_number k)) 4 ≡ true
 unfolding digits leb128
-text_few k small = below_pass (λ k. nat_le (length (leb128 (length (text_of k)) ++ text_of k)) 4) 100 k refl small
+text_few k small = below_pass (λ k. nat_le (length (leb128 (length (text_of_number k)) ++ text_of_number k)) 4) 100 k refl small
 
-pub text_size : (k : ℕ) → k < 100 → length (item_bytes Str (Text (text_of k))) ≤ 4
+pub text_size : (k : ℕ) → k < 100 → length (item_bytes Str (Text (text_of_number k))) ≤ 4
 text_size k small =
-    let is : length (item_bytes Str (Text (text_of k))) ≡ length (leb128 (length (text_of k)) ++ text_of k) = ap length (item_at Str _ (Text (text_of k)) outs-Str ∙ ap text_at (outs-Text (text_of k))) in
-    omega (arith, is, leb-true (length (leb128 (length (text_of k)) ++ text_of k)) 4 (text_few k small))
+    let is : length (item_bytes Str (Text (text_of_number k))) ≡ length (leb128 (length (text_of_number k)) ++ text_of_number k) = ap length (item_at Str _ (Text (text_of_number k)) outs-Str ∙ ap text_at (outs-Text (text_of_number k))) in
+    omega (arith, is, leb-true (length (leb128 (length (text_of_number k)) ++ text_of_number k)) 4 (text_few k small))
 
 -- ---- states
 

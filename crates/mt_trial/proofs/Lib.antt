@@ -17,10 +17,10 @@ mod HalfLemmas
 mod AnswerLemmas
 mod MergedLemmas
 mod CauseLemmas
-mod OnlyLemmas
+pub mod OnlyLemmas
 mod FreeLemmas
-mod PartLemmas
-mod MergeOnly
+pub mod PartLemmas
+pub mod MergeOnly
 mod AnswersOnly
 mod TrialOnly
 mod ReadyLemmas

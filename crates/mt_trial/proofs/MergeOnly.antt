@@ -17,7 +17,7 @@ use Rattle.mt_command.specs.Status.{◌>>=◌}
 use Rattle.mt_command.specs.Targets.{free_target}
 use Rattle.mt_command.specs.declared.status.Status.{Status}
 use Rattle.mt_headline.specs.Storable.{AreStorable}
-use Rattle.mt_merging.specs.Inputs.{all_rows, are_ready, are_together, folder_of, with_input}
+use Rattle.mt_merging.specs.Inputs.{all_rows, are_ready, are_together, folder_of_rows, with_input}
 use Rattle.mt_merging.specs.Merge.{input_steps, inputs_steps, merge_table_steps}
 use Rattle.mt_merging.specs.Rooms.{have_room, within_limits}
 use Rattle.mt_trial.specs.Steps.{half_names}
@@ -26,7 +26,7 @@ use Rattle.mt_trial.proofs.PartLemmas.{HasPart, is_there}
 
 -- ---- the inputs are of one partition and within the limits
 
-few_left : (rows cells row_room cell_room : ℕ) → rows ≤ row_room → cells ≤ cell_room → have_room rows cells row_room cell_room ≡ Ok tt
+pub few_left : (rows cells row_room cell_room : ℕ) → rows ≤ row_room → cells ≤ cell_room → have_room rows cells row_room cell_room ≡ Ok tt
 few_left rows cells row_room cell_room few less = rw (le-ltb row_room rows few, le-ltb cell_room cells less) refl
 
 within : (table : Table) (rows : List Row) → AreStorable table rows → within_limits table rows ≡ Ok tt
@@ -71,7 +71,7 @@ both_ready : (table : Table) (target : List ℕ) (a b : List Row) (files : Files
 both_ready table target a b files even odd free = rw (is_there table (codes "even") a files even, is_there table (codes "odd") b files odd, free) refl
 
 pub merge_only : (table : Table) (target : List ℕ) (a b : List Row) (files : Files) (folder : List FileBytes) → HasPart table (codes "even") a files → HasPart table (codes "odd") b files → stands target files ≡ false
-    → AreStorable table a → AreStorable table (all_rows (a ∷ b ∷ [])) → folder_of table (merged_rows table.sort (a ∷ b ∷ [])) ≡ Ok folder → IsOnly (merge_table_steps table target half_names files) folder
+    → AreStorable table a → AreStorable table (all_rows (a ∷ b ∷ [])) → folder_of_rows table (merged_rows table.sort (a ∷ b ∷ [])) ≡ Ok folder → IsOnly (merge_table_steps table target half_names files) folder
 merge_only table target a b files folder even odd free are all made =
     then_only _ _ tt folder (given_only (are_ready target half_names files) tt (both_ready table target a b files even odd free))
-    (then_only (inputs_steps table files [] half_names) _ (a ∷ b ∷ []) folder (inputs_only table files a b even odd are all) (given_only (folder_of table (merged_rows table.sort (a ∷ b ∷ []))) folder made))
+    (then_only (inputs_steps table files [] half_names) _ (a ∷ b ∷ []) folder (inputs_only table files a b even odd are all) (given_only (folder_of_rows table (merged_rows table.sort (a ∷ b ∷ []))) folder made))

@@ -11,7 +11,7 @@ use Rattle.mt_defs.specs.Rows.{Row}
 use Rattle.mt_defs.specs.Sorting.{sorted_rows}
 use Rattle.mt_defs.specs.Writer.{written_folder}
 use Rattle.mt_definition.specs.declared.accepted.Accepted.{Accepted}
-use Rattle.mt_command.specs.Parts.{part_files, part_steps}
+use Rattle.mt_command.specs.Parts.{listed_part, part_steps}
 use Rattle.mt_command.specs.Targets.{free_target, within_limit}
 use Rattle.mt_command.specs.declared.status.Status.{Status}
 use Rattle.mt_headline.specs.Storable.{AreStorable}
@@ -51,7 +51,7 @@ pub record HasPart (table : Table) (part : List ℕ) (rows : List Row) (files : 
   pub given : part_steps table part files (Ok accepted)
   pub only : IsOnly (part_steps table part files) accepted
 
-there_by : (part : List ℕ) (found : Option (List Entry)) (listing : List Entry) → Ok listing ≡ part_files part found → some_files part found ≡ Ok tt
+there_by : (part : List ℕ) (found : Option (List Entry)) (listing : List Entry) → Ok listing ≡ listed_part part found → some_files part found ≡ Ok tt
 there_by part None listing e = cc
 there_by part (Some list) listing e = refl
 

@@ -15,7 +15,7 @@ use Rattle.mt_table.specs.Tables.{table_with}
 use Rattle.mt_defs.specs.PrimaryIndex.{key_bytes}
 use Rattle.mt_defs.specs.Rows.{Row, cell}
 use Rattle.mt_trial.specs.declared.rows.TheConstants.{FIRST_DAY, MAX_TRIAL_ROWS}
-use Rattle.mt_trial.specs.Rows.{row_of}
+use Rattle.mt_trial.specs.Rows.{row_of_number}
 use Rattle.mt_trial.specs.Tables.{trial_columns, trial_fields, trial_projection}
 use Rattle.mt_trial.proofs.GroupRows.{IsGroupRow, group_rows, groups_known}
 use Rattle.mt_trial.proofs.ItemLemmas.{count_size, day_size, sum_size, text_size, u32_size, u64_size}
@@ -23,23 +23,23 @@ use Rattle.mt_trial.proofs.TrialRows.{IsTrialRow, all_trial}
 
 -- ---- a trial's rows
 
-pub day_item : (x : ℕ) → length (item_bytes Date (cell (row_of x) 0)) ≤ 2
+pub day_item : (x : ℕ) → length (item_bytes Date (cell (row_of_number x) 0)) ≤ 2
 day_item x = omega (arith, day_size (FIRST_DAY + x % 31))
 
-pub k_item : (x : ℕ) → length (item_bytes (UInt W32) (cell (row_of x) 1)) ≤ 4
+pub k_item : (x : ℕ) → length (item_bytes (UInt W32) (cell (row_of_number x) 1)) ≤ 4
 k_item x = omega (arith, u32_size (x % 100))
 
-pub v_item : (x : ℕ) → length (item_bytes (UInt W64) (cell (row_of x) 2)) ≤ 8
+pub v_item : (x : ℕ) → length (item_bytes (UInt W64) (cell (row_of_number x) 2)) ≤ 8
 v_item x = omega (arith, u64_size (x / 100 % 1000))
 
-pub text_item : (x : ℕ) → length (item_bytes Str (cell (row_of x) 3)) ≤ 4
+pub text_item : (x : ℕ) → length (item_bytes Str (cell (row_of_number x) 3)) ≤ 4
 text_item x = text_size (x % 100) (mod_below x 100 (lit≤ tt))
 
 -- the key (k, v)
-pub row_key_size : (x : ℕ) → length (key_bytes trial_columns (1 ∷ 2 ∷ []) (row_of x)) ≤ 12
+pub row_key_size : (x : ℕ) → length (key_bytes trial_columns (1 ∷ 2 ∷ []) (row_of_number x)) ≤ 12
 row_key_size x =
-    let k : List ℕ = item_bytes (UInt W32) (cell (row_of x) 1) in
-    let v : List ℕ = item_bytes (UInt W64) (cell (row_of x) 2) in
+    let k : List ℕ = item_bytes (UInt W32) (cell (row_of_number x) 1) in
+    let v : List ℕ = item_bytes (UInt W64) (cell (row_of_number x) 2) in
     let both : length (k ++ (v ++ [])) ≡ length k + length v = length-append k (v ++ []) ∙ ap (λ (rest : List ℕ). length k + length rest) (append-nil v) in
     omega (arith, both, k_item x, v_item x)
 

@@ -14,7 +14,6 @@ use Rattle.std.proofs.lemmas.Nat.{mod_below}
 use Rattle.mt_types.specs.declared.ty.Ty.{Ty, map-Ty, out-Ty}
 use Rattle.mt_types.specs.declared.ty.Ty.TheVariants.{UInt, Str, Date, outs-UInt, outs-Str, outs-Date}
 use Rattle.mt_types.specs.declared.ty.Ty.TheOpen.{Ty-F}
-use Rattle.mt_types.specs.declared.ty.Ty.TheFolds.{fold_out-Ty}
 use Rattle.mt_types.specs.declared.ty.Width.TheVariants.{W32, W64}
 use Rattle.mt_types.specs.declared.value.Value.{Value, out-Value}
 use Rattle.mt_types.specs.declared.value.Value.TheVariants.{Num, Text, outs-Num, outs-Text}
@@ -28,8 +27,9 @@ use Rattle.mt_defs.specs.Partition.{HaveOnePartition, expression_bytes, month_at
 use Rattle.mt_defs.specs.Rows.{Row, RowFits}
 use Rattle.mt_defs.specs.Sorting.{sorted_rows}
 use Rattle.mt_defs.proofs.Sorted.{All-sorted_rows}
+use Rattle.mt_item.proofs.ItemLemmas.{test_at}
 use Rattle.mt_trial.specs.declared.rows.TheConstants.{FIRST_DAY}
-use Rattle.mt_trial.specs.Rows.{half_places, half_rows, row_at, row_of, text_of, x_at}
+use Rattle.mt_trial.specs.Rows.{half_places, half_rows, trial_row, row_of_number, text_of_number, x_at}
 use Rattle.mt_trial.specs.Tables.{trial_columns, trial_partition}
 use Rattle.mt_trial.proofs.ItemLemmas.{below_pass}
 
@@ -44,43 +44,40 @@ is_half remainder i = i % 2 == remainder
 places_next : (n remainder : ℕ) → half_places (n + 1) remainder ≡ half_places n remainder ++ filter (is_half remainder) (n ∷ [])
 places_next n remainder = ap (filter (is_half remainder)) (range_next n) ∙ filter-append (is_half remainder) (range_with_len 0 n) (n ∷ [])
 
-rows_next : (number n remainder : ℕ) → half_rows number (n + 1) remainder ≡ half_rows number n remainder ++ map (row_at number) (filter (is_half remainder) (n ∷ []))
-rows_next number n remainder = ap (map (row_at number)) (places_next n remainder) ∙ map-append (row_at number) (half_places n remainder) (filter (is_half remainder) (n ∷ []))
+rows_next : (number n remainder : ℕ) → half_rows number (n + 1) remainder ≡ half_rows number n remainder ++ map (trial_row number) (filter (is_half remainder) (n ∷ []))
+rows_next number n remainder = ap (map (trial_row number)) (places_next n remainder) ∙ map-append (trial_row number) (half_places n remainder) (filter (is_half remainder) (n ∷ []))
 
 -- a place of this half
-pub row_taken : (number n remainder : ℕ) → n % 2 ≡ remainder → half_rows number (n + 1) remainder ≡ half_rows number n remainder ++ row_at number n ∷ []
+pub row_taken : (number n remainder : ℕ) → n % 2 ≡ remainder → half_rows number (n + 1) remainder ≡ half_rows number n remainder ++ trial_row number n ∷ []
 row_taken number n remainder is =
     let here : is_half remainder n ≡ true = eq-eqb (n % 2) remainder is in
-    rows_next number n remainder ∙ ap (λ b. half_rows number n remainder ++ map (row_at number) (if b then n ∷ [] else [])) here
+    rows_next number n remainder ∙ ap (λ b. half_rows number n remainder ++ map (trial_row number) (if b then n ∷ [] else [])) here
 
 -- a place of the other half
 pub row_passed : (number n remainder : ℕ) → ¬ (n % 2 ≡ remainder) → half_rows number (n + 1) remainder ≡ half_rows number n remainder
 row_passed number n remainder isnt =
     let other : is_half remainder n ≡ false = ne_eqb (n % 2) remainder isnt in
-    rows_next number n remainder ∙ ap (λ b. half_rows number n remainder ++ map (row_at number) (if b then n ∷ [] else [])) other ∙ append-nil (half_rows number n remainder)
+    rows_next number n remainder ∙ ap (λ b. half_rows number n remainder ++ map (trial_row number) (if b then n ∷ [] else [])) other ∙ append-nil (half_rows number n remainder)
 
 -- ---- they fit
-
-fits_at : (ty : Ty) (level : Ty-F Ty) (v : Value) → out-Ty ty ≡ level → fits_of ty v ≡ fits_step (map-Ty Ty (Value → Bool) fits_of level) v
-fits_at ty level v is = ap (λ (f : Value → Bool). f v) (fold_out-Ty (Value → Bool) fits_step ty ∙ ap (λ l. fits_step (map-Ty Ty (Value → Bool) fits_of l)) is)
 
 number_fits : (ty : Ty) (level : Ty-F Ty) (size n : ℕ) → out-Ty ty ≡ level → ((v : Value) → fits_step (map-Ty Ty (Value → Bool) fits_of level) v ≡ num_at (is_unsigned size) (out-Value v)) → n < 2 ^ size
     → fits_of ty (Num (pos n)) ≡ true
 number_fits ty level size n is step small =
-    fits_at ty level (Num (pos n)) is ∙ step (Num (pos n)) ∙ ap (num_at (is_unsigned size)) (outs-Num (pos n)) ∙ lt-ltb n (2 ^ size) small
+    test_at ty level (Num (pos n)) is ∙ step (Num (pos n)) ∙ ap (num_at (is_unsigned size)) (outs-Num (pos n)) ∙ lt-ltb n (2 ^ size) small
 
 abbrev fits_text : List ℕ → Bool
 fits_text bytes = nat_le (length bytes) MAX_TEXT && list_all is_byte bytes
 
-text_passes : (k : ℕ) → k < 100 → fits_text (text_of k) ≡ true
+text_passes : (k : ℕ) → k < 100 → fits_text (text_of_number k) ≡ true
 unfolding digits
-text_passes k small = below_pass (λ k. fits_text (text_of k)) 100 k refl small
+text_passes k small = below_pass (λ k. fits_text (text_of_number k)) 100 k refl small
 
-text_fits : (k : ℕ) → k < 100 → fits_of Str (Text (text_of k)) ≡ true
+text_fits : (k : ℕ) → k < 100 → fits_of Str (Text (text_of_number k)) ≡ true
 text_fits k small =
-    fits_at Str _ (Text (text_of k)) outs-Str ∙ ap (text_at fits_text) (outs-Text (text_of k)) ∙ text_passes k small
+    test_at Str _ (Text (text_of_number k)) outs-Str ∙ ap (text_at fits_text) (outs-Text (text_of_number k)) ∙ text_passes k small
 
-pub row_fits : (x : ℕ) → RowFits trial_columns (row_of x)
+pub row_fits : (x : ℕ) → RowFits trial_columns (row_of_number x)
 row_fits x =
     let day : x % 31 < 31 = mod_below x 31 (lit≤ tt) in
     let k : x % 100 < 100 = mod_below x 100 (lit≤ tt) in
@@ -93,7 +90,7 @@ row_fits x =
     )
 
 pub half_fits : (number rows remainder : ℕ) → All (RowFits trial_columns) (half_rows number rows remainder)
-half_fits number rows remainder = All-map (RowFits trial_columns) (row_at number) (half_places rows remainder) (λ k d within. row_fits (x_at number (get_or (half_places rows remainder) k d)))
+half_fits number rows remainder = All-map (RowFits trial_columns) (trial_row number) (half_places rows remainder) (λ k d within. row_fits (x_at number (get_or (half_places rows remainder) k d)))
 
 -- ---- there is one in each half
 
@@ -117,14 +114,14 @@ in_month r small =
 abbrev pub january : List ℕ
 january = to_le_bytes w32 202401 ++ []
 
-pub row_month : (table : Table) (x : ℕ) → table.partition ≡ trial_partition → partition_bytes table (row_of x) ≡ january
+pub row_month : (table : Table) (x : ℕ) → table.partition ≡ trial_partition → partition_bytes table (row_of_number x) ≡ january
 row_month table x is =
     let month : month_at (out-Value (Num (pos (FIRST_DAY + x % 31)))) ≡ 202401 = ap month_at (outs-Num (pos (FIRST_DAY + x % 31))) ∙ in_month (x % 31) (mod_below x 31 (lit≤ tt)) in
-    ap (λ (partition : List PartExpr). flat_map (expression_bytes table.columns (row_of x)) partition) is ∙ ap (λ m. to_le_bytes w32 m ++ []) month
+    ap (λ (partition : List PartExpr). flat_map (expression_bytes table.columns (row_of_number x)) partition) is ∙ ap (λ m. to_le_bytes w32 m ++ []) month
 
 pub half_month : (table : Table) (number rows remainder : ℕ) → table.partition ≡ trial_partition → HaveOnePartition table (sorted_rows table.sort (half_rows number rows remainder))
 half_month table number rows remainder is =
     let P : Row → Type 0 = λ row. partition_bytes table row ≡ january in
-    let half : All P (half_rows number rows remainder) = All-map P (row_at number) (half_places rows remainder) (λ k d within. row_month table (x_at number (get_or (half_places rows remainder) k d)) is) in
+    let half : All P (half_rows number rows remainder) = All-map P (trial_row number) (half_places rows remainder) (λ k d within. row_month table (x_at number (get_or (half_places rows remainder) k d)) is) in
     let all = All-sorted_rows P table.sort (half_rows number rows remainder) half in
     λ a b in_a in_b. All-contains P (sorted_rows table.sort (half_rows number rows remainder)) a all in_a ∙ sym (All-contains P (sorted_rows table.sort (half_rows number rows remainder)) b all in_b)

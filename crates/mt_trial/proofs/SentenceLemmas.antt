@@ -21,7 +21,7 @@ use Rattle.mt_tokens.specs.Numbers.{number_of}
 use Rattle.std.proofs.lemmas.List.{append-nil}
 use Rattle.mt_table.specs.ColumnTypes.{is_state_at}
 use Rattle.mt_syntax.specs.Reading.{sentence_at, expression_at, clause_at, more_clauses, engine_at, body_at, rest_at}
-use Rattle.mt_element_syntax.specs.Reading.{type_at, column_at, index_at, projection_at, element_at}
+use Rattle.mt_element_syntax.specs.Reading.{type_at, column_element_at, index_at, projection_element_at, element_at}
 use Rattle.mt_phrases.specs.Selections.{item_at}
 use Rattle.mt_table_rules.specs.Columns.{columns_of}
 use Rattle.mt_table_rules.specs.TypeTexts.{column_type_of, column_type_if}
@@ -58,7 +58,7 @@ sentence = record {
 }
 
 pub sentence_is : option_and_then sentence_at (tokens_of trial_table_text) ≡ Some sentence
-unfolding trial_table_text tokens_from token_at number_of more sentence_at type_at column_at index_at item_at projection_at element_at expression_at clause_at more_clauses engine_at body_at rest_at
+unfolding trial_table_text tokens_from token_at number_of more sentence_at type_at column_element_at index_at item_at projection_element_at element_at expression_at clause_at more_clauses engine_at body_at rest_at
 sentence_is = refl
 
 -- ---- its columns

@@ -14,7 +14,7 @@ use Rattle.mt_table.specs.Kept.{keeps_rules}
 use Rattle.mt_table_names.specs.Present.{all_are_there}
 use Rattle.mt_table_rules.specs.Rules.{are_few, has_form, has_keys, is_index, is_partition, is_uncompressed}
 use Rattle.mt_table_text.specs.Judging.{fields_judged, fields_of, from_codecs, from_forms, from_indexes, from_keys, from_partition, from_settings}
-use Rattle.mt_table_names.specs.Sentence.{column_names}
+use Rattle.mt_table_names.specs.Sentence.{column_element_names}
 use Rattle.mt_table_rules.specs.SettingTexts.{settings_of}
 use Rattle.mt_table.specs.declared.definition.Table.{Table}
 use Rattle.mt_table.specs.Tables.{table_with}
@@ -46,7 +46,7 @@ settings_are = refl
 fields_read : fields_judged sentence ≡ Ok trial_fields
 fields_read =
     let present = begun sentence trial_columns (sym columns_are) refl in
-    let keys = kept (all_are_there (column_names elements) sentence) NoSuchColumn (from_keys trial_columns sentence) (fields_judged sentence) present refl in
+    let keys = kept (all_are_there (column_element_names elements) sentence) NoSuchColumn (from_keys trial_columns sentence) (fields_judged sentence) present refl in
     let partition = kept (has_keys trial_columns sentence) BadKey (from_partition trial_columns sentence) (fields_judged sentence) keys keys_are in
     let indexes = kept (is_partition trial_columns sentence.partition) BadPartition (from_indexes trial_columns sentence) (fields_judged sentence) partition partition_is in
     let forms = kept (list_all (is_index trial_columns) elements) BadSkip (from_forms trial_columns sentence) (fields_judged sentence) indexes indexes_are in

@@ -12,7 +12,7 @@ use Rattle.mt_command.specs.Tables.{table_of}
 use Rattle.mt_command.specs.Targets.{within_limit}
 use Rattle.mt_command.specs.declared.status.Status.TheVariants.{BadTable}
 use Rattle.mt_headline.specs.Storable.{AreStorable}
-use Rattle.mt_merging.specs.Inputs.{all_rows, folder_of}
+use Rattle.mt_merging.specs.Inputs.{all_rows, folder_of_rows}
 use Rattle.mt_merging.specs.Merge.{merge_table_steps}
 use Rattle.mt_trial.specs.Rows.{half_rows}
 use Rattle.mt_trial.specs.Steps.{answers_of, half_folder, half_names, merge_answers, part_answers, trial_steps, two_parts, with_part}
@@ -81,7 +81,7 @@ module _ (laws : PartLaws) (number rows : ℕ) where
 
     -- ---- the steps
 
-    folder_made : folder_of trial_table merged ≡ Ok (folder merged)
+    folder_made : folder_of_rows trial_table merged ≡ Ok (folder merged)
     folder_made = rw ready_merged.storable.projection_limit ready_merged.small
 
     part_only : IsOnly (part_answers trial_table all) (trial_text number rows)

@@ -11,20 +11,20 @@ use Rattle.std.proofs.lemmas.Nat.{mod_below}
 use Rattle.mt_defs.specs.Rows.{Row}
 use Rattle.mt_defs.specs.Sorting.{merged_rows, sorted_rows}
 use Rattle.mt_defs.proofs.Sorted.{All-sorted_rows, length-sorted_rows}
-use Rattle.mt_trial.specs.Rows.{half_places, half_rows, row_at, row_of, x_at}
+use Rattle.mt_trial.specs.Rows.{half_places, half_rows, trial_row, row_of_number, x_at}
 
 -- a row of a trial
 abbrev pub IsTrialRow : Row → Type 0
-IsTrialRow row = (x : ℕ) × (row ≡ row_of x)
+IsTrialRow row = (x : ℕ) × (row ≡ row_of_number x)
 
 -- what holds of the row of each number
-pub all_trial : (P : Row → Type 0) → ((x : ℕ) → P (row_of x)) → (rows : List Row) → All IsTrialRow rows → All P rows
+pub all_trial : (P : Row → Type 0) → ((x : ℕ) → P (row_of_number x)) → (rows : List Row) → All IsTrialRow rows → All P rows
 all_trial P holds rows are = All-weaker IsTrialRow P (λ row is. subst P (sym is.1) (holds is.0)) rows are
 
 -- ---- where they come from
 
 pub half_trial : (number rows remainder : ℕ) → All IsTrialRow (half_rows number rows remainder)
-half_trial number rows remainder = All-map IsTrialRow (row_at number) (half_places rows remainder) (λ k d within. (x_at number (get_or (half_places rows remainder) k d), refl))
+half_trial number rows remainder = All-map IsTrialRow (trial_row number) (half_places rows remainder) (λ k d within. (x_at number (get_or (half_places rows remainder) k d), refl))
 
 pub sorted_trial : (sort : List ℕ) (rows : List Row) → All IsTrialRow rows → All IsTrialRow (sorted_rows sort rows)
 sorted_trial = All-sorted_rows IsTrialRow
@@ -44,8 +44,8 @@ odd_is i = by (i % 2) (mod_below i 2 (lit≤ tt))
 
 pub half_lengths : (number rows : ℕ) → length (half_rows number rows 0) + length (half_rows number rows 1) ≡ rows
 half_lengths number rows =
-    let even = length-map (half_places rows 0) (row_at number) in
-    let odd = length-map (half_places rows 1) (row_at number) in
+    let even = length-map (half_places rows 0) (trial_row number) in
+    let odd = length-map (half_places rows 1) (trial_row number) in
     let both = length-filter_both (λ i. i % 2 == 0) (λ i. i % 2 == 1) odd_is (range_with_len 0 rows) in
     let all = length-range_with_len 0 rows in
     omega (arith, even, odd, both, all)
@@ -53,7 +53,7 @@ half_lengths number rows =
 pub half_length : (number rows remainder : ℕ) → length (half_rows number rows remainder) ≤ rows
 half_length number rows remainder =
     let half : ℕ → Bool = λ i. i % 2 == remainder in
-    let one = length-map (half_places rows remainder) (row_at number) in
+    let one = length-map (half_places rows remainder) (trial_row number) in
     let kept = length-filter half (range_with_len 0 rows) in
     let few = count_by-le-length half (range_with_len 0 rows) in
     let all = length-range_with_len 0 rows in

@@ -1,36 +1,33 @@
 -- A trial is done, or ends from outside.
-use Rattle.std.proofs.Common.{◌≡◌, ◌⊎◌, inl, inr, ℕ, Bool, true, false, List, Option, Result, Ok, Err, refl, subst, arith}
+use Rattle.std.proofs.Common.{◌≡◌, ◌⊎◌, inl, inr, ℕ, Bool, true, false, List, Option, Result, Ok, Err, refl, subst}
 use Rattle.std.specs.Io.KnownBytes.{append_known}
-use Rattle.mt_shelf.specs.Causes.{Rose}
-use Rattle.mt_command.specs.Outcomes.{Returns, gives}
+use Rattle.mt_command.specs.Outcomes.{ReturnsOutcome, gives}
 use Rattle.mt_command.specs.Plans.{answer_of}
-use Rattle.mt_command.specs.Status.{is_outside}
+use Rattle.mt_command.specs.Status.{is_outside_fault}
 use Rattle.mt_command.specs.Steps.{Counts, Printed, StepCausedBy, of_nothing}
 use Rattle.mt_command.specs.declared.status.Status.{Status}
 use Rattle.mt_command.specs.declared.status.Status.TheVariants.{Done, AtFault, BadWords, NoTable, NoPart, BadTable, BadQuery, Exists, NoRows, BadRows, ManyPartitions, MixedPartitions, TooMuch, SourceFault, ShelfFault, SinkFault, NoMemory}
+use Rattle.mt_command.proofs.RefusedLemmas.{never_rose}
 use Rattle.mt_trial.proofs.OnlyLemmas.{no_value, same_value}
 
 -- ---- before anything is printed
 
-outside_by : (text : List ℕ) (status : Status) (b : Bool) → is_outside status ≡ b → Returns (let r : Result (List ℕ) Status = Err status in r) (gives (Ok text)) → is_outside status ≡ true
+outside_by : (text : List ℕ) (status : Status) (b : Bool) → is_outside_fault status ≡ b → ReturnsOutcome (let r : Result (List ℕ) Status = Err status in r) (gives (Ok text)) → is_outside_fault status ≡ true
 outside_by text status true is returned = is
 outside_by text status false is returned = absurd (no_value status text (returned is))
 
-pub ended_outside : (text : List ℕ) (status : Status) → Returns (let r : Result (List ℕ) Status = Err status in r) (gives (Ok text)) → (status ≡ Done) ⊎ (is_outside status ≡ true)
-ended_outside text status returned = inr (outside_by text status (is_outside status) refl returned)
+pub ended_outside : (text : List ℕ) (status : Status) → ReturnsOutcome (let r : Result (List ℕ) Status = Err status in r) (gives (Ok text)) → (status ≡ Done) ⊎ (is_outside_fault status ≡ true)
+ended_outside text status returned = inr (outside_by text status (is_outside_fault status) refl returned)
 
 pub not_done : {X : Type 0} (status : Status) (before now : Counts) → StepCausedBy (let r : Result (List ℕ) Status = Err status in r) before now → status ≡ Done → X
 not_done status before now cause is = absurd (subst (λ s. StepCausedBy (let r : Result (List ℕ) Status = Err s in r) before now) is cause)
-
-never_rose : {X : Type 0} → Rose 0 0 → X
-never_rose rose = absurd (omega (arith, rose))
 
 pub not_of_shelf : (status : Status) → StepCausedBy (let r : Result (List ℕ) Status = Err status in r) of_nothing of_nothing → ¬ (status ≡ ShelfFault)
 not_of_shelf status cause is = never_rose (subst (λ s. StepCausedBy (let r : Result (List ℕ) Status = Err s in r) of_nothing of_nothing) is cause).0
 
 -- ---- after the text was printed, or a prefix of it
 
-pub print_unrefused : (text : List ℕ) (old new : Option (List ℕ)) (result : Result Unit Status) → Printed text old new result → (answer_of result ≡ Done) ⊎ (is_outside (answer_of result) ≡ true)
+pub print_unrefused : (text : List ℕ) (old new : Option (List ℕ)) (result : Result Unit Status) → Printed text old new result → (answer_of result ≡ Done) ⊎ (is_outside_fault (answer_of result) ≡ true)
 print_unrefused text old new (Ok done) printed = inl refl
 print_unrefused text old new (Err SinkFault) printed = inr refl
 print_unrefused text old new (Err NoMemory) printed = inr refl

@@ -11,16 +11,16 @@ abbrev pub x_at : (number i : ℕ) → ℕ
 x_at number i = (number + STEP * i) % 2 ^ 32
 
 -- `s` and a number
-abbrev pub text_of : ℕ → List ℕ
-text_of k = codes "s" ++ decimal k
+abbrev pub text_of_number : ℕ → List ℕ
+text_of_number k = codes "s" ++ decimal k
 
 -- the row of a number: one of the 31 days of a month, k below 100, v below 1000, and the text of k
-abbrev pub row_of : ℕ → Row
-row_of x = Num (pos (FIRST_DAY + x % 31)) ∷ Num (pos (x % 100)) ∷ Num (pos (x / 100 % 1000)) ∷ Text (text_of (x % 100)) ∷ []
+abbrev pub row_of_number : ℕ → Row
+row_of_number x = Num (pos (FIRST_DAY + x % 31)) ∷ Num (pos (x % 100)) ∷ Num (pos (x / 100 % 1000)) ∷ Text (text_of_number (x % 100)) ∷ []
 
 -- row i of a trial
-abbrev pub row_at : (number i : ℕ) → Row
-row_at number i = row_of (x_at number i)
+abbrev pub trial_row : (number i : ℕ) → Row
+trial_row number i = row_of_number (x_at number i)
 
 -- the places, from 0, of so many rows that leave a remainder by 2: the even ones, or the odd ones
 abbrev pub half_places : (rows remainder : ℕ) → List ℕ
@@ -28,4 +28,4 @@ half_places rows remainder = filter (λ i. i % 2 == remainder) (range_with_len 0
 
 -- the rows of a trial at even places, or at odd ones
 abbrev pub half_rows : (number rows remainder : ℕ) → List Row
-half_rows number rows remainder = map (row_at number) (half_places rows remainder)
+half_rows number rows remainder = map (trial_row number) (half_places rows remainder)

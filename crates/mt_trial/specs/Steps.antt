@@ -13,12 +13,12 @@ use Rattle.mt_command.specs.Parts.{part_steps}
 use Rattle.mt_command.specs.Tables.{table_of}
 use Rattle.mt_command.specs.Targets.{within_limit}
 use Rattle.mt_command.specs.declared.status.Status.{Status}
-use Rattle.mt_select.specs.Select.{query_of}
+use Rattle.mt_select.specs.Select.{query_asked}
 use Rattle.mt_merging.specs.Merge.{merge_table_steps}
 use Rattle.mt_trial.specs.Rows.{half_rows}
 use Rattle.mt_trial.specs.Queries.{totals_text, groups_text, great_text}
 use Rattle.mt_trial.specs.Tables.{trial_table_text}
-use Rattle.mt_trial.specs.Trial.{count_line}
+use Rattle.mt_trial.specs.Trial.{rows_line}
 
 -- ---- the parts
 
@@ -41,18 +41,18 @@ half_names = codes "even" ∷ codes "odd" ∷ []
 -- ---- what is printed
 
 -- the lines of a query's answer over rows
-abbrev pub answer_of : Table → List Row → (text : List ℕ) → Outcomes (List ℕ)
-answer_of table rows text = do
-  query ← query_of table text
+abbrev pub answer_lines : Table → List Row → (text : List ℕ) → Outcomes (List ℕ)
+answer_lines table rows text = do
+  query ← query_asked table text
   gives (Ok (answer_text table query rows))
 
 -- how many rows there are, and the answers of the three queries
 abbrev pub answers_of : Table → List Row → Outcomes (List ℕ)
 answers_of table rows = do
-  totals ← answer_of table rows totals_text
-  groups ← answer_of table rows groups_text
-  great ← answer_of table rows great_text
-  gives (Ok (count_line rows ++ totals ++ groups ++ great))
+  totals ← answer_lines table rows totals_text
+  groups ← answer_lines table rows groups_text
+  great ← answer_lines table rows great_text
+  gives (Ok (rows_line rows ++ totals ++ groups ++ great))
 
 -- ---- all of it
 

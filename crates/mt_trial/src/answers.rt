@@ -1,10 +1,10 @@
 //! What a trial prints of rows.
 
 ghost use Rattle.std.specs.Prelude.{◌≡◌, ◌++◌, IfOk};
-ghost use Rattle.mt_command.specs.Outcomes.{Returns};
+ghost use Rattle.mt_command.specs.Outcomes.{ReturnsOutcome};
 ghost use Rattle.mt_command.specs.Steps.{StepCausedBy, of_nothing};
-ghost use Rattle.mt_trial.specs.Steps.{answer_of, answers_of};
-ghost use Rattle.mt_trial.specs.Trial.{count_line};
+ghost use Rattle.mt_trial.specs.Steps.{answer_lines, answers_of};
+ghost use Rattle.mt_trial.specs.Trial.{rows_line};
 
 use itoa::Buffer;
 use mt_command::Status;
@@ -26,7 +26,7 @@ const GREAT: &str = "SELECT k, v FROM part WHERE v >= 900 ORDER BY ALL LIMIT 2";
 
 /// How many rows there are, as a line.
 fn count_line(alloc: Global, rows: &[Row]) -> Result<List<u8>, NoMemory>
-    ensures { IfOk result (λ line. line ≡ count_line rows.now) }
+    ensures { IfOk result (λ line. line ≡ rows_line rows.now) }
 {
     let mut buffer = Buffer::new();
     let mut line = List::of_bytes(alloc, b"rows ")?;
@@ -37,7 +37,7 @@ fn count_line(alloc: Global, rows: &[Row]) -> Result<List<u8>, NoMemory>
 
 /// The lines of a query's answer over rows.
 fn answer_of(alloc: Global, table: &Table, rows: &[Row], text: &str) -> Result<List<u8>, Status>
-    ensures gives { Returns result (answer_of table.now rows.now text.now) }
+    ensures gives { ReturnsOutcome result (answer_lines table.now rows.now text.now) }
     ensures cause { StepCausedBy result of_nothing of_nothing }
 {
     let query = match read_query(alloc, table, text) {
@@ -58,7 +58,7 @@ fn text_of_answers(
     groups: &[u8],
     great: &[u8],
 ) -> Result<List<u8>, NoMemory>
-    ensures { IfOk result (λ text. text ≡ count_line rows.now ++ totals.now ++ groups.now ++ great.now) }
+    ensures { IfOk result (λ text. text ≡ rows_line rows.now ++ totals.now ++ groups.now ++ great.now) }
 {
     let mut text = count_line(alloc, rows)?;
     text.append(totals)?;
@@ -70,7 +70,7 @@ fn text_of_answers(
 /// How many rows there are, and the answers of the three queries over them.
 #[tactic(auto, unfolding(crate::specs::Queries::totals_text, crate::specs::Queries::groups_text, crate::specs::Queries::great_text))]
 pub(crate) fn answers_of(alloc: Global, table: &Table, rows: &[Row]) -> Result<List<u8>, Status>
-    ensures gives { Returns result (answers_of table.now rows.now) }
+    ensures gives { ReturnsOutcome result (answers_of table.now rows.now) }
     ensures cause { StepCausedBy result of_nothing of_nothing }
 {
     let totals = match answer_of(alloc, table, rows, TOTALS) {

@@ -3,7 +3,7 @@
 ghost use Rattle.std.specs.Prelude.{◌≡◌, ◌≤◌, ◌<◌, All, IfOk, Some};
 ghost use Rattle.mt_shelf.specs.Held.{HasName};
 ghost use Rattle.mt_shelf.specs.State.{files_of};
-ghost use Rattle.mt_command.specs.Status.{Gives};
+ghost use Rattle.mt_command.specs.Status.{GivesOutcome};
 ghost use Rattle.mt_command.specs.Steps.{StepCausedBy, of_nothing};
 ghost use Rattle.mt_trial.specs.Tables.{trial_columns, trial_partition};
 ghost use Rattle.mt_trial.specs.Steps.{half_folder, two_parts};
@@ -40,7 +40,7 @@ pub(crate) fn half_folder<R: Threads + Sync, G: Gate + Sync>(
     requires half { remainder < 2 }
     requires few { 0 < workers }
     requires many { workers ≤ 64 }
-    ensures gives { Gives result (half_folder table.now number rows remainder) }
+    ensures gives { GivesOutcome result (half_folder table.now number rows remainder) }
     ensures names { IfOk result (λ folder. All HasName folder) }
     ensures cause { StepCausedBy result of_nothing of_nothing }
 {

@@ -4,7 +4,7 @@ ghost use Rattle.std.specs.Prelude.{◌≡◌, ◌≢◌, [], ◌<◌, ◌≤◌
 ghost use Rattle.std.specs.String.{string_bytes};
 ghost use Rattle.mt_shelf.specs.Paths.{is_path};
 ghost use Rattle.mt_shelf.specs.State.{files_of};
-ghost use Rattle.mt_command.specs.Outcomes.{Returns};
+ghost use Rattle.mt_command.specs.Outcomes.{ReturnsOutcome};
 ghost use Rattle.mt_command.specs.Steps.{StepCausedBy, of_shelf};
 ghost use Rattle.mt_trial.specs.Steps.{half_names, merge_answers, part_answers};
 
@@ -31,7 +31,7 @@ fn half_names(alloc: Global) -> Result<Vec<String>, NoMemory>
 
 /// What is printed of the merged part, once it is checked.
 fn part_answers<F: Shelf>(alloc: Global, shelf: &mut F, table: &Table) -> Result<List<u8>, Status>
-    ensures gives { IfSome (files_of (F.state shelf.old)) (λ files. Returns result (part_answers table.now files)) }
+    ensures gives { IfSome (files_of (F.state shelf.old)) (λ files. ReturnsOutcome result (part_answers table.now files)) }
     ensures cause { StepCausedBy result (of_shelf (F.faults shelf.old)) (of_shelf (F.faults shelf.new)) }
 {
     let accepted = match accept_part(alloc, shelf, table, "merged") {
@@ -52,7 +52,7 @@ pub(crate) fn merge_answers<R: Threads + Sync, F: Shelf, G: Gate + Sync>(
 ) -> Result<List<u8>, Status>
     requires few { 0 < workers }
     requires many { workers ≤ 64 }
-    ensures gives { IfSome (files_of (F.state shelf.old)) (λ files. Returns result (merge_answers table.now files)) }
+    ensures gives { IfSome (files_of (F.state shelf.old)) (λ files. ReturnsOutcome result (merge_answers table.now files)) }
     ensures cause { StepCausedBy result (of_shelf (F.faults shelf.old)) (of_shelf (F.faults shelf.new)) }
 {
     let Ok(inputs) = half_names(alloc) else {

@@ -1,7 +1,7 @@
 //! The rows of a trial.
 
 ghost use Rattle.std.specs.Prelude.{◌≡◌, ◌<◌, ◌≤◌, IfOk};
-ghost use Rattle.mt_trial.specs.Rows.{half_rows, row_of, text_of, x_at};
+ghost use Rattle.mt_trial.specs.Rows.{half_rows, row_of_number, text_of_number, x_at};
 ghost use Rattle.mt_trial.specs.declared.rows.TheConstants.{MAX_TRIAL_ROWS};
 
 use itoa::Buffer;
@@ -27,7 +27,7 @@ fn x_at(number: u64, place: u64) -> u64
 
 /// The text of the last column.
 fn text_of(alloc: Global, k: u64) -> Result<List<u8>, NoMemory>
-    ensures { IfOk result (λ text. text ≡ text_of k) }
+    ensures { IfOk result (λ text. text ≡ text_of_number k) }
 {
     let mut buffer = Buffer::new();
     let mut text = List::of_bytes(alloc, b"s")?;
@@ -37,7 +37,7 @@ fn text_of(alloc: Global, k: u64) -> Result<List<u8>, NoMemory>
 
 /// The row of a number.
 fn row_of(alloc: Global, x: u64) -> Result<Row, NoMemory>
-    ensures { IfOk result (λ row. row ≡ row_of x) }
+    ensures { IfOk result (λ row. row ≡ row_of_number x) }
 {
     let text = text_of(alloc, x % 100)?;
     let mut row = List::with_capacity(alloc, 4)?;

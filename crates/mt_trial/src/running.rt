@@ -2,7 +2,7 @@
 
 ghost use Rattle.std.specs.Prelude.{◌≤◌, ◌<◌, Ok};
 ghost use Rattle.mt_shelf.specs.State.{files_of};
-ghost use Rattle.mt_command.specs.Outcomes.{Returns, gives};
+ghost use Rattle.mt_command.specs.Outcomes.{ReturnsOutcome, gives};
 ghost use Rattle.mt_command.specs.Plans.{world};
 ghost use Rattle.mt_command.specs.Steps.{StepCausedBy, of_nothing};
 ghost use Rattle.mt_trial.specs.Trial.{PrintsTrial, trial_text};
@@ -31,7 +31,7 @@ fn trial_text<R: Threads + Sync, G: Gate + Sync>(
     requires most { rows ≤ MAX_TRIAL_ROWS }
     requires few { 0 < workers }
     requires many { workers ≤ 64 }
-    ensures gives { Returns result (gives (Ok (trial_text number rows))) }
+    ensures gives { ReturnsOutcome result (gives (Ok (trial_text number rows))) }
     ensures cause { StepCausedBy result of_nothing of_nothing }
 {
     trials_have_one_outcome();

@@ -1,7 +1,7 @@
 //! The table of a trial.
 
 ghost use Rattle.std.specs.Prelude.{◌≡◌, IfOk};
-ghost use Rattle.mt_command.specs.Status.{Gives};
+ghost use Rattle.mt_command.specs.Status.{GivesOutcome};
 ghost use Rattle.mt_command.specs.Steps.{StepCausedBy, of_nothing};
 ghost use Rattle.mt_command.specs.Tables.{table_of};
 ghost use Rattle.mt_trial.specs.Tables.{trial_columns, trial_partition, trial_table_text};
@@ -22,7 +22,7 @@ fn table_text() -> &'static str
 /// Reads the table of a trial.
 #[tactic(auto, using(crate::proofs::TableLemmas::columns_known, crate::proofs::TableLemmas::partition_known), unfolding(mt_command::specs::Tables::table_of))]
 pub(crate) fn trial_table(alloc: Global) -> Result<Table, Status>
-    ensures gives { Gives result (table_of trial_table_text) }
+    ensures gives { GivesOutcome result (table_of trial_table_text) }
     ensures columns { IfOk result (λ table. table.columns ≡ trial_columns) }
     ensures partition { IfOk result (λ table. table.partition ≡ trial_partition) }
     ensures cause { StepCausedBy result of_nothing of_nothing }

@@ -1,14 +1,14 @@
 //! The words NUMBER and ROWS.
 
 ghost use Rattle.std.specs.Prelude.{◌≡◌, ◌≤◌, IfSome};
-ghost use Rattle.mt_trial.specs.Words.{digits_after, number_in, rows_in, with_digit};
+ghost use Rattle.mt_trial.specs.Words.{digits_after, number_in_word, row_count_in, with_number_digit};
 ghost use Rattle.mt_trial.specs.declared.rows.TheConstants.{MAX_TRIAL_ROWS};
 
 use crate::rows::MAX_TRIAL_ROWS;
 
 /// A value with one digit more, if it stays below 2^64.
 fn with_digit(value: u64, byte: u8) -> Option<u64>
-    ensures { result ≡ with_digit value byte }
+    ensures { result ≡ with_number_digit value byte }
 {
     if !byte.is_ascii_digit() {
         return None;
@@ -29,7 +29,7 @@ fn value_of(word: &[u8]) -> Option<u64>
 
 /// The number below 2^64 that a word gives in decimal, without sign and leading zeros, if it gives one.
 pub fn number_in(word: &[u8]) -> Option<u64>
-    ensures { result ≡ number_in word.now }
+    ensures { result ≡ number_in_word word.now }
 {
     match word {
         [] => None,
@@ -40,7 +40,7 @@ pub fn number_in(word: &[u8]) -> Option<u64>
 
 /// The number of rows that a word gives, from 2 to 1,048,576, if it gives one.
 pub fn rows_in(word: &[u8]) -> Option<u64>
-    ensures same { result ≡ rows_in word.now }
+    ensures same { result ≡ row_count_in word.now }
     ensures few { IfSome result (λ rows. 2 ≤ rows) }
     ensures many { IfSome result (λ rows. rows ≤ MAX_TRIAL_ROWS) }
 {

@@ -4,7 +4,7 @@ use Rattle.std.specs.List.{onto_first}
 use Rattle.std.proofs.lemmas.List.{append-nil, take_more, take_all, drop_all}
 use Rattle.mt_tsv.specs.declared.nesting.Nesting.{Nesting}
 use Rattle.mt_tsv.specs.declared.nesting.Nesting.TheVariants.{Outside}
-use Rattle.mt_tsv.specs.Nesting.{after, is_comma, elements_from}
+use Rattle.mt_tsv.specs.Nesting.{nesting_after, is_comma, elements_from}
 
 -- the byte of a loop over bytes
 pub byte_at : (bytes : List ℕ) (i b : ℕ) → i < length bytes → b ≡ get_or bytes i 0 → drop i bytes ≡ b ∷ drop (i + 1) bytes
@@ -33,19 +33,19 @@ chosen false b others texts = onto_cons b texts
 pub elements_cons : (nesting : Nesting) (bytes : List ℕ) → (text : List ℕ) × (more : List (List ℕ)) × (elements_from nesting bytes ≡ text ∷ more)
 unfolding elements_from
 elements_cons nesting [] = ([], [], refl)
-elements_cons nesting (b ∷ rest) = chosen (is_comma nesting b) b (elements_from (Outside 0) rest) (elements_from (after nesting b) rest)
+elements_cons nesting (b ∷ rest) = chosen (is_comma nesting b) b (elements_from (Outside 0) rest) (elements_from (nesting_after nesting b) rest)
 
 pub glued-nil : (nesting : Nesting) (bytes : List ℕ) → glued [] (elements_from nesting bytes) ≡ elements_from nesting bytes
 glued-nil nesting bytes = let e = elements_cons nesting bytes in rw e.2 refl
 
 -- a byte that parts no elements
 pub glued_more : (bytes : List ℕ) (i b : ℕ) (nesting : Nesting) (whole : List (List ℕ)) → i < length bytes → b ≡ get_or bytes i 0 → is_comma nesting b ≡ false
-    → glued (take i bytes) (elements_from nesting (drop i bytes)) ≡ whole → glued (take (i + 1) bytes) (elements_from (after nesting b) (drop (i + 1) bytes)) ≡ whole
+    → glued (take i bytes) (elements_from nesting (drop i bytes)) ≡ whole → glued (take (i + 1) bytes) (elements_from (nesting_after nesting b) (drop (i + 1) bytes)) ≡ whole
 unfolding elements_from
 glued_more bytes i b nesting whole lt is other h =
-    let one : elements_from nesting (drop i bytes) ≡ onto_first b (elements_from (after nesting b) (drop (i + 1) bytes)) = ap (elements_from nesting) (byte_at bytes i b lt is) ∙ rw other refl in
+    let one : elements_from nesting (drop i bytes) ≡ onto_first b (elements_from (nesting_after nesting b) (drop (i + 1) bytes)) = ap (elements_from nesting) (byte_at bytes i b lt is) ∙ rw other refl in
     let longer : take (i + 1) bytes ≡ take i bytes ++ b ∷ [] = take_more bytes i 0 lt ∙ ap (λ (y : ℕ). take i bytes ++ y ∷ []) (sym is) in
-    rw longer (sym (glued-onto (take i bytes) b (elements_from (after nesting b) (drop (i + 1) bytes))) ∙ sym (ap (glued (take i bytes)) one) ∙ h)
+    rw longer (sym (glued-onto (take i bytes) b (elements_from (nesting_after nesting b) (drop (i + 1) bytes))) ∙ sym (ap (glued (take i bytes)) one) ∙ h)
 
 -- the comma after the first element
 pub glued_stop : (bytes : List ℕ) (i b : ℕ) (nesting : Nesting) (whole : List (List ℕ)) → i < length bytes → b ≡ get_or bytes i 0 → is_comma nesting b ≡ true

@@ -5,6 +5,7 @@ use Rattle.std.proofs.lemmas.Bool.{cases_Bool}
 use Rattle.std.proofs.lemmas.List.{append-nil}
 use Rattle.std.proofs.lemmas.List.Splits.{slice_split-cons_yes, slice_split-cons_no, join_with_byte-slice_split}
 use Rattle.std.specs.List.{join_with_byte}
+use Rattle.mt_facts.proofs.Splits.{split_cons}
 use Rattle.mt_tsv.specs.declared.ascii.TheConstants.{BACKSLASH}
 use Rattle.mt_tsv.specs.declared.fault.RowWhy.{RowWhy}
 use Rattle.mt_tsv.specs.declared.fault.RowWhy.TheVariants.{Escape}
@@ -12,7 +13,6 @@ use Rattle.mt_types.specs.Steps.{onto}
 use Rattle.mt_tsv.specs.Reading.{parts}
 use Rattle.mt_tsv.specs.Texts.{escaped_byte, text_of, text_after_backslash}
 use Rattle.mt_tsv.proofs.Prefixes.{with_prefix, with_prefix-onto, with_prefix-nil, with_prefix-append, onto_prefix}
-use Rattle.mt_tsv.proofs.Parts.{split_cons}
 
 -- what is read from a backslash on, if there is one
 abbrev pub text_from : Option (List ℕ) → Result (List ℕ) RowWhy

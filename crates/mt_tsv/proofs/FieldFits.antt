@@ -1,9 +1,9 @@
 -- What is read of a field of bytes is a value of the column's type.
 use Rattle.std.proofs.Common.{◌≡◌, ℕ, ◌-◌, ℤ, pos, ◌^◌, List, [], ◌∷◌, ◌++◌, length, Result, Ok, Err, Option, Some, None, All, Bool, true, false, refl, sym, ap, ◌∙◌, subst, arith, eqb, ltb, leb}
-use Rattle.std.specs.Prelude.{replicate, ◌||◌, negsuc, if◌then◌else◌}
+use Rattle.std.specs.Prelude.{replicate, negsuc, if◌then◌else◌}
 use Rattle.std.specs.List.{list_all}
 use Rattle.std.proofs.lemmas.List.Elements.{All-head, All-tail}
-use Rattle.std.proofs.lemmas.Bool.{and_from, leb-true, ltb-true, eq-eqb}
+use Rattle.std.proofs.lemmas.Bool.{and_from, leb-true, ltb-true, eq-eqb, or_right}
 use Rattle.std.proofs.lemmas.List.{length-append, length-replicate}
 use Rattle.mt_types.specs.declared.ty.Ty.{Ty, map-Ty, out-Ty, roll-Ty}
 use Rattle.mt_types.specs.declared.ty.Ty.TheOpen.{Ty-F}
@@ -18,16 +18,16 @@ use Rattle.mt_tsv.specs.declared.fault.RowWhy.{RowWhy}
 use Rattle.mt_tsv.specs.declared.fault.RowWhy.TheVariants.{Range, Null, TooLong, List as BadList}
 use Rattle.mt_types.specs.declared.limits.TheConstants.{MAX_TEXT, MAX_ELEMENTS}
 use Rattle.mt_types.specs.Steps.{◌>>=◌}
+use Rattle.mt_table.proofs.WidthLemmas.{signed_wide}
 use Rattle.mt_tsv.specs.Texts.{text_of, bounded_text, padded_text}
-use Rattle.mt_tsv.specs.Scalars.{integer_of, number_of, whole_of, date_value, scalar_at, scalar_of}
+use Rattle.mt_tsv.specs.Scalars.{integer_of, whole_number_of, whole_of, date_value, scalar_at, scalar_of}
 use Rattle.mt_calendar.specs.Dates.{date_of}
 use Rattle.mt_calendar.specs.Moments.{moment_of}
 use Rattle.mt_calendar.proofs.InType.{date_in_type, moment_in_type}
-use Rattle.mt_tsv.specs.Arrays.{Element, element_of, element_step, array_of, items_of, level_of, is_null_word, middle}
-use Rattle.mt_tsv.specs.Fields.{field_of, field_at, is_null, unless_null}
+use Rattle.mt_tsv.specs.Arrays.{Element, element_of, element_step, array_of, element_values, level_of, is_null_word, middle}
+use Rattle.mt_tsv.specs.Fields.{field_of, field_at, is_null_field, unless_null_field}
 use Rattle.mt_tsv.proofs.ReadBytes.{AreBytes, to_test, middle_bytes, level_bytes, bounded_bytes, padded_bytes}
 use Rattle.mt_tsv.proofs.RowLimits.{then_ok, passed, onto_ok}
-use Rattle.mt_tsv.proofs.Narrow.{signed_wide}
 
 -- a type's test at one level of the type
 abbrev Test : Type 0
@@ -39,9 +39,9 @@ fits_at t v = ap (λ (f : Test). f v) (fold_out-Ty Test fits_step t)
 -- ---- numbers
 
 number_passes : (test : ℤ → Bool) (text : List ℕ) (v : Value) → whole_of test text ≡ Ok v → (n : ℤ) × (v ≡ number_value n) × (test n ≡ true)
-unfolding number_of
+unfolding whole_number_of
 number_passes test text v e =
-    let read = then_ok (number_of test text) _ v e in
+    let read = then_ok (whole_number_of test text) _ v e in
     let whole = then_ok (integer_of text) _ read.0 read.1 in
     let inside = passed (test whole.0) Range _ read.0 whole.2 in
     let same : Ok whole.0 ≡ Ok read.0 = inside.1 in
@@ -117,16 +117,12 @@ unless_null_word : {A : Type 0} (test : Bool) (why : RowWhy) (read : Result A Ro
 unless_null_word true why read a e = cc
 unless_null_word false why read a e = e
 
-right_true : (a b : Bool) → b ≡ true → (a || b) ≡ true
-right_true true b e = refl
-right_true false b e = e
-
 -- NULL, or a value of the type inside
 null_or_fits : (fits : Test) (test : Bool) (read : Result Value RowWhy) (v : Value) → (read ≡ Ok v → fits v ≡ true) → (if test then Ok NullValue else read) ≡ Ok v → fits_step (Ty-F.Nullable fits) v ≡ true
 null_or_fits fits true read v inside e =
     let is : NullValue ≡ v = cc in
     subst (λ v. fits_step (Ty-F.Nullable fits) v ≡ true) is (rw outs-Null refl)
-null_or_fits fits false read v inside e = right_true _ (fits v) (inside e)
+null_or_fits fits false read v inside e = or_right _ (fits v) (inside e)
 
 -- ---- arrays
 
@@ -135,12 +131,12 @@ abbrev ReadsOf : Test → (List ℕ → Result Value RowWhy) → Type 0
 ReadsOf fits read = (text : List ℕ) (v : Value) → AreBytes text → read text ≡ Ok v → fits v ≡ true
 
 items_fit : (fits : Test) (read : List ℕ → Result Value RowWhy) → ReadsOf fits read
-    → (texts : List (List ℕ)) (values : List Value) → All AreBytes texts → items_of read texts ≡ Ok values → list_all fits values ≡ true
-unfolding items_of
+    → (texts : List (List ℕ)) (values : List Value) → All AreBytes texts → element_values read texts ≡ Ok values → list_all fits values ≡ true
+unfolding element_values
 items_fit fits read each [] values are e = let is : [] ≡ values = cc in subst (λ vs. list_all fits vs ≡ true) is refl
 items_fit fits read each (text ∷ texts) values are e =
     let first = then_ok (read text) _ values e in
-    let others = onto_ok first.0 (items_of read texts) values first.2 in
+    let others = onto_ok first.0 (element_values read texts) values first.2 in
     let first_fits = each text first.0 (All-head AreBytes text texts are) first.1 in
     let others_fit = items_fit fits read each texts others.0 (All-tail AreBytes text texts are) others.1 in
     subst (λ vs. list_all fits vs ≡ true) (sym others.2) (and_from (fits first.0) (list_all fits others.0) first_fits others_fit)
@@ -149,7 +145,7 @@ array_fits : (fits : Test) (element : Element) → ReadsOf fits element.read →
 unfolding array_of
 array_fits fits element each text v are e =
     let texts = then_ok (level_of element.in_quotes text) _ v e in
-    let values = then_ok (items_of element.read texts.0) _ v texts.2 in
+    let values = then_ok (element_values element.read texts.0) _ v texts.2 in
     let few = passed (leb (length values.0) MAX_ELEMENTS) TooLong _ v values.2 in
     let same : Ok (Items values.0) ≡ Ok v = few.1 in
     let is : Items values.0 ≡ v = cc in
@@ -192,15 +188,15 @@ elements_fit = ind-Ty Reads (λ x y is text v are e.
 
 -- ---- fields
 
-unless_null_is : (field : List ℕ) (read : Result Value RowWhy) (v : Value) → unless_null field read ≡ Ok v → read ≡ Ok v
-unless_null_is field read v e = unless_null_word (is_null field) Null read v e
+unless_null_is : (field : List ℕ) (read : Result Value RowWhy) (v : Value) → unless_null_field field read ≡ Ok v → read ≡ Ok v
+unless_null_is field read v e = unless_null_word (is_null_field field) Null read v e
 
 scalar_of_fits : (t : Ty) → ReadsOf (fits_of t) (scalar_of t)
 unfolding scalar_of
 scalar_of_fits t text v are e = fits_at t v ∙ scalar_fits fits_of (out-Ty t) text v are e
 
 level_fits : (level : Ty-F Ty) → ReadsOf (fits_step (map-Ty Ty Test fits_of level)) (field_at level)
-level_fits (Ty-F.Nullable inner) field v are e = null_or_fits (fits_of inner) (is_null field) (scalar_of inner field) v (scalar_of_fits inner field v are) e
+level_fits (Ty-F.Nullable inner) field v are e = null_or_fits (fits_of inner) (is_null_field field) (scalar_of inner field) v (scalar_of_fits inner field v are) e
 level_fits (Ty-F.Array inner) field v are e = array_fits (fits_of inner) (element_of inner) (elements_fit inner) field v are e
 level_fits (Ty-F.UInt width) field v are e = scalar_fits fits_of (Ty-F.UInt width) field v are (unless_null_is field _ v e)
 level_fits (Ty-F.Int width) field v are e = scalar_fits fits_of (Ty-F.Int width) field v are (unless_null_is field _ v e)

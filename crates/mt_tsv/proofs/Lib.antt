@@ -1,4 +1,3 @@
-pub mod DigitLemmas
 pub mod Narrow
 pub mod Prefixes
 pub mod Parts

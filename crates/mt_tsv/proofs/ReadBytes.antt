@@ -13,7 +13,7 @@ use Rattle.mt_tsv.specs.declared.nesting.Nesting.TheVariants.{Outside}
 use Rattle.mt_tsv.specs.declared.fault.RowWhy.{RowWhy}
 use Rattle.mt_tsv.specs.declared.fault.RowWhy.TheVariants.{TooLong, List as BadList}
 use Rattle.mt_tsv.specs.Arrays.{elements_after, have_quotes, is_bracketed, is_space, level_of, middle, trimmed, unless_blank}
-use Rattle.mt_tsv.specs.Nesting.{after, elements_from, is_comma, is_matched}
+use Rattle.mt_tsv.specs.Nesting.{nesting_after, elements_from, is_comma, is_matched}
 use Rattle.mt_tsv.specs.Texts.{bounded_text, escaped_byte, must_have, padded_text, text_after_backslash, text_of}
 use Rattle.mt_tsv.proofs.RowLimits.{then_ok, passed, onto_ok}
 
@@ -59,7 +59,7 @@ unfolding elements_from
 elements_bytes nesting [] are = All-cons AreBytes [] [] (All-nil IsByte) (All-nil AreBytes)
 elements_bytes nesting (b ∷ text) are =
     let rest = All-tail IsByte b text are in
-    piece_bytes (is_comma nesting b) b (elements_from (Outside 0) text) (elements_from (after nesting b) text) (All-head IsByte b text are) (elements_bytes (Outside 0) text rest) (elements_bytes (after nesting b) text rest)
+    piece_bytes (is_comma nesting b) b (elements_from (Outside 0) text) (elements_from (nesting_after nesting b) text) (All-head IsByte b text are) (elements_bytes (Outside 0) text rest) (elements_bytes (nesting_after nesting b) text rest)
 
 -- what stands between quotes or brackets
 pub middle_bytes : (text : List ℕ) → AreBytes text → AreBytes (middle text)

@@ -6,7 +6,7 @@ use Rattle.std.proofs.lemmas.List.{append-nil}
 use Rattle.mt_tsv.specs.declared.ascii.TheConstants.{OPEN, CLOSE, COMMA, QUOTE}
 use Rattle.mt_tsv.specs.declared.nesting.Nesting.{Nesting}
 use Rattle.mt_tsv.specs.declared.nesting.Nesting.TheVariants.{Outside, InQuotes}
-use Rattle.mt_tsv.specs.Nesting.{after, is_comma, elements_from, is_matched_from}
+use Rattle.mt_tsv.specs.Nesting.{nesting_after, is_comma, elements_from, is_matched_from}
 use Rattle.mt_tsv.proofs.Elements.{glued, glued-nil}
 
 -- from one byte to another, within one element
@@ -22,7 +22,7 @@ glued-glued : (x y : List ℕ) (texts : List (List ℕ)) → glued x (glued y te
 glued-glued x y [] = refl
 glued-glued x y (text ∷ texts) = ap (λ (t : List ℕ). t ∷ texts) (sym (append_assoc x y text))
 
-pub walk_byte : (start end : Nesting) (b : ℕ) → after start b ≡ end → is_comma start b ≡ false → IsWalk start (b ∷ []) end
+pub walk_byte : (start end : Nesting) (b : ℕ) → nesting_after start b ≡ end → is_comma start b ≡ false → IsWalk start (b ∷ []) end
 unfolding elements_from is_matched_from
 walk_byte start end b e f = record { elements = λ rest. rw (f, e) (one_glued b (elements_from end rest)); matched = λ rest. ap (λ (n : Nesting). is_matched_from n rest) e }
 
@@ -35,7 +35,7 @@ walk_append a b c x y h k = record {
   matched = λ rest. ap (is_matched_from a) (append_assoc x y rest) ∙ h.matched (y ++ rest) ∙ k.matched rest;
 }
 
-pub walk_all : (here : Nesting) (bytes : List ℕ) → AllByRecursion (λ b. (after here b ≡ here) × (is_comma here b ≡ false)) bytes → IsWalk here bytes here
+pub walk_all : (here : Nesting) (bytes : List ℕ) → AllByRecursion (λ b. (nesting_after here b ≡ here) × (is_comma here b ≡ false)) bytes → IsWalk here bytes here
 walk_all here [] h = walk_nil here
 walk_all here (b ∷ bytes) h = walk_append here here here (b ∷ []) bytes (walk_byte here here b h.0.0 h.0.1) (walk_all here bytes h.1)
 
@@ -69,10 +69,10 @@ walk_joined depth (text ∷ next ∷ texts) h =
     walk_append here here here text (COMMA ∷ join_with_byte COMMA (next ∷ texts)) (h.0 (depth + 1))
     (walk_append here here here (COMMA ∷ []) (join_with_byte COMMA (next ∷ texts)) (walk_byte here here COMMA refl (deeper_no_comma depth COMMA)) (walk_joined depth (next ∷ texts) h.1))
 
-open_is : (depth : ℕ) → after (Outside depth) OPEN ≡ Outside (depth + 1)
+open_is : (depth : ℕ) → nesting_after (Outside depth) OPEN ≡ Outside (depth + 1)
 open_is depth = refl
 
-close_is : (depth : ℕ) → after (Outside (depth + 1)) CLOSE ≡ Outside depth
+close_is : (depth : ℕ) → nesting_after (Outside (depth + 1)) CLOSE ≡ Outside depth
 close_is depth =
     let e : eqb (depth + 1) 0 ≡ false = ne_eqb (depth + 1) 0 (omega arith) in
     let s : depth + 1 - 1 ≡ depth = omega arith in

@@ -20,9 +20,9 @@ use Rattle.mt_tsv.specs.Scalars.{scalar_of}
 use Rattle.mt_tsv.specs.Fields.{field_at, field_of}
 use Rattle.mt_tsv.specs.Cells.{cells_of}
 use Rattle.mt_tsv.specs.Printing.{scalar_text_at, scalar_text, field_text_at, field_text, field_texts, row_text, rows_text}
-use Rattle.mt_tsv.specs.Writable.{is_column_kind, is_column_type}
+use Rattle.mt_tsv.specs.Writable.{is_column_kind, is_written_type}
 use Rattle.mt_table.specs.Rows.{RowFits, cell_count}
-use Rattle.mt_tsv.specs.Reading.{values_of, fields, row_of, lines, rows_of, rows_reading}
+use Rattle.mt_tsv.specs.Reading.{field_values, line_fields, row_of, lines, rows_of_lines, rows_reading}
 use Rattle.mt_tsv.proofs.Lines.{row_is, rows_step}
 use Rattle.mt_tsv.proofs.RowLimits.{cells_more}
 use Rattle.mt_tsv.proofs.WrittenTexts.{IsClean}
@@ -116,7 +116,7 @@ field_level (Ty-F.Array ty) value k f =
 field_level (Ty-F.State agg t) value k f = absurd (no_state agg (kind_of t) k)
 field_level Ty-F.CountState value k f = absurd cc
 
-field_again : (ty : Ty) (value : Value) → is_column_type ty ≡ true → fits_of ty value ≡ true → (field_of ty (field_text ty value) ≡ Ok value) × IsClean (field_text ty value)
+field_again : (ty : Ty) (value : Value) → is_written_type ty ≡ true → fits_of ty value ≡ true → (field_of ty (field_text ty value) ≡ Ok value) × IsClean (field_text ty value)
 unfolding field_of field_text
 field_again ty value k f =
     let h = field_level (out-Ty ty) value (ap is_column_kind (sym (kind_out ty)) ∙ k) (sym (fits_out ty value) ∙ f) in
@@ -125,15 +125,15 @@ field_again ty value k f =
 -- ---- lines
 
 abbrev Columns : List Column → Type 0
-Columns columns = AllByRecursion (λ column. is_column_type column.ty ≡ true) columns
+Columns columns = AllByRecursion (λ column. is_written_type column.ty ≡ true) columns
 
 record AreRead (columns : List Column) (row : List Value) : Type 0 where
-  values : values_of columns (field_texts columns row) ≡ Ok row
+  values : field_values columns (field_texts columns row) ≡ Ok row
   clean : AllByRecursion IsClean (field_texts columns row)
   as_many : length (field_texts columns row) ≡ length columns
 
 values_again : (columns : List Column) (row : List Value) → Columns columns → RowFits columns row → AreRead columns row
-unfolding values_of field_texts
+unfolding field_values field_texts
 values_again [] [] c h = record { values = refl; clean = tt; as_many = refl }
 values_again [] (value ∷ row) c h = absurd h
 values_again (column ∷ columns) [] c h = absurd h
@@ -146,7 +146,7 @@ no_tab : (bytes : List ℕ) → IsClean bytes → AllByRecursion (λ b. eqb b 9 
 no_tab [] h = tt
 no_tab (b ∷ bytes) h = (ne_eqb b 9 h.0.0, no_tab bytes h.1)
 
-split_again : (text : List ℕ) (texts : List (List ℕ)) → IsClean text → AllByRecursion IsClean texts → fields (join_with_byte 9 (text ∷ texts)) ≡ text ∷ texts
+split_again : (text : List ℕ) (texts : List (List ℕ)) → IsClean text → AllByRecursion IsClean texts → line_fields (join_with_byte 9 (text ∷ texts)) ≡ text ∷ texts
 split_again text [] h all = slice_split_none (λ b. eqb b 9) text (All-from_recursion (λ b. eqb b 9 ≡ false) text (no_tab text h))
 split_again text (next ∷ texts) h all =
     slice_split_at (λ b. eqb b 9) text 9 (join_with_byte 9 (next ∷ texts)) (All-from_recursion (λ b. eqb b 9 ≡ false) text (no_tab text h)) refl
@@ -175,7 +175,7 @@ line_again (column ∷ columns) [] some c h = absurd h
 line_again (column ∷ columns) (value ∷ row) some c h =
     let m = values_again (column ∷ columns) (value ∷ row) c h in
     let s = split_again (field_text column.ty value) (field_texts columns row) m.clean.0 m.clean.1 in (
-      row_is (column ∷ columns) (join_with_byte 9 (field_texts (column ∷ columns) (value ∷ row))) (ap length s ∙ m.as_many) ∙ ap (values_of (column ∷ columns)) s ∙ m.values,
+      row_is (column ∷ columns) (join_with_byte 9 (field_texts (column ∷ columns) (value ∷ row))) (ap length s ∙ m.as_many) ∙ ap (field_values (column ∷ columns)) s ∙ m.values,
       no_end_join (field_text column.ty value) (field_texts columns row) m.clean.0 m.clean.1,
     )
 
@@ -188,8 +188,8 @@ row_length (column ∷ columns) [] h = absurd h
 row_length (column ∷ columns) (value ∷ row) h = ap suc (row_length columns row h.1)
 
 rows_again : (columns : List Column) (before room : ℕ) (rows : List (List Value)) → 0 < length columns → Columns columns → AllByRecursion (RowFits columns) rows → before + length rows ≤ MAX_ROWS → cell_count columns rows ≤ room
-    → rows_of columns before room (lines (rows_text columns rows)) ≡ Ok rows
-unfolding rows_of row_text
+    → rows_of_lines columns before room (lines (rows_text columns rows)) ≡ Ok rows
+unfolding rows_of_lines row_text
 rows_again columns before room [] some c all within cells = refl
 rows_again columns before room (row ∷ rows) some c all within cells =
     let line = join_with_byte 9 (field_texts columns row) in
@@ -201,7 +201,7 @@ rows_again columns before room (row ∷ rows) some c all within cells =
     let more = rows_again columns (before + 1) (room - cells_of row) rows some c all.1 (omega arith) (omega (arith, sum)) in
     rows_step columns before room (lines (rows_text columns (row ∷ rows))) line (rows_text columns rows) (λ b. eqb b 10) whole ∙ rw (l.0, lt-ltb before MAX_ROWS (omega arith), fits, more) refl
 
-pub rows_text_again : (columns : List Column) (rows : List (List Value)) → 0 < length columns → AllByRecursion (λ column. is_column_type column.ty ≡ true) columns → AllByRecursion (RowFits columns) rows → length rows ≤ MAX_ROWS → cell_count columns rows ≤ MAX_CELLS
+pub rows_text_again : (columns : List Column) (rows : List (List Value)) → 0 < length columns → AllByRecursion (λ column. is_written_type column.ty ≡ true) columns → AllByRecursion (RowFits columns) rows → length rows ≤ MAX_ROWS → cell_count columns rows ≤ MAX_CELLS
     → rows_reading columns (rows_text columns rows) ≡ Ok rows
 unfolding rows_reading
 rows_text_again columns rows some c all within cells = rows_again columns 0 MAX_CELLS rows some c all (omega arith) cells

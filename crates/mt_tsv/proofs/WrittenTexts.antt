@@ -10,6 +10,7 @@ use Rattle.std.specs.Fmt.{signed_decimal}
 use Rattle.std.proofs.lemmas.Bool.{cond_both, eqb-true, eqb-false, ne_eqb, ltb-true, le-leb, lt-ltb, and_parts, and_right}
 use Rattle.std.proofs.lemmas.List.{append-nil}
 use Rattle.std.proofs.lemmas.Fmt.{decimal_is_IsNumeral_wide}
+use Rattle.mt_facts.proofs.Digits.{decimal_model, digit_here}
 use Rattle.mt_types.specs.declared.ty.Width.{Width}
 use Rattle.mt_types.specs.declared.ty.Width.TheVariants.{W8, W16, W32, W64, W128}
 use Rattle.mt_types.specs.Fits.{bits, is_unsigned, is_signed}
@@ -17,13 +18,12 @@ use Rattle.mt_tsv.specs.declared.fault.RowWhy.{RowWhy}
 use Rattle.mt_tsv.specs.declared.nesting.Nesting.TheVariants.{Outside, InQuotes, Escaped}
 use Rattle.mt_types.specs.Steps.{onto}
 use Rattle.mt_tsv.specs.Texts.{escaped_byte, text_of, text_after_backslash, bounded_text, padded_text}
-use Rattle.mt_tsv.specs.Scalars.{magnitude_after, magnitude_of, integer_of, number_of}
-use Rattle.mt_tsv.specs.Nesting.{after, is_comma, closes_last}
+use Rattle.mt_tsv.specs.Scalars.{magnitude_after, magnitude_of, integer_of, whole_number_of}
+use Rattle.mt_tsv.specs.Nesting.{nesting_after, is_comma, closes_last}
 use Rattle.mt_tsv.specs.Printing.{letter_of, with_letter, byte_text, escaped_text}
-use Rattle.mt_tsv.specs.Fields.{is_null}
+use Rattle.mt_tsv.specs.Fields.{is_null_field}
 use Rattle.mt_calendar.proofs.WrittenDates.{ArePlain}
 use Rattle.mt_tsv.proofs.Narrow.{signed_below}
-use Rattle.mt_tsv.proofs.DigitLemmas.{decimal_model, digit_here}
 use Rattle.mt_tsv.proofs.Walks.{IsWalk, walk_byte, walk_nil, walk_append, walk_all, other_no_comma}
 
 -- neither a tab nor a line end is in it
@@ -106,7 +106,7 @@ plain_clean [] h = tt
 plain_clean (b ∷ bytes) h = ((omega (arith, h.0), omega (arith, h.0)), plain_clean bytes h.1)
 
 plain_bytes_inside : (depth : ℕ) (bytes : List ℕ) → ArePlain bytes
-    → AllByRecursion (λ b. (after (InQuotes depth) b ≡ InQuotes depth) × (is_comma (InQuotes depth) b ≡ false)) bytes
+    → AllByRecursion (λ b. (nesting_after (InQuotes depth) b ≡ InQuotes depth) × (is_comma (InQuotes depth) b ≡ false)) bytes
 plain_bytes_inside depth [] h = tt
 plain_bytes_inside depth (b ∷ bytes) h = ((rw (ne_eqb b 39 h.0.2, ne_eqb b 92 (omega (arith, h.0))) refl, refl), plain_bytes_inside depth bytes h.1)
 
@@ -127,10 +127,10 @@ pub number_plain : (bytes : List ℕ) → AreNumberBytes bytes → ArePlain byte
 number_plain [] h = tt
 number_plain (b ∷ bytes) h = ((omega (arith, h.0), omega (arith, h.0), omega (arith, h.0)), number_plain bytes h.1)
 
-outside_number : (depth b : ℕ) → (45 ≤ b) × (b ≤ 57) → (after (Outside depth) b ≡ Outside depth) × (is_comma (Outside depth) b ≡ false)
+outside_number : (depth b : ℕ) → (45 ≤ b) × (b ≤ 57) → (nesting_after (Outside depth) b ≡ Outside depth) × (is_comma (Outside depth) b ≡ false)
 outside_number depth b h = (rw (ne_eqb b 39 (omega (arith, h)), ne_eqb b 91 (omega (arith, h)), ne_eqb b 93 (omega (arith, h))) refl, other_no_comma depth b (omega (arith, h)))
 
-number_bytes_outside : (depth : ℕ) (bytes : List ℕ) → AreNumberBytes bytes → AllByRecursion (λ b. (after (Outside depth) b ≡ Outside depth) × (is_comma (Outside depth) b ≡ false)) bytes
+number_bytes_outside : (depth : ℕ) (bytes : List ℕ) → AreNumberBytes bytes → AllByRecursion (λ b. (nesting_after (Outside depth) b ≡ Outside depth) × (is_comma (Outside depth) b ≡ false)) bytes
 number_bytes_outside depth [] h = tt
 number_bytes_outside depth (b ∷ bytes) h = (outside_number depth b h.0, number_bytes_outside depth bytes h.1)
 
@@ -202,12 +202,12 @@ integer_again (negsuc n) h = rw (magnitude_again (decimal (suc n)) (suc n) (deci
 
 -- a number of a type, written
 pub record IsNumber (is_in_type : ℤ → Bool) (n : ℤ) : Type 0 where
-  pub value : number_of is_in_type (signed_decimal n) ≡ Ok n
+  pub value : whole_number_of is_in_type (signed_decimal n) ≡ Ok n
   pub bytes : AreNumberBytes (signed_decimal n)
   pub nonempty : 0 < length (signed_decimal n)
 
 number_again : (is_in_type : ℤ → Bool) (n : ℤ) → IsSmall n → is_in_type n ≡ true → IsNumber is_in_type n
-unfolding number_of
+unfolding whole_number_of
 number_again is_in_type n s h = record { value = rw (integer_again n s, h) refl; bytes = number_bytes n s; nonempty = number_nonempty n s }
 
 pub unsigned_again : (width : Width) (n : ℤ) → is_unsigned (bits width) n ≡ true → IsNumber (is_unsigned (bits width)) n
@@ -230,23 +230,23 @@ padded_again size text h =
 
 -- ---- nothing but NULL is written as NULL
 
-other_first : (b : ℕ) (rest : List ℕ) → b ≢ 92 → is_null (b ∷ rest) ≡ false
+other_first : (b : ℕ) (rest : List ℕ) → b ≢ 92 → is_null_field (b ∷ rest) ≡ false
 other_first b [] h = refl
 other_first b (c ∷ []) h = rw (ne_eqb b 92 h) refl
 other_first b (c ∷ d ∷ rest) h = refl
 
-other_second : (b c : ℕ) (rest : List ℕ) → c ≢ 78 → is_null (b ∷ c ∷ rest) ≡ false
+other_second : (b c : ℕ) (rest : List ℕ) → c ≢ 78 → is_null_field (b ∷ c ∷ rest) ≡ false
 other_second b c [] h = and_right (eqb b 92) (eqb c 78) (ne_eqb c 78 h)
 other_second b c (d ∷ rest) h = refl
 
-pub plain_not_null : (bytes : List ℕ) → ArePlain bytes → is_null bytes ≡ false
+pub plain_not_null : (bytes : List ℕ) → ArePlain bytes → is_null_field bytes ≡ false
 plain_not_null [] h = refl
 plain_not_null (b ∷ bytes) h = other_first b bytes (omega (arith, h.0))
 
-byte_not_null : (b : ℕ) (o : Option ℕ) (rest : List ℕ) → Stands b o → is_null (with_letter b o ++ rest) ≡ false
+byte_not_null : (b : ℕ) (o : Option ℕ) (rest : List ℕ) → Stands b o → is_null_field (with_letter b o ++ rest) ≡ false
 byte_not_null b None rest h = other_first b rest h.0
 byte_not_null b (Some c) rest h = other_second 92 c rest h.3
 
-pub text_not_null : (text : List ℕ) → is_null (escaped_text text) ≡ false
+pub text_not_null : (text : List ℕ) → is_null_field (escaped_text text) ≡ false
 text_not_null [] = refl
 text_not_null (b ∷ text) = byte_not_null b (letter_of b) (escaped_text text) (letter_stands b)

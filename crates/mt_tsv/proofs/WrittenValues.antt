@@ -21,18 +21,18 @@ use Rattle.mt_tsv.specs.declared.fault.RowWhy.{RowWhy}
 use Rattle.mt_tsv.specs.declared.ascii.TheConstants.{OPEN, CLOSE, COMMA, QUOTE}
 use Rattle.mt_types.specs.declared.limits.TheConstants.{MAX_TEXT, MAX_ELEMENTS}
 use Rattle.mt_tsv.specs.declared.nesting.Nesting.TheVariants.{Outside, InQuotes}
-use Rattle.mt_tsv.specs.Nesting.{after, is_comma}
+use Rattle.mt_tsv.specs.Nesting.{nesting_after, is_comma}
 use Rattle.mt_tsv.specs.Scalars.{scalar_at}
-use Rattle.mt_tsv.specs.Arrays.{Element, element_of, element_step, scalar_element, needs_quotes, is_null_word, is_text_element, have_quotes, array_of, items_of}
-use Rattle.mt_tsv.specs.Fields.{is_null}
+use Rattle.mt_tsv.specs.Arrays.{Element, element_of, element_step, scalar_element, needs_quotes, is_null_word, is_text_element, have_quotes, array_of, element_values}
+use Rattle.mt_tsv.specs.Fields.{is_null_field}
 use Rattle.mt_tsv.specs.Printing.{scalar_text_at, day_text, second_text, quoted_if, element_text, element_text_step}
 use Rattle.mt_tsv.specs.Writable.{is_column_kind}
 use Rattle.mt_tsv.proofs.Items.{array_is}
 use Rattle.mt_tsv.proofs.Walks.{IsWalk, AreSolid, walk_all, walk_quoted, walk_array, other_no_comma}
 use Rattle.mt_tsv.proofs.WrittenTexts.{IsClean, clean_append, unsigned_again, signed_again, AreNumberBytes, number_plain, number_walk, plain_clean, plain_walk, plain_stays, plain_not_null, StaysInQuotes, text_clean, text_walk, text_stays, text_not_null, bounded_again, padded_again}
-use Rattle.mt_tsv.proofs.Narrow.{signed_wide}
 use Rattle.mt_tsv.proofs.WrittenElements.{HasEnds, ends_between, number_ends, middle_again, quoted_again, no_null_word, number_no_word, level_again}
 use Rattle.mt_types.proofs.NumberLemmas.{num_is, natural_is, number_num}
+use Rattle.mt_table.proofs.WidthLemmas.{signed_wide}
 use Rattle.mt_calendar.specs.Dates.{date_text}
 use Rattle.mt_calendar.specs.Moments.{moment_text}
 use Rattle.mt_calendar.proofs.WrittenDates.{ArePlain, date_again, date_bytes}
@@ -73,7 +73,7 @@ IsShaped false text = AreNumberBytes text × (0 < length text)
 pub record IsScalar {X : Type 0} (ty : Ty-F X) (text : List ℕ) (value : Value) : Type 0 where
   pub read : scalar_at ty text ≡ Ok value
   pub clean : IsClean text
-  pub not_null : is_null text ≡ false
+  pub not_null : is_null_field text ≡ false
   pub shape : IsShaped (needs_quotes ty) text
   pub some_value : null_at (out-Value value) ≡ false
 
@@ -207,7 +207,7 @@ scalar_written ty false text value e h =
 
 -- ---- NULL
 
-null_bytes : (depth : ℕ) → AllByRecursion (λ b. (after (Outside depth) b ≡ Outside depth) × (is_comma (Outside depth) b ≡ false)) (codes "NULL")
+null_bytes : (depth : ℕ) → AllByRecursion (λ b. (nesting_after (Outside depth) b ≡ Outside depth) × (is_comma (Outside depth) b ≡ false)) (codes "NULL")
 null_bytes depth = ((refl, other_no_comma depth 78 (omega arith)), ((refl, other_no_comma depth 85 (omega arith)), ((refl, other_no_comma depth 76 (omega arith)), ((refl, other_no_comma depth 76 (omega arith)), tt))))
 
 null_written : (inner : Element) (value : Value) → null_at (out-Value value) ≡ true → IsWritten (element_step (Ty-F.Nullable inner)) (codes "NULL") value
@@ -259,8 +259,8 @@ quotes_from : (in_quotes : Bool) (texts : List (List ℕ)) → (in_quotes ≡ tr
 quotes_from true texts h = h refl
 quotes_from false texts h = refl
 
-all_read : (element : Element) (text : Value → List ℕ) (items : List Value) → AreWritten element text items → items_of element.read (map text items) ≡ Ok items
-unfolding items_of
+all_read : (element : Element) (text : Value → List ℕ) (items : List Value) → AreWritten element text items → element_values element.read (map text items) ≡ Ok items
+unfolding element_values
 all_read element text [] h = refl
 all_read element text (item ∷ items) h = rw (h.0.read, all_read element text items h.1) refl
 

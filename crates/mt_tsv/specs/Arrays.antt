@@ -78,11 +78,11 @@ level_of in_quotes text =
     (Ok (elements_after (unless_blank (middle text))))))
 
 -- the values of elements, up to the first that is bad
-unfoldable pub items_of : (List ℕ → Result Value RowWhy) → List (List ℕ) → Result (List Value) RowWhy
-items_of read [] = Ok []
-items_of read (text ∷ texts) = do
+unfoldable pub element_values : (List ℕ → Result Value RowWhy) → List (List ℕ) → Result (List Value) RowWhy
+element_values read [] = Ok []
+element_values read (text ∷ texts) = do
   value ← read text
-  onto value (items_of read texts)
+  onto value (element_values read texts)
 
 -- how elements of a type are written
 pub record Element : Type 0 where
@@ -93,7 +93,7 @@ pub record Element : Type 0 where
 unfoldable pub array_of : Element → List ℕ → Result Value RowWhy
 array_of element text = do
   texts ← level_of element.in_quotes text
-  values ← items_of element.read texts
+  values ← element_values element.read texts
   unless_bad (nat_le (length values) MAX_ELEMENTS) TooLong (Ok (Items values))
 
 -- ---- elements by type

@@ -11,19 +11,19 @@ use Rattle.mt_tsv.specs.Scalars.{scalar_at, scalar_of}
 use Rattle.mt_tsv.specs.Arrays.{array_of, element_of}
 
 -- \N, which is NULL
-abbrev pub is_null : List ℕ → Bool
-is_null (b ∷ letter ∷ []) = (b == BACKSLASH) && (letter == 78)
-is_null _ = false
+abbrev pub is_null_field : List ℕ → Bool
+is_null_field (b ∷ letter ∷ []) = (b == BACKSLASH) && (letter == 78)
+is_null_field _ = false
 
 -- a value of a type that isn't Nullable
-abbrev pub unless_null : List ℕ → Result Value RowWhy → Result Value RowWhy
-unless_null field reading = if is_null field then Err Null else reading
+abbrev pub unless_null_field : List ℕ → Result Value RowWhy → Result Value RowWhy
+unless_null_field field reading = if is_null_field field then Err Null else reading
 
 -- the value of a field: NULL only in a Nullable column; an array has NULL in its brackets alone
 abbrev pub field_at : Ty-F Ty → List ℕ → Result Value RowWhy
-field_at (Ty-F.Nullable inner) field = if is_null field then Ok NullValue else scalar_of inner field
+field_at (Ty-F.Nullable inner) field = if is_null_field field then Ok NullValue else scalar_of inner field
 field_at (Ty-F.Array inner) field = array_of (element_of inner) field
-field_at ty field = unless_null field (scalar_at ty field)
+field_at ty field = unless_null_field field (scalar_at ty field)
 
 -- the value of a field of a column of this type
 unfoldable pub field_of : Ty → List ℕ → Result Value RowWhy

@@ -13,13 +13,13 @@ depth_of (Escaped depth) = depth
 depth_of Unmatched = 0
 
 -- where the byte after this one stands
-abbrev pub after : Nesting → ℕ → Nesting
-after (Outside depth) b =
+abbrev pub nesting_after : Nesting → ℕ → Nesting
+nesting_after (Outside depth) b =
     if b == QUOTE then InQuotes depth else if b == OPEN then Outside (depth + 1)
     else if b == CLOSE then (if depth == 0 then Unmatched else Outside (depth - 1)) else Outside depth
-after (InQuotes depth) b = if b == QUOTE then Outside depth else if b == BACKSLASH then Escaped depth else InQuotes depth
-after (Escaped depth) b = InQuotes depth
-after Unmatched b = Unmatched
+nesting_after (InQuotes depth) b = if b == QUOTE then Outside depth else if b == BACKSLASH then Escaped depth else InQuotes depth
+nesting_after (Escaped depth) b = InQuotes depth
+nesting_after Unmatched b = Unmatched
 
 -- all quotes are closed
 abbrev pub is_outside : Nesting → Bool
@@ -39,7 +39,7 @@ is_comma _ b = false
 -- each quote and bracket is closed
 unfoldable pub is_matched_from : Nesting → List ℕ → Bool
 is_matched_from nesting [] = is_level nesting
-is_matched_from nesting (b ∷ rest) = is_matched_from (after nesting b) rest
+is_matched_from nesting (b ∷ rest) = is_matched_from (nesting_after nesting b) rest
 
 -- the same of what stands between the brackets of an array
 abbrev pub is_matched : List ℕ → Bool
@@ -49,7 +49,7 @@ is_matched content = is_matched_from (Outside 0) content
 unfoldable pub elements_from : Nesting → List ℕ → List (List ℕ)
 elements_from nesting [] = [] ∷ []
 elements_from nesting (b ∷ rest) =
-    if is_comma nesting b then [] ∷ elements_from (Outside 0) rest else onto_first b (elements_from (after nesting b) rest)
+    if is_comma nesting b then [] ∷ elements_from (Outside 0) rest else onto_first b (elements_from (nesting_after nesting b) rest)
 
 -- the first comma between two elements, if there is one, parts the first element from the others
 abbrev pub IsElementEnd : List ℕ → Option ℕ → Type 0
@@ -59,7 +59,7 @@ IsElementEnd content None = elements_from (Outside 0) content ≡ content ∷ []
 -- the quotes that are open are closed by the last byte
 unfoldable pub closes_last : Nesting → List ℕ → Bool
 closes_last nesting [] = false
-closes_last nesting (b ∷ rest) = if is_outside (after nesting b) then length rest == 0 else closes_last (after nesting b) rest
+closes_last nesting (b ∷ rest) = if is_outside (nesting_after nesting b) then length rest == 0 else closes_last (nesting_after nesting b) rest
 
 -- one text in quotes
 abbrev pub is_quoted : List ℕ → Bool

@@ -11,14 +11,14 @@ abbrev pub unless_bad : {B E : Type 0} → Bool → E → Result B E → Result 
 unless_bad ok why next = if ok then next else Err why
 
 -- what is wrong with the field, unless memory was refused
-abbrev pub Fails : {A : Type 0} → FieldError → Result A RowWhy → Type 0
-Fails (field.Bad why) reading = reading ≡ Err why
-Fails field.NoMemory reading = Unit {0}
+abbrev pub FieldFails : {A : Type 0} → FieldError → Result A RowWhy → Type 0
+FieldFails (field.Bad why) reading = reading ≡ Err why
+FieldFails field.NoMemory reading = Unit {0}
 
 -- what was returned of a field or a line is its reading, unless memory was refused
-abbrev pub Gives : {A : Type 0} → Result A FieldError → Result A RowWhy → Type 0
-Gives (Ok x) reading = reading ≡ Ok x
-Gives (Err e) reading = Fails e reading
+abbrev pub GivesField : {A : Type 0} → Result A FieldError → Result A RowWhy → Type 0
+GivesField (Ok x) reading = reading ≡ Ok x
+GivesField (Err e) reading = FieldFails e reading
 
 -- what is wrong with the text, unless memory was refused
 abbrev pub RowsFail : {A : Type 0} → RowError → Result A RowError → Type 0

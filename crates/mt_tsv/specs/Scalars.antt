@@ -35,14 +35,14 @@ integer_of (c ∷ text) =
     else (magnitude_of (c ∷ text) >>= λ n. Ok (pos n))
 
 -- an integer of the type that has this test
-unfoldable pub number_of : (ℤ → Bool) → List ℕ → Result ℤ RowWhy
-number_of is_in_type text = do
+unfoldable pub whole_number_of : (ℤ → Bool) → List ℕ → Result ℤ RowWhy
+whole_number_of is_in_type text = do
   n ← integer_of text
   unless_bad (is_in_type n) Range (Ok n)
 
 -- an integer of the type that has this test, as a value
 abbrev pub whole_of : (ℤ → Bool) → List ℕ → Result Value RowWhy
-whole_of is_in_type text = number_of is_in_type text >>= λ n. Ok (number_value n)
+whole_of is_in_type text = whole_number_of is_in_type text >>= λ n. Ok (number_value n)
 
 -- the day of a date or the second of a moment, which must be one
 abbrev pub date_value : Option ℕ → Result Value RowWhy

@@ -10,5 +10,5 @@ is_column_kind Unknown = false
 is_column_kind _ = true
 
 -- a type that a column of a table may have
-abbrev pub is_column_type : Ty → Bool
-is_column_type ty = is_column_kind (kind_of ty)
+abbrev pub is_written_type : Ty → Bool
+is_written_type ty = is_column_kind (kind_of ty)

@@ -1,7 +1,7 @@
 //! Arrays.
 
 ghost use Rattle.std.specs.Prelude.{◌≡◌};
-ghost use Rattle.mt_tsv.specs.Results.{Gives};
+ghost use Rattle.mt_tsv.specs.Results.{GivesField};
 ghost use Rattle.mt_tsv.specs.Arrays.{array_of, element_of};
 
 use crate::fault::{FieldError, RowWhy};
@@ -26,7 +26,7 @@ fn in_quotes(ty: &Ty) -> bool
 #[cycle(array)]
 #[tactic(auto, unfolding(crate::specs::Scalars::scalar_of))]
 fn read_element(alloc: Global, ty: &Ty, text: &[u8]) -> Result<Value, FieldError>
-    ensures { Gives result ((element_of ty.now).read text.now) }
+    ensures { GivesField result ((element_of ty.now).read text.now) }
 {
     let is_null = is_null_word(text);
     match ty {
@@ -60,7 +60,7 @@ fn read_element(alloc: Global, ty: &Ty, text: &[u8]) -> Result<Value, FieldError
 /// The list of an array of elements of this type.
 #[cycle(array)]
 pub fn read_array(alloc: Global, inner: &Ty, text: &[u8]) -> Result<Value, FieldError>
-    ensures { Gives result (array_of (element_of inner.now) text.now) }
+    ensures { GivesField result (array_of (element_of inner.now) text.now) }
 {
     let mut rest = read_level(in_quotes(inner), text)?;
     let mut items = List::new(alloc);

@@ -1,8 +1,8 @@
 //! Fields of a line.
 
 ghost use Rattle.std.specs.Prelude.{◌≡◌};
-ghost use Rattle.mt_tsv.specs.Results.{Gives};
-ghost use Rattle.mt_tsv.specs.Fields.{is_null, field_of};
+ghost use Rattle.mt_tsv.specs.Results.{GivesField};
+ghost use Rattle.mt_tsv.specs.Fields.{is_null_field, field_of};
 
 use crate::array::read_array;
 use crate::fault::{FieldError, RowWhy};
@@ -11,7 +11,7 @@ use mt_types::{Ty, Value};
 use std::alloc::Global;
 
 fn is_null(field: &[u8]) -> bool
-    ensures { result ≡ is_null field.now }
+    ensures { result ≡ is_null_field field.now }
 {
     matches!(field, [b'\\', b'N'])
 }
@@ -19,7 +19,7 @@ fn is_null(field: &[u8]) -> bool
 /// The value of a field of a column of this type.
 #[tactic(auto, unfolding(crate::specs::Fields::field_of, crate::specs::Scalars::scalar_of))]
 pub fn read_field(alloc: Global, ty: &Ty, field: &[u8]) -> Result<Value, FieldError>
-    ensures { Gives result (field_of ty.now field.now) }
+    ensures { GivesField result (field_of ty.now field.now) }
 {
     match ty {
         Ty::Nullable(inner) => {

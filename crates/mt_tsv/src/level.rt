@@ -3,7 +3,7 @@
 ghost use Rattle.std.specs.Prelude.{◌≡◌, ◌∷◌, ◌<◌, Ok, Some, length, IfSome, MatchResult};
 ghost use Rattle.std.specs.Option.{option_copied};
 ghost use Rattle.std.specs.List.{list_all};
-ghost use Rattle.mt_tsv.specs.Results.{Fails};
+ghost use Rattle.mt_tsv.specs.Results.{FieldFails};
 ghost use Rattle.mt_tsv.specs.Arrays.{elements_after, middle, is_bracketed, is_text_element};
 ghost use Rattle.mt_tsv.specs.Arrays.{have_quotes, level_of};
 
@@ -78,7 +78,7 @@ fn have_quotes(in_quotes: bool, content: Option<&[u8]>) -> bool
 pub fn read_level(in_quotes: bool, text: &[u8]) -> Result<Option<&[u8]>, FieldError>
     ensures { MatchResult result
         (λ rest. level_of in_quotes text.now ≡ Ok (elements_after (option_copied rest)))
-        (λ e. Fails e (level_of in_quotes text.now)) }
+        (λ e. FieldFails e (level_of in_quotes text.now)) }
 {
     if !is_bracketed(text) {
         return Err(FieldError::Bad(RowWhy::List));

@@ -3,8 +3,8 @@
 ghost use Rattle.std.specs.Prelude.{◌≡◌, ◌==◌, length, if◌then◌else◌};
 ghost use Rattle.mt_tsv.specs.declared.fault.RowWhy.TheVariants.{Columns};
 ghost use Rattle.mt_tsv.specs.declared.fault.FieldError.TheVariants as field;
-ghost use Rattle.mt_tsv.specs.Results.{Gives};
-ghost use Rattle.mt_tsv.specs.Reading.{fields, row_of};
+ghost use Rattle.mt_tsv.specs.Results.{GivesField};
+ghost use Rattle.mt_tsv.specs.Reading.{line_fields, row_of};
 
 use crate::ascii::TAB;
 use crate::fault::{FieldError, RowWhy};
@@ -16,7 +16,7 @@ use std::alloc::Global;
 
 /// What is wrong with a line of which a field is bad: the number of its fields comes first.
 fn first_error(columns: usize, line: &[u8], error: FieldError) -> FieldError
-    ensures { result ≡ (if length (fields line.now) == columns then error else field.Bad Columns) }
+    ensures { result ≡ (if length (line_fields line.now) == columns then error else field.Bad Columns) }
 {
     if count_of(line, TAB) + 1 == columns {
         error
@@ -27,7 +27,7 @@ fn first_error(columns: usize, line: &[u8], error: FieldError) -> FieldError
 
 /// The row of a line, its line end taken off.
 pub fn read_row(alloc: Global, columns: &[Column], line: &[u8]) -> Result<Row, FieldError>
-    ensures { Gives result (row_of columns.now line.now) }
+    ensures { GivesField result (row_of columns.now line.now) }
 {
     let mut row = List::with_capacity(alloc, columns.len())?;
     let mut rest = Some(line);

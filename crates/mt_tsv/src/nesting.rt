@@ -1,7 +1,7 @@
 //! Brackets and quotes of an array, byte by byte.
 
 ghost use Rattle.std.specs.Prelude.{◌≡◌, ◌+◌, ◌^◌, ◌<◌, ◌≤◌, length, IfSome};
-ghost use Rattle.mt_tsv.specs.Nesting.{depth_of, after, is_outside, is_level, is_comma, is_matched, IsElementEnd};
+ghost use Rattle.mt_tsv.specs.Nesting.{depth_of, nesting_after, is_outside, is_level, is_comma, is_matched, IsElementEnd};
 
 use crate::ascii::{BACKSLASH, CLOSE, COMMA, OPEN, QUOTE};
 
@@ -22,7 +22,7 @@ impl Nesting {
     /// Where the next byte stands.
     pub fn after(self, byte: u8) -> Nesting
         requires { depth_of self < 2 ^ 63 }
-        ensures next { result ≡ after self byte }
+        ensures next { result ≡ nesting_after self byte }
         ensures deeper { depth_of result ≤ depth_of self + 1 }
     {
         match self {

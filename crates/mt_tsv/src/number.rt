@@ -2,14 +2,14 @@
 
 ghost use Rattle.std.specs.Prelude.{◌≡◌};
 ghost use Rattle.mt_types.specs.Fits.{bits, is_unsigned, is_signed};
-ghost use Rattle.mt_tsv.specs.Scalars.{number_of, whole_of};
+ghost use Rattle.mt_tsv.specs.Scalars.{whole_number_of, whole_of};
 
 use crate::digits::read_magnitude;
 use crate::fault::RowWhy;
 use mt_types::{Value, Width};
 
 /// The number of an unsigned type.
-#[tactic(auto, unfolding(crate::specs::Scalars::integer_of, crate::specs::Scalars::number_of))]
+#[tactic(auto, unfolding(crate::specs::Scalars::integer_of, crate::specs::Scalars::whole_number_of))]
 pub fn read_unsigned(width: Width, text: &[u8]) -> Result<Value, RowWhy>
     ensures { result ≡ whole_of (is_unsigned (bits width)) text.now }
 {
@@ -31,9 +31,9 @@ pub fn read_unsigned(width: Width, text: &[u8]) -> Result<Value, RowWhy>
 }
 
 /// A number of 128 bits signed.
-#[tactic(auto, unfolding(crate::specs::Scalars::integer_of, crate::specs::Scalars::number_of))]
+#[tactic(auto, unfolding(crate::specs::Scalars::integer_of, crate::specs::Scalars::whole_number_of))]
 fn read_integer(text: &[u8]) -> Result<i128, RowWhy>
-    ensures { result ≡ number_of (is_signed 128) text.now }
+    ensures { result ≡ whole_number_of (is_signed 128) text.now }
 {
     let number = match text {
         [] => return Err(RowWhy::Number),

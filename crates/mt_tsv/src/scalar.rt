@@ -1,7 +1,7 @@
 //! Values that are no NULL and no array.
 
 ghost use Rattle.std.specs.Prelude.{◌≡◌};
-ghost use Rattle.mt_tsv.specs.Results.{Gives};
+ghost use Rattle.mt_tsv.specs.Results.{GivesField};
 ghost use Rattle.mt_tsv.specs.Scalars.{scalar_of};
 
 use crate::fault::{FieldError, RowWhy};
@@ -12,7 +12,7 @@ use mt_types::{Ty, Value};
 use std::alloc::Global;
 
 fn number(read: Result<Value, RowWhy>) -> Result<Value, FieldError>
-    ensures { Gives result read }
+    ensures { GivesField result read }
 {
     match read {
         Ok(value) => Ok(value),
@@ -23,7 +23,7 @@ fn number(read: Result<Value, RowWhy>) -> Result<Value, FieldError>
 /// The value of a text, of a type that is no Nullable, array or state.
 #[tactic(auto, unfolding(crate::specs::Scalars::scalar_of))]
 pub fn read_scalar(alloc: Global, ty: &Ty, text: &[u8]) -> Result<Value, FieldError>
-    ensures { Gives result (scalar_of ty.now text.now) }
+    ensures { GivesField result (scalar_of ty.now text.now) }
 {
     match ty {
         Ty::UInt(width) => number(read_unsigned(*width, text)),

@@ -1,7 +1,7 @@
 //! Texts with escapes.
 
 ghost use Rattle.std.specs.Prelude.{◌≡◌, ◌++◌, ◌-◌, ◌≤◌, length, replicate, IfOk};
-ghost use Rattle.mt_tsv.specs.Results.{Gives};
+ghost use Rattle.mt_tsv.specs.Results.{GivesField};
 ghost use Rattle.mt_tsv.specs.Texts.{escaped_byte, text_of, bounded_text, padded_text};
 
 use crate::ascii::BACKSLASH;
@@ -28,7 +28,7 @@ fn unescaped(letter: u8) -> Option<u8>
 }
 
 fn read_escapes(alloc: Global, field: &[u8]) -> Result<List<u8>, FieldError>
-    ensures { Gives result (text_of field.now) }
+    ensures { GivesField result (text_of field.now) }
 {
     let mut text = List::with_capacity(alloc, field.len())?;
     let mut rest = field;
@@ -52,7 +52,7 @@ fn read_escapes(alloc: Global, field: &[u8]) -> Result<List<u8>, FieldError>
 /// The text of a `String`.
 #[tactic(auto, unfolding(crate::specs::Texts::bounded_text))]
 pub fn read_string(alloc: Global, field: &[u8]) -> Result<List<u8>, FieldError>
-    ensures { Gives result (bounded_text MAX_TEXT field.now) }
+    ensures { GivesField result (bounded_text MAX_TEXT field.now) }
 {
     let text = read_escapes(alloc, field)?;
     if text.len() > MAX_TEXT {
@@ -77,7 +77,7 @@ fn pad(alloc: Global, size: usize, text: List<u8>) -> Result<List<u8>, NoMemory>
 /// The text of a `FixedString` of so many bytes, a shorter one padded with zero bytes.
 #[tactic(auto, unfolding(crate::specs::Texts::bounded_text, crate::specs::Texts::padded_text))]
 pub fn read_fixed(alloc: Global, size: u32, field: &[u8]) -> Result<List<u8>, FieldError>
-    ensures { Gives result (padded_text size field.now) }
+    ensures { GivesField result (padded_text size field.now) }
 {
     let text = read_escapes(alloc, field)?;
     if text.len() > size as usize {

@@ -5,12 +5,15 @@ use Rattle.std.specs.List.{enumerate_from, list_all, range_with_len, sum}
 use Rattle.std.proofs.Math.Path.{fun_ext}
 use Rattle.std.proofs.lemmas.List.{get_or-map, length-map, length-take-le, length-drop}
 use Rattle.std.proofs.lemmas.List.FromFn.{get_or-map-range_with_len, length-map-range_with_len}
+use Rattle.mt_facts.proofs.Lists.{map_map}
+use Rattle.mt_facts.proofs.Numbers.{sum_cons}
 use Rattle.mt_types.specs.declared.value.Value.{Value}
 use Rattle.mt_types.specs.Fits.{fits_of}
 use Rattle.mt_types.specs.Profile.{is_profile}
 use Rattle.mt_types.proofs.StepLemmas.{ok_then, then_of}
 use Rattle.mt_table.specs.Rows.{Pointwise}
 use Rattle.mt_table.specs.declared.column.Column.{Column}
+use Rattle.mt_table.proofs.PointwiseLemmas.{Pointwise-get_or, Pointwise-length}
 use Rattle.mt_defs.specs.Encoding.{Encodes}
 use Rattle.mt_defs.specs.FileNames.{stream_names}
 use Rattle.mt_defs.specs.Folder.{Folder}
@@ -26,11 +29,10 @@ use Rattle.mt_item.proofs.ExactLemmas.{small_of}
 use Rattle.mt_granules.specs.ColumnRows.{all_values}
 use Rattle.mt_fault.specs.Faults.{Judged, blame}
 use Rattle.mt_granules.specs.FileFaults.{in_order}
-use Rattle.mt_granules.proofs.GranuleLemmas.{length-granule_rows}
-use Rattle.mt_granules.proofs.IndexLemmas.{by_index, first_cut, list_all_more, numbered_all, numbered_each, pointwise_at, pointwise_long, pointwise_of}
+use Rattle.mt_granules.proofs.IndexLemmas.{by_index, first_cut, list_all_more, numbered_all, numbered_each, pointwise_of}
 use Rattle.mt_granules.proofs.OrderLemmas.{order_all, order_each}
-use Rattle.mt_granules.proofs.RowLemmas.{sum-cons}
 use Rattle.mt_fault.proofs.FaultLemmas.{blame_ok}
+use Rattle.mt_defs.proofs.GranuleLemmas.{length-granule_rows}
 use Rattle.mt_wide.specs.WideReading.{column_reading, granule_reading, payloads_at, stream_reading, value_fault}
 use Rattle.mt_wide.proofs.CountLemmas.{names_count}
 use Rattle.mt_wide.proofs.EncodedCountLemmas.{encoded_count}
@@ -91,7 +93,7 @@ module _ (column : Column) (profile : is_profile column.ty ≡ true) (streams : 
   read_from g i [] rows encoded p turned all = tt
   read_from g i (count ∷ granules) rows [] p turned all = absurd p
   read_from g i (count ∷ granules) rows (ss ∷ encoded) p turned all =
-      let both = sum-cons count granules in
+      let both = sum_cons count granules in
       let values = column_values i (take count rows) in
       let long : length values ≡ count = length-map (take count rows) _ ∙ length-take-le count rows (omega (arith, all, both)) in
       let here : payloads_at g streams ≡ ss = ap (λ (k : ℕ). payloads_at k streams) (let z : g ≡ g + 0 = omega arith in z) ∙ turned 0 (omega arith) in
@@ -105,20 +107,16 @@ module _ (column : Column) (profile : is_profile column.ty ≡ true) (streams : 
 abbrev turned : ℕ → List (List (List ℕ)) → List (List (List ℕ))
 turned n streams = map (λ g. payloads_at g streams) (range_with_len 0 n)
 
-map_twice : {A B C : Type 0} (f : B → C) (g : A → B) (xs : List A) → map f (map g xs) ≡ map (λ x. f (g x)) xs
-map_twice f g [] = refl
-map_twice {A} {B} {C} f g (x ∷ xs) = ap (λ (l : List C). f (g x) ∷ l) (map_twice f g xs)
-
 stream_back : (n k : ℕ) (streams : List (List (List ℕ))) → k < length streams → length (get_or streams k []) ≡ n → stream_payloads k (turned n streams) ≡ get_or streams k []
 stream_back n k streams h long =
-    map_twice (λ (ss : List (List ℕ)). slice_index_or ss k []) (λ (g : ℕ). payloads_at g streams) (range_with_len 0 n)
+    map_map (λ (ss : List (List ℕ)). slice_index_or ss k []) (λ (g : ℕ). payloads_at g streams) (range_with_len 0 n)
     ∙ ap (λ (f : ℕ → List ℕ). map f (range_with_len 0 n)) (fun_ext (λ g. get_or-map (λ (payloads : List (List ℕ)). slice_index_or payloads g []) streams k [] [] h))
     ∙ by_index (get_or streams k []) n [] long
 
 granule_back : (width g : ℕ) (granule_streams : List (List (List ℕ))) → g < length granule_streams → length (get_or granule_streams g []) ≡ width
     → payloads_at g (map (λ k. stream_payloads k granule_streams) (range_with_len 0 width)) ≡ get_or granule_streams g []
 granule_back width g granule_streams h long =
-    map_twice (λ (payloads : List (List ℕ)). slice_index_or payloads g []) (λ (k : ℕ). stream_payloads k granule_streams) (range_with_len 0 width)
+    map_map (λ (payloads : List (List ℕ)). slice_index_or payloads g []) (λ (k : ℕ). stream_payloads k granule_streams) (range_with_len 0 width)
     ∙ ap (λ (f : ℕ → List ℕ). map f (range_with_len 0 width)) (fun_ext (λ k. get_or-map (λ (ss : List (List ℕ)). slice_index_or ss k []) granule_streams g [] [] h))
     ∙ by_index (get_or granule_streams g []) width [] long
 
@@ -137,7 +135,7 @@ column_held folder granules column values profile e =
     let streams_are = order_each (stream_reading folder granules) names streams are in
     let granules_are = order_each (granule_reading column streams) (enumerate_from 0 granules) values e in
     let good = streams_good folder granules names streams streams_are in
-    let wide : length names ≡ length streams = pointwise_long _ names streams streams_are in
+    let wide : length names ≡ length streams = Pointwise-length _ names streams streams_are in
     let many : length streams ≡ length (streams_of column.ty) = sym wide ∙ names_count column in
     let lengths = lengths_from column profile streams n 0 granules values (omega arith) good many granules_are in
     record {
@@ -147,7 +145,7 @@ column_held folder granules column values profile e =
         granule_streams = turned n streams;
         encoded = encoded_from column profile streams n 0 i granules values rows (omega arith) good many granules_are is;
         streams = numbered_all (λ (p : ℕ × List ℕ). HasStream p.1 (stream_payloads p.0 (turned n streams)) granules folder) names [] (λ k h.
-            let held = stream_held folder granules (get_or names k []) (get_or streams k []) (pointwise_at _ names streams k [] [] streams_are h) in
+            let held = stream_held folder granules (get_or names k []) (get_or streams k []) (Pointwise-get_or _ names streams k [] [] streams_are h) in
             subst (λ (ps : List (List ℕ)). HasStream (get_or names k []) ps granules folder) (sym (stream_back n k streams (omega (arith, h, wide)) held.many)) held.has);
       };
     })
@@ -160,7 +158,7 @@ column_is_read folder granules column i rows are profile all has =
     let encoded = has.granule_streams in
     let streams : List (List (List ℕ)) = map (λ k. stream_payloads k encoded) (range_with_len 0 width) in
     let wide : length streams ≡ width = length-map-range_with_len (λ k. stream_payloads k encoded) 0 width in
-    let count : length encoded ≡ length granules = sym (pointwise_long _ (granule_rows granules rows) encoded has.encoded) ∙ length-granule_rows granules rows in
+    let count : length encoded ≡ length granules = sym (Pointwise-length _ (granule_rows granules rows) encoded has.encoded) ∙ length-granule_rows granules rows in
     let streams_are : in_order (stream_reading folder granules) names ≡ Ok streams =
     order_all (stream_reading folder granules) names streams (pointwise_of _ names streams (sym wide) (λ k a b h.
     let here = numbered_each (λ (p : ℕ × List ℕ). HasStream p.1 (stream_payloads p.0 encoded) granules folder) names a k has.streams h in
@@ -168,7 +166,7 @@ column_is_read folder granules column i rows are profile all has =
     ∙ ap (λ (ps : List (List ℕ)). let r : Judged (List (List ℕ)) = Ok ps in r) (sym (get_or-map-range_with_len (λ k. stream_payloads k encoded) 0 width k k b h (omega arith))))) in
     let rows_many : length (granule_rows granules rows) ≡ length granules = length-granule_rows granules rows in
     let granules_are = read_from column profile streams 0 i granules rows encoded has.encoded (λ k h.
-    let encodes = pointwise_at _ (granule_rows granules rows) encoded k [] [] has.encoded (omega (arith, h, rows_many)) in
+    let encodes = Pointwise-get_or _ (granule_rows granules rows) encoded k [] [] has.encoded (omega (arith, h, rows_many)) in
     ap (λ (m : ℕ). payloads_at m streams) (let z : 0 + k ≡ k = omega arith in z)
     ∙ granule_back width k encoded (omega (arith, h, count)) (encoded_count column.ty _ (get_or encoded k []) encodes.encoded ∙ sym (names_count column))) all in
     then_of (in_order (stream_reading folder granules) names) streams (λ streams. in_order (granule_reading column streams) (enumerate_from 0 granules)) streams_are

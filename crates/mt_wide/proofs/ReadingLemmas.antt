@@ -1,8 +1,8 @@
 -- Reading the columns of a Wide part one after another.
-use Rattle.std.proofs.Common.{◌≡◌, ℕ, ◌+◌, ◌<◌, ◌≤◌, suc, List, [], ◌∷◌, ◌++◌, length, map, take, get_or, refl, ap, sym, ◌∙◌, subst, arith, eqb, Bor}
+use Rattle.std.proofs.Common.{◌≡◌, ℕ, ◌+◌, ◌<◌, ◌≤◌, suc, List, [], ◌∷◌, ◌++◌, length, map, take, get_or, refl, ap, sym, ◌∙◌, subst, eqb, Bor}
 use Rattle.std.specs.Prelude.{Result, Ok, All, sum, slice_index_or}
 use Rattle.std.proofs.lemmas.Bool.{eqb-true}
-use Rattle.std.proofs.lemmas.List.{length-map, map-append, take_more}
+use Rattle.std.proofs.lemmas.List.{length-map, map-append}
 use Rattle.std.proofs.lemmas.List.Elements.{All-append, All-cons, All-nil}
 use Rattle.mt_types.specs.declared.value.Value.{Value}
 use Rattle.mt_types.specs.Steps.{◌>>=◌}
@@ -20,11 +20,12 @@ use Rattle.mt_fault.specs.declared.fault.Why.TheVariants as why
 use Rattle.mt_fault.specs.Faults.{Judged, file_fault}
 use Rattle.mt_granules.specs.FileFaults.{in_order}
 use Rattle.mt_granules.specs.PayloadReading.{GranulePayloads, granules_reading, payloads_reading}
-use Rattle.mt_granules.specs.PayloadView.{bytes_of, payloads_in}
+use Rattle.mt_granules.specs.PayloadView.{bytes_of_payload, payloads_in}
 use Rattle.mt_granules.specs.ColumnRows.{all_values, rows_of, with_column}
 use Rattle.mt_granules.proofs.OrderLemmas.{order_continues, order_each, order_ends, order_next}
-use Rattle.mt_granules.proofs.RowLemmas.{column_added, length-all_values, length-rows_of}
-use Rattle.mt_wide.specs.WideReading.{column_reading, payloads_at, rows_reading, wide_granules, wide_reading}
+use Rattle.mt_granules.proofs.RowLemmas.{column_added, length-rows_of}
+use Rattle.mt_granules.proofs.LayoutLemmas.{values_fit}
+use Rattle.mt_wide.specs.WideReading.{column_reading, payloads_at, wide_rows_reading, wide_granules, wide_reading}
 use Rattle.mt_wide.specs.StreamView.{HasGranules, streams_in}
 use Rattle.mt_wide.proofs.CountLemmas.{names_count}
 
@@ -60,20 +61,12 @@ streams_long names streams step e = sym (length-map streams (λ (r : Payloads). 
 
 -- a granule has a payload for each substream of the type
 pub slices_long : (column : Column) (names : List (List ℕ)) (streams : List Payloads) (granule : ℕ) (payloads seen : List Payload) (slices given : List (Bor (List ℕ)))
-    → names ≡ stream_names column → length streams ≡ length names → map bytes_of payloads ≡ payloads_at granule (streams_in streams) → seen ≡ payloads → slice_bytes slices ≡ map bytes_of seen → given ≡ slices → length given ≡ length (streams_of column.ty)
+    → names ≡ stream_names column → length streams ≡ length names → map bytes_of_payload payloads ≡ payloads_at granule (streams_in streams) → seen ≡ payloads → slice_bytes slices ≡ map bytes_of_payload seen → given ≡ slices → length given ≡ length (streams_of column.ty)
 slices_long column names streams granule payloads seen slices given names_are complete payloads_are same slices_are given_is =
     ap (λ (l : List (Bor (List ℕ))). length l) given_is ∙ sym (length-map slices (λ (s : Bor (List ℕ)). s.now)) ∙ ap (λ (l : List (List ℕ)). length l) slices_are
-    ∙ ap (λ (l : List Payload). length (map bytes_of l)) same ∙ ap (λ (l : List (List ℕ)). length l) payloads_are
+    ∙ ap (λ (l : List Payload). length (map bytes_of_payload l)) same ∙ ap (λ (l : List (List ℕ)). length l) payloads_are
     ∙ length-map (streams_in streams) (λ (ps : List (List ℕ)). slice_index_or ps granule []) ∙ length-map streams (λ (r : Payloads). (payloads_in r).payloads)
     ∙ complete ∙ ap (λ (l : List (List ℕ)). length l) names_are ∙ names_count column
-
--- ---- granules
-
-pub lengths_more : (granules : List ℕ) (i : ℕ) (values new : List (List Value)) (here : List Value) (rows : ℕ) → i < length granules → rows ≡ get_or granules i rows → new ≡ values ++ here ∷ [] → length here ≡ rows
-    → map (λ (h : List Value). length h) values ≡ take i granules → map (λ (h : List Value). length h) new ≡ take (i + 1) granules
-lengths_more granules i values new here rows h at new_is many so_far =
-    ap (map (λ (h : List Value). length h)) new_is ∙ map-append (λ (h : List Value). length h) values (here ∷ [])
-    ∙ ap (λ (l : List ℕ). l ++ length here ∷ []) so_far ∙ ap (λ (n : ℕ). take i granules ++ n ∷ []) (many ∙ at) ∙ sym (take_more granules i rows h)
 
 -- ---- columns
 
@@ -89,14 +82,6 @@ first_read folder granules count columns others column rows values split read is
     let step = column_reading folder granules in
     record { values = values ∷ []; so_far = ap (λ (cs : List Column). in_order step (take 1 cs)) split ∙ order_next step column [] values [] read refl; rows_are = is }
 
--- a column after the first
-pub after_first : (columns others : List Column) (first column : Column) (i : ℕ) → columns ≡ first ∷ others → i < length others → column ≡ get_or others i column → (i + 1 < length columns) × (column ≡ get_or columns (i + 1) column)
-after_first columns others first column i split h at =
-    (omega (arith, h, ap (λ (cs : List Column). length cs) split), at ∙ ap (λ (k : ℕ). get_or (first ∷ others) k column) (let z : suc i ≡ i + 1 = omega arith in z) ∙ ap (λ (cs : List Column). get_or cs (i + 1) column) (sym split))
-
-pub values_fit : (count : ℕ) (granules : List ℕ) (values : List (List Value)) → map (λ (h : List Value). length h) values ≡ granules → sum granules ≡ count → length (all_values values) ≡ count
-values_fit count granules values each all = length-all_values values ∙ ap sum each ∙ all
-
 pub rows_many : (folder : Folder) (granules : List ℕ) (count : ℕ) (columns : List Column) (rows : List Row) → IsReadSoFar folder granules count columns rows → length rows ≡ count
 rows_many folder granules count columns rows had = ap (λ (l : List Row). length l) had.rows_are ∙ length-rows_of count (map all_values had.values)
 
@@ -111,17 +96,17 @@ column_read folder granules count columns i column rows new values h at is each 
       ∙ ap (rows_of count) (sym (map-append all_values had.values (values ∷ [])));
 }
 
-pub all_read : (folder : Folder) (granules : List ℕ) (count : ℕ) (columns : List Column) (i : ℕ) (rows : List Row) → length columns ≤ i → IsReadSoFar folder granules count (take i columns) rows → rows_reading folder granules count columns ≡ Ok rows
+pub all_read : (folder : Folder) (granules : List ℕ) (count : ℕ) (columns : List Column) (i : ℕ) (rows : List Row) → length columns ≤ i → IsReadSoFar folder granules count (take i columns) rows → wide_rows_reading folder granules count columns ≡ Ok rows
 all_read folder granules count columns i rows h had =
     then_of (in_order (column_reading folder granules) columns) had.values (λ values. Ok (rows_of count (map all_values values))) (order_ends (column_reading folder granules) columns i had.values h had.so_far)
     ∙ ap (λ (l : List Row). let r : Judged (List Row) = Ok l in r) (sym had.rows_are)
 
 -- ---- the whole part
 
-pub part_read : (folder given : Folder) (count : ℕ) (columns : List Column) (granules : List ℕ) (rows shown : List Row) → folder ≡ given → wide_granules folder count columns ≡ Ok granules → rows_reading folder granules count columns ≡ Ok rows → shown ≡ rows
+pub part_read : (folder given : Folder) (count : ℕ) (columns : List Column) (granules : List ℕ) (rows shown : List Row) → folder ≡ given → wide_granules folder count columns ≡ Ok granules → wide_rows_reading folder granules count columns ≡ Ok rows → shown ≡ rows
     → wide_reading given count columns ≡ Ok (shown, granules)
 part_read folder given count columns granules rows shown same first read is =
     subst (λ (f : Folder). wide_reading f count columns ≡ Ok (shown, granules)) same
-    (then_of (wide_granules folder count columns) granules (λ granules. rows_reading folder granules count columns >>= λ rows. Ok (rows, granules)) first
-    ∙ then_of (rows_reading folder granules count columns) rows (λ rows. Ok (rows, granules)) read
+    (then_of (wide_granules folder count columns) granules (λ granules. wide_rows_reading folder granules count columns >>= λ rows. Ok (rows, granules)) first
+    ∙ then_of (wide_rows_reading folder granules count columns) rows (λ rows. Ok (rows, granules)) read
     ∙ ap (λ (l : List Row). let r : Judged (List Row × List ℕ) = Ok (l, granules) in r) (sym is))

@@ -16,7 +16,7 @@ use Rattle.mt_defs.specs.WrittenFrames.{mark_at, written_frames, written_marks_b
 use Rattle.mt_defs.specs.Granules.{granule_rows}
 use Rattle.mt_defs.specs.WrittenColumns.{file, granule_streams, stream_files, wide_column}
 use Rattle.mt_table.specs.declared.column.Column.{Column}
-use Rattle.mt_granules.proofs.GranuleLemmas.{length-granule_rows}
+use Rattle.mt_defs.proofs.GranuleLemmas.{length-granule_rows}
 use Rattle.mt_granules.specs.declared.data_file.DataFile.{DataFile}
 use Rattle.mt_granules.specs.declared.data_file.MarkedData.{MarkedData}
 use Rattle.mt_granules.specs.DataFiles.{AreRunsOf, all_runs, data_file_of, marked_data}

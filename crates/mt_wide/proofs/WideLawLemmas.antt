@@ -1,19 +1,18 @@
 -- A Wide part is read exactly where its files are of the layout.
 use Rattle.std.proofs.Common.{◌≡◌, ℕ, ◌+◌, ◌<◌, ◌≤◌, Bool, true, List, [], ◌∷◌, length, map, get_or, refl, ap, sym, ◌∙◌, subst, arith}
-use Rattle.std.specs.Prelude.{All, Ok, ◌↔◌, IsTrue, ◌==◌}
+use Rattle.std.specs.Prelude.{All, Ok, ◌↔◌, ◌==◌}
 use Rattle.std.specs.List.{enumerate_from, list_all, sum}
 use Rattle.std.proofs.lemmas.Bool.{eqb-true, eq-eqb}
 use Rattle.std.proofs.lemmas.List.{get_or-map, get_or_default, length-map}
 use Rattle.std.proofs.lemmas.List.FromFn.{get_or-enumerate_from, get_or-map-range_with_len, length-enumerate_from}
 use Rattle.mt_types.specs.declared.value.Value.{Value}
-use Rattle.mt_types.specs.declared.value.Value.TheVariants.{Null}
 use Rattle.mt_types.specs.Fits.{fits_of}
-use Rattle.mt_types.specs.Profile.{is_profile}
 use Rattle.mt_types.proofs.StepLemmas.{ok_pair, ok_one, ok_then, passed, required, then_of}
 use Rattle.mt_fault.specs.declared.fault.Why.TheVariants as why
-use Rattle.mt_table.specs.Rows.{Pointwise, RowFits}
+use Rattle.mt_table.specs.Rows.{RowFits}
 use Rattle.mt_table.specs.declared.column.Column.{Column}
 use Rattle.mt_table.specs.declared.limits.TheConstants.{MAX_ROWS}
+use Rattle.mt_table.proofs.PointwiseLemmas.{Pointwise-get_or, Pointwise-length}
 use Rattle.mt_defs.specs.FileNames.{stream_names, data_name, marks_name}
 use Rattle.mt_defs.specs.Folder.{Folder}
 use Rattle.mt_defs.specs.Granules.{granule_rows}
@@ -22,22 +21,20 @@ use Rattle.mt_defs.specs.Rows.{Row, column_values}
 use Rattle.mt_defs.specs.Wide.{HasColumn, HasStream, IsWide, stream_payloads}
 use Rattle.mt_granules.specs.ColumnRows.{all_values, row_at, rows_of}
 use Rattle.mt_fault.specs.Faults.{Judged, file_fault}
+use Rattle.mt_defs.proofs.GranuleLemmas.{length-granule_rows}
 use Rattle.mt_granules.specs.FileFaults.{in_order}
 use Rattle.mt_granules.specs.PayloadReading.{GranulePayloads, granules_reading, payloads_reading}
-use Rattle.mt_granules.proofs.GranuleLemmas.{length-granule_rows}
-use Rattle.mt_granules.proofs.IndexLemmas.{column_of_rows, cut_joined, list_all_at, numbered_all, numbered_each, pointwise_at, pointwise_long, pointwise_of, rows_of_columns}
+use Rattle.mt_granules.proofs.IndexLemmas.{column_of_rows, cut_joined, numbered_all, numbered_each, pointwise_of, rows_of_columns}
 use Rattle.mt_granules.proofs.OrderLemmas.{order_all, order_each}
 use Rattle.mt_granules.proofs.PayloadsHeldLemmas.{payloads_held}
 use Rattle.mt_granules.proofs.RowLemmas.{length-all_values, length-rows_of}
+use Rattle.mt_granules.proofs.LayoutLemmas.{AreProfile, row_fits}
 use Rattle.mt_wide.specs.HeldRows.{HoldsRows}
-use Rattle.mt_wide.specs.WideReading.{column_reading, first_stream, rows_reading, wide_granules, wide_reading}
+use Rattle.mt_wide.specs.WideReading.{column_reading, first_stream, wide_rows_reading, wide_granules, wide_reading}
 use Rattle.mt_wide.proofs.CountLemmas.{names_count}
 use Rattle.mt_wide.proofs.EncodedCountLemmas.{streams_some}
 use Rattle.mt_wide.proofs.ColumnLawLemmas.{ColumnIsHeld, column_held, column_is_read}
 use Rattle.mt_wide.proofs.StreamLawLemmas.{AreHeldGranules, first_read}
-
-abbrev AreProfile : List Column → Type 0
-AreProfile = All (λ column. IsTrue (is_profile column.ty))
 
 -- ---- the granules
 
@@ -55,16 +52,10 @@ granules_held folder count columns granules e =
 
 -- ---- rows that are read are held
 
-row_fits : (columns : List Column) (values : List (List Value)) (r : ℕ) → Pointwise (λ column vs. (list_all (fits_of column.ty) vs ≡ true) × (r < length vs)) columns values → RowFits columns (row_at values r)
-row_fits [] [] r p = tt
-row_fits [] (v ∷ values) r p = absurd p
-row_fits (c ∷ columns) [] r p = absurd p
-row_fits (c ∷ columns) (v ∷ values) r p = (list_all_at (fits_of c.ty) v r Null p.0.0 p.0.1, row_fits columns values r p.1)
-
 pub wide_held : (folder : Folder) (count : ℕ) (columns : List Column) (rows : List Row) (granules : List ℕ) → AreProfile columns → wide_reading folder count columns ≡ Ok (rows, granules) → HoldsRows columns rows granules count folder
 wide_held folder count columns rows granules profile e =
     ok_then (wide_granules folder count columns) _ (rows, granules) e (λ known known_is e.
-    ok_then (rows_reading folder known count columns) _ (rows, granules) e (λ read read_is e.
+    ok_then (wide_rows_reading folder known count columns) _ (rows, granules) e (λ read read_is e.
     ok_then (in_order (column_reading folder known) columns) (λ values. Ok (rows_of count (map all_values values))) read read_is (λ values are read_is.
     let pair = ok_pair _ _ _ _ e in
     let held_granules = granules_held folder count columns known known_is in
@@ -72,9 +63,9 @@ wide_held folder count columns rows granules profile e =
     let rows_are : rows ≡ rows_of count cols = pair.0 ∙ ok_one _ _ read_is in
     let step = column_reading folder known in
     let columns_are = order_each step columns values are in
-    let wide : length columns ≡ length values = pointwise_long _ columns values columns_are in
+    let wide : length columns ≡ length values = Pointwise-length _ columns values columns_are in
     let held : (k : ℕ) → k < length columns → ColumnIsHeld folder known (get_or columns k no_column) (get_or values k []) = λ k h.
-    column_held folder known (get_or columns k no_column) (get_or values k []) (profile k no_column h) (pointwise_at _ columns values k no_column [] columns_are h) in
+    column_held folder known (get_or columns k no_column) (get_or values k []) (profile k no_column h) (Pointwise-get_or _ columns values k no_column [] columns_are h) in
     let long : (k : ℕ) → k < length columns → length (all_values (get_or values k [])) ≡ count = λ k h. length-all_values (get_or values k []) ∙ ap sum (held k h).each ∙ held_granules.1 in
     let many : length rows ≡ count = ap (λ (l : List Row). length l) rows_are ∙ length-rows_of count cols in
     let column_at : (k : ℕ) → k < length columns → get_or cols k [] ≡ all_values (get_or values k []) = λ k h. get_or-map all_values values k [] [] (omega (arith, h, wide)) in
@@ -111,7 +102,7 @@ first_has (c ∷ columns) rows granules folder some is =
     let there : 0 < length names = omega (arith, names_count c, streams_some c.ty) in (
       stream_payloads 0 has.granule_streams,
       numbered_each (λ (p : ℕ × List ℕ). HasStream p.1 (stream_payloads p.0 has.granule_streams) granules folder) names [] 0 has.streams there,
-      length-map has.granule_streams _ ∙ sym (pointwise_long _ (granule_rows granules rows) has.granule_streams has.encoded) ∙ length-granule_rows granules rows,
+      length-map has.granule_streams _ ∙ sym (Pointwise-length _ (granule_rows granules rows) has.granule_streams has.encoded) ∙ length-granule_rows granules rows,
     )
 
 pub wide_read : (folder : Folder) (count : ℕ) (columns : List Column) (rows : List Row) (granules : List ℕ) → AreProfile columns → 1 ≤ length columns → 1 ≤ count → count ≤ MAX_ROWS → HoldsRows columns rows granules count folder
@@ -137,11 +128,11 @@ wide_read folder count columns rows granules profile some any few holds =
     ∙ ap (λ (vs : List (List Value)). let r : Judged (List (List Value)) = Ok vs in r)
     (sym (get_or-map (λ (p : ℕ × Column). map (column_values p.0) (granule_rows granules rows)) numbered k (0, a) b (omega (arith, h, long)) ∙ ap (λ (p : ℕ × Column). map (column_values p.0) (granule_rows granules rows)) at)))) in
     let cols_are : map all_values values ≡ map (λ (i, column). column_values i rows) numbered = each_joined numbered is.cut.all in
-    let rows_are : rows_reading folder granules count columns ≡ Ok rows =
+    let rows_are : wide_rows_reading folder granules count columns ≡ Ok rows =
     then_of (in_order (column_reading folder granules) columns) values (λ values. Ok (rows_of count (map all_values values))) columns_are
     ∙ ap (λ (cols : List (List Value)). let r : Judged (List Row) = Ok (rows_of count cols) in r) cols_are
     ∙ ap (λ (l : List Row). let r : Judged (List Row) = Ok l in r) (rows_of_columns columns rows count holds.many holds.fit) in
-    then_of (wide_granules folder count columns) granules _ first ∙ then_of (rows_reading folder granules count columns) rows _ rows_are
+    then_of (wide_granules folder count columns) granules _ first ∙ then_of (wide_rows_reading folder granules count columns) rows _ rows_are
   where
     not_none : (ns : List ℕ) → 1 ≤ sum ns → 1 ≤ length ns
     not_none [] h = absurd (omega arith)

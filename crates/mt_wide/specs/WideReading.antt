@@ -70,12 +70,12 @@ column_reading folder granules column = do
 -- ---- the rows
 
 -- the rows of these columns, so many, whose granules are known
-abbrev pub rows_reading : Folder → (granules : List ℕ) → (count : ℕ) → List Column → Judged (List Row)
-rows_reading folder granules count columns = in_order (column_reading folder granules) columns >>= λ values. Ok (rows_of count (map all_values values))
+abbrev pub wide_rows_reading : Folder → (granules : List ℕ) → (count : ℕ) → List Column → Judged (List Row)
+wide_rows_reading folder granules count columns = in_order (column_reading folder granules) columns >>= λ values. Ok (rows_of count (map all_values values))
 
 -- the rows of these columns, so many, and their granules
 abbrev pub wide_reading : Folder → (count : ℕ) → List Column → Judged (List Row × List ℕ)
 wide_reading folder count columns = do
   granules ← wide_granules folder count columns
-  rows ← rows_reading folder granules count columns
+  rows ← wide_rows_reading folder granules count columns
   Ok (rows, granules)

@@ -9,9 +9,9 @@ ghost use Rattle.mt_defs.specs.FileNames as defined;
 ghost use Rattle.mt_codec.specs.Results.{bytes_of as slice_bytes};
 ghost use Rattle.mt_granules.specs.ColumnRows.{all_values};
 ghost use Rattle.mt_granules.specs.FileFaults.{in_order};
-ghost use Rattle.mt_granules.specs.FileFolder.{folder_in};
+ghost use Rattle.mt_granules.specs.FileFolder.{indexed_folder};
 ghost use Rattle.mt_granules.specs.PayloadReading.{granules_of, mark_count};
-ghost use Rattle.mt_granules.specs.PayloadView.{bytes_of, payloads_in};
+ghost use Rattle.mt_granules.specs.PayloadView.{bytes_of_payload, payloads_in};
 ghost use Rattle.mt_fault.specs.Results.{Gives, Shows};
 ghost use Rattle.mt_wide.specs.WideReading.{column_reading, granule_reading, granules_check, payloads_at, stream_reading};
 ghost use Rattle.mt_wide.specs.StreamView.{HasGranules, TellsOf, streams_in};
@@ -34,7 +34,7 @@ pub fn read_column(
 ) -> Result<List<List<Value>>, FileError>
     requires profile { IsTrue (is_profile column.now.ty) }
     requires few { sum granules.now ≤ MAX_ROWS }
-    ensures reads { Gives result (column_reading (folder_in folder.now) granules.now column.now) }
+    ensures reads { Gives result (column_reading (indexed_folder folder.now) granules.now column.now) }
     ensures each { IfOk result (λ values. map (λ here. length here) values ≡ granules.now) }
     ensures fit { IfOk result (λ values. IsTrue (list_all (fits_of column.now.ty) (all_values values))) }
 {
@@ -61,7 +61,7 @@ fn read_streams<'a>(
     granules: &[u64],
     names: &[List<u8>],
 ) -> Result<List<Payloads<'a>>, FileError>
-    ensures reads { Shows streams_in result (in_order (stream_reading (folder_in folder.now) granules.now) names.now) }
+    ensures reads { Shows streams_in result (in_order (stream_reading (indexed_folder folder.now) granules.now) names.now) }
     ensures each { IfOk result (All (HasGranules granules.now)) }
 {
     let mut streams = List::with_capacity(alloc, names.len())?;
@@ -78,7 +78,7 @@ fn read_stream<'a>(
     granules: &[u64],
     name: &[u8],
 ) -> Result<Payloads<'a>, FileError>
-    ensures reads { Shows (λ read. (payloads_in read).payloads) result (stream_reading (folder_in folder.now) granules.now name.now) }
+    ensures reads { Shows (λ read. (payloads_in read).payloads) result (stream_reading (indexed_folder folder.now) granules.now name.now) }
     ensures each { IfOk result (HasGranules granules.now) }
 {
     let data_name = with_ending(alloc, name, b".bin")?;
@@ -148,7 +148,7 @@ fn payloads_at<'a>(
     granule: usize,
 ) -> Result<Vec<Payload<'a>>, NoMemory>
     requires within { All (λ read. granule < mark_count read.marks) streams.now }
-    ensures { IfOk result (λ payloads. map bytes_of payloads.items ≡ payloads_at granule (streams_in streams.now)) }
+    ensures { IfOk result (λ payloads. map bytes_of_payload payloads.items ≡ payloads_at granule (streams_in streams.now)) }
 {
     let mut payloads = Vec::with_capacity(alloc, streams.len())?;
     for stream in streams {
@@ -159,7 +159,7 @@ fn payloads_at<'a>(
 
 /// The bytes of some payloads.
 fn slices_of<'a>(alloc: Global, payloads: &'a [Payload<'_>]) -> Result<Vec<&'a [u8]>, NoMemory>
-    ensures { IfOk result (λ slices. slice_bytes slices.items ≡ map bytes_of payloads.now) }
+    ensures { IfOk result (λ slices. slice_bytes slices.items ≡ map bytes_of_payload payloads.now) }
 {
     let mut slices = Vec::with_capacity(alloc, payloads.len())?;
     for payload in payloads {

@@ -7,9 +7,9 @@ ghost use Rattle.mt_defs.specs.Folder.{folder_of};
 ghost use Rattle.mt_defs.specs.FileNames as defined;
 ghost use Rattle.mt_defs.specs.Rows.{RowFits};
 ghost use Rattle.mt_granules.specs.FileFaults.{in_order};
-ghost use Rattle.mt_granules.specs.FileFolder.{folder_in};
+ghost use Rattle.mt_granules.specs.FileFolder.{indexed_folder};
 ghost use Rattle.mt_fault.specs.Results.{Gives, Shows};
-ghost use Rattle.mt_wide.specs.WideReading.{rows_reading, wide_granules, wide_reading};
+ghost use Rattle.mt_wide.specs.WideReading.{wide_rows_reading, wide_granules, wide_reading};
 
 use crate::column::read_column;
 use mt_fault::{FileBytes, FileError};
@@ -53,7 +53,7 @@ fn read_columns(
     requires profile { All (λ column. IsTrue (is_profile column.ty)) columns.now }
     requires rows { count ≤ MAX_ROWS }
     requires all { sum granules.now ≡ count }
-    ensures reads { Shows (λ rows. rows.items) result (rows_reading (folder_in folder.now) granules.now count columns.now) }
+    ensures reads { Shows (λ rows. rows.items) result (wide_rows_reading (indexed_folder folder.now) granules.now count columns.now) }
     ensures fit { IfOk result (λ rows. All (RowFits columns.now) rows.items) }
 {
     let Some((first, others)) = columns.split_first() else {
@@ -77,7 +77,7 @@ pub fn first_granules(
 ) -> Result<List<u64>, FileError>
     requires some { 1 ≤ length columns.now }
     requires profile { All (λ column. IsTrue (is_profile column.ty)) columns.now }
-    ensures reads { Gives result (wide_granules (folder_in folder.now) count columns.now) }
+    ensures reads { Gives result (wide_granules (indexed_folder folder.now) count columns.now) }
     ensures all { IfOk result (λ granules. sum granules ≡ count) }
 {
     let name = first_stream(alloc, &columns[0])?;

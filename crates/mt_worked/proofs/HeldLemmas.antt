@@ -17,6 +17,7 @@ use Rattle.mt_types.specs.Fits.{fits_of}
 use Rattle.mt_types.specs.Items.{item_bytes}
 use Rattle.mt_table.specs.declared.column.Column.{Column}
 use Rattle.mt_table.specs.Names.{places_differ}
+use Rattle.mt_table.proofs.PointwiseLemmas.{Pointwise-get_or}
 use Rattle.mt_defs.specs.Lists.{Pointwise}
 use Rattle.mt_defs.specs.Folder.{Folder}
 use Rattle.mt_defs.specs.Rows.{Row, RowFits, cell, column_values, key_of, key_cmp}
@@ -34,9 +35,9 @@ use Rattle.mt_defs.specs.Part.{StandsFor, StandsForIn, HasColumns}
 use Rattle.mt_defs.specs.WorkedExample.{table, u64_column}
 use Rattle.mt_defs.proofs.ListedColumns.{listed, listed_few}
 use Rattle.mt_defs.proofs.Numbers.{stream_suffixes_UInt}
-use Rattle.mt_worked.specs.NumberColumns.{HasNumbers}
-use Rattle.mt_law_written.proofs.ListLemmas.{Pointwise-get_or}
-use Rattle.mt_worked.proofs.NumberLemmas.{encoding_UInt, length-granule_rows, same_rows}
+use Rattle.mt_defs.proofs.GranuleLemmas.{length-granule_rows}
+use Rattle.mt_worked.specs.NumberColumns.{HasNumbersOfWidth}
+use Rattle.mt_worked.proofs.NumberLemmas.{encoding_UInt, same_rows}
 
 abbrev pub key_name : List ℕ
 key_name = codes "k"
@@ -92,7 +93,7 @@ pub record Held (folder : Folder) (rows : List Row) : Type 0 where
   pub granules : List ℕ
   pub cut : AreGranules granules rows
   pub ordered : IsSorted (key_cmp (0 ∷ [])) rows
-  pub numbers : HasNumbers W64 0 rows
+  pub numbers : HasNumbersOfWidth W64 0 rows
   pub key : HasColumn (u64_column key_name) 0 rows granules folder
   pub index : folder index_name ≡ Some (primary_index_of (base_of table) rows granules)
 

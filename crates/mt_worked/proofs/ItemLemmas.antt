@@ -1,9 +1,7 @@
 -- Items of unsigned integers: which values fit, and their bytes.
-use Rattle.std.proofs.Common.{◌≡◌, ℕ, ℤ, pos, negsuc, ◌<◌, ◌^◌, Bool, true, List, refl, ap, sym, ◌∙◌, arith}
+use Rattle.std.proofs.Common.{◌≡◌, ℕ, ℤ, pos, negsuc, ◌<◌, ◌^◌, Bool, true, List, refl, ap, sym, ◌∙◌}
 use borrow.Author.Tests.{ltb-true}
-use mir.Val.{of_z, to_z}
-use Rattle.std.specs.Int.{w128, to_le_bytes}
-use Rattle.std.proofs.lemmas.Int.{to_z_pos}
+use Rattle.std.specs.Int.{to_le_bytes}
 use Rattle.mt_types.specs.declared.ty.Ty.{Ty, map-Ty}
 use Rattle.mt_types.specs.declared.ty.Ty.TheVariants.{UInt, outs-UInt}
 use Rattle.mt_types.specs.declared.ty.Ty.TheFolds.{fold_out-Ty}
@@ -13,7 +11,6 @@ use Rattle.mt_types.specs.declared.value.Value.{Value, out-Value}
 use Rattle.mt_types.specs.declared.value.Value.TheVariants.{Num, outs-Num}
 use Rattle.mt_types.specs.Fits.{fits_of, fits_step, natural_at, num_at, is_unsigned}
 use Rattle.mt_types.specs.Items.{item_bytes, item_step, whole_at, width}
-use Rattle.mt_types.proofs.NumberLemmas.{num_is}
 
 pub fits_UInt : (w : Width) (v : Value) → fits_of (UInt w) v ≡ natural_at w (out-Value v)
 fits_UInt w v =
@@ -35,14 +32,6 @@ natural_of (negsuc m) h = cc
 
 pub number_fits : (v : Value) (n : ℤ) → v ≡ Num n → fits_of (UInt W64) v ≡ true → IsNatural n
 number_fits v n is h = natural_of n (sym (ap (num_at (is_unsigned 64)) (ap out-Value is ∙ outs-Num n)) ∙ sym (fits_UInt W64 v) ∙ h)
-
--- a value that fits is a number
-pub fitting_is_number : (v : Value) → fits_of (UInt W64) v ≡ true → (n : ℤ) × (v ≡ Num n)
-fitting_is_number v h = let n = num_is (is_unsigned 64) v (sym (fits_UInt W64 v) ∙ h) in (n.0, n.1)
-
--- a cast of a number that was read as signed
-pub cast_natural : (n : ℤ) (m : ℕ) → n ≡ pos m → m < 2 ^ 64 → to_z w128 (of_z w128 n) ≡ pos m
-cast_natural n m is small = ap (λ z. to_z w128 (of_z w128 z)) is ∙ to_z_pos w128 m (omega arith)
 
 -- the item of a number
 pub number_item : (w : Width) (v : Value) (m : ℕ) → v ≡ Num (pos m) → item_bytes (UInt w) v ≡ to_le_bytes (width w) m

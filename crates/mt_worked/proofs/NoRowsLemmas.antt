@@ -19,7 +19,7 @@ use Rattle.mt_types.specs.Items.{item_bytes}
 use Rattle.mt_types.specs.Order.{values_cmp}
 use Rattle.mt_defs.specs.declared.mark.Mark.{Mark}
 use Rattle.mt_defs.specs.Lists.{Pointwise}
-use Rattle.mt_defs.specs.Folder.{Folder, folder_of, is_name}
+use Rattle.mt_defs.specs.Folder.{Folder, folder_of, names_agree}
 use Rattle.mt_defs.specs.Rows.{Row, cell, column_values, key_cmp}
 use Rattle.mt_defs.specs.Granules.{AreGranules, granule_rows}
 use Rattle.mt_defs.specs.FileNames.{data_name, marks_name, stream_names}
@@ -33,21 +33,22 @@ use Rattle.mt_defs.specs.WorkedExample.{table, u64_column, eight, data_of, seven
 use Rattle.mt_defs.specs.WorkedExample as example
 use Rattle.mt_defs.proofs.Examples.{value_order}
 use Rattle.mt_defs.proofs.Numbers.{stream_suffixes_UInt}
+use Rattle.mt_defs.proofs.NaturalLemmas.{fitting_is_number}
+use Rattle.mt_defs.proofs.NameLemmas.{same_name}
 use Rattle.mt_frame.specs.declared.fault.FrameWhy.{FrameWhy}
 use Rattle.mt_frame.specs.FrameReading.{frames_reading, frames_from, frame_reading}
 use Rattle.mt_frame.proofs.BlockLemmas.{frames_complete}
-use Rattle.mt_worked.specs.NumberColumns.{HasNumbers}
+use Rattle.mt_worked.specs.NumberColumns.{HasNumbersOfWidth}
 use Rattle.mt_worked.specs.WrongFolders.{with_stray_file, with_short_index, with_sizes_that_disagree, with_rows_out_of_order, with_mark_off_by_one, wrong_header}
-use Rattle.mt_worked.proofs.ItemLemmas.{number_fits, fitting_is_number, number_item}
+use Rattle.mt_worked.proofs.ItemLemmas.{number_fits, number_item}
 use Rattle.mt_worked.proofs.NumberLemmas.{items_length}
-use Rattle.mt_law_written.proofs.LookupLemmas.{same_name}
 use Rattle.mt_worked.proofs.HeldLemmas.{Held, held, HeldColumn, held_column, both_columns, key_stream, key_name}
 
 -- ---- a stray file
 
-not_among : (names : List (List ℕ)) (name : List ℕ) → list_any (λ other. is_name other name) names ≡ false → Contains names name → ⊥
+not_among : (names : List (List ℕ)) (name : List ℕ) → list_any (λ other. names_agree other name) names ≡ false → Contains names name → ⊥
 not_among names name none among =
-    let there : list_any (λ other. is_name other name) names ≡ true = list_any_at (λ other. is_name other name) names among.0 name among.1 (same_name _ _ among.2) in
+    let there : list_any (λ other. names_agree other name) names ≡ true = list_any_at (λ other. names_agree other name) names among.0 name among.1 (same_name _ _ among.2) in
     let bad : true ≡ false = sym there ∙ none in
     cc
 
@@ -144,7 +145,7 @@ firsts_length (count ∷ granules) rows some cut =
     let single : length (take 1 (take count rows)) ≡ 1 = omega arith in
     length-append (take 1 (take count rows)) (flat_map (take 1) (granule_rows granules (drop count rows))) ∙ omega arith
 
-firsts_numbers : (granules : List ℕ) (rows : List Row) → HasNumbers W64 0 rows → HasNumbers W64 0 (flat_map (take 1) (granule_rows granules rows))
+firsts_numbers : (granules : List ℕ) (rows : List Row) → HasNumbersOfWidth W64 0 rows → HasNumbersOfWidth W64 0 (flat_map (take 1) (granule_rows granules rows))
 firsts_numbers [] rows are = All-nil (λ row. IsTrue (fits_of (UInt W64) (cell row 0)))
 firsts_numbers (count ∷ granules) rows are =
     let P : Row → Type 0 = λ row. IsTrue (fits_of (UInt W64) (cell row 0)) in
@@ -156,7 +157,7 @@ keys_are_items (row ∷ rows) =
     ap (λ bytes. bytes ++ flat_map (key_bytes table.columns (0 ∷ [])) rows) (append-nil (item_bytes (UInt W64) (cell row 0)))
     ∙ ap (λ rest. item_bytes (UInt W64) (cell row 0) ++ rest) (keys_are_items rows)
 
-index_length : (rows : List Row) (granules : List ℕ) → AreGranules granules rows → HasNumbers W64 0 rows → 1 ≤ length granules → length (primary_index_of (base_of table) rows granules) ≡ (length granules + 1) * 8
+index_length : (rows : List Row) (granules : List ℕ) → AreGranules granules rows → HasNumbersOfWidth W64 0 rows → 1 ≤ length granules → length (primary_index_of (base_of table) rows granules) ≡ (length granules + 1) * 8
 index_length rows granules cut are some =
     let P : Row → Type 0 = λ row. IsTrue (fits_of (UInt W64) (cell row 0)) in
     let firsts = flat_map (take 1) (granule_rows granules rows) in
@@ -209,7 +210,7 @@ key_in row fits =
 numbers_back : (m n : ℕ) → m < 2 ^ 64 → to_le_bytes w64 m ≡ eight n → n ≡ from_le_bytes w64 (eight n) → m ≡ n
 numbers_back m n small e back = sym (from_le_bytes-to_le_bytes_8 m small) ∙ ap (from_le_bytes w64) e ∙ sym back
 
-three_items : (rows : List Row) → IsSorted (key_cmp (0 ∷ [])) rows → HasNumbers W64 0 rows → length rows ≡ 3 → flat_map (item_bytes (UInt W64)) (column_values 0 rows) ≡ (eight 2 ++ eight 1) ++ (eight 3 ++ []) → ⊥
+three_items : (rows : List Row) → IsSorted (key_cmp (0 ∷ [])) rows → HasNumbersOfWidth W64 0 rows → length rows ≡ 3 → flat_map (item_bytes (UInt W64)) (column_values 0 rows) ≡ (eight 2 ++ eight 1) ++ (eight 3 ++ []) → ⊥
 three_items [] ordered are three e = absurd (omega (arith, three))
 three_items (a ∷ []) ordered are three e = absurd (omega (arith, three))
 three_items (a ∷ b ∷ rows) ordered are three e =

@@ -1,14 +1,12 @@
 -- Columns of unsigned integers: their encoding, their bytes and their rows.
-use Rattle.std.proofs.Common.{◌≡◌, ℕ, suc, ◌*◌, true, List, [], ◌∷◌, length, map, drop, refl, ap, sym, ◌∙◌, arith}
+use Rattle.std.proofs.Common.{◌≡◌, ℕ, ◌*◌, true, List, [], ◌∷◌, length, map, refl, ap, sym, ◌∙◌, arith}
 use Rattle.std.specs.Prelude.{All, IsTrue}
 use Rattle.std.specs.List.{flat_map}
 use Rattle.std.specs.Int.{cast_unsigned, to_le_bytes}
 use Rattle.std.proofs.lemmas.List.{length-append}
 use Rattle.std.proofs.lemmas.List.Elements.{All-head, All-tail}
-use Rattle.mt_types.specs.declared.ty.Ty.{Ty, roll-Ty}
-use Rattle.mt_types.specs.declared.ty.Ty.TheOpen.{Ty-F}
+use Rattle.mt_types.specs.declared.ty.Ty.{Ty}
 use Rattle.mt_types.specs.declared.ty.Ty.TheVariants.{UInt, outs-UInt}
-use Rattle.mt_types.specs.declared.ty.Ty.TheViews.{roll-out-Ty}
 use Rattle.mt_types.specs.declared.ty.Width.{Width}
 use Rattle.mt_types.specs.declared.ty.Width.TheVariants.{W8, W16, W32, W64, W128}
 use Rattle.mt_types.specs.declared.value.Value.{Value, out-Value}
@@ -19,14 +17,11 @@ use Rattle.mt_types.specs.Numbers.{width_size}
 use Rattle.mt_table.specs.declared.column.Column.{Column}
 use Rattle.mt_table.specs.Form.{uint64_column}
 use Rattle.mt_defs.specs.Encoding.{EncodesAs, EncodesItems, encoding_step}
-use Rattle.mt_defs.specs.Granules.{granule_rows}
 use Rattle.mt_defs.specs.Rows.{Row, RowFits, cell, column_values, key_of}
 use Rattle.mt_defs.proofs.Encoders.{EncodesAs_out}
-use Rattle.mt_worked.specs.NumberColumns.{HasNumbers}
+use Rattle.mt_defs.proofs.Numbers.{roll_UInt}
+use Rattle.mt_worked.specs.NumberColumns.{HasNumbersOfWidth}
 use Rattle.mt_worked.proofs.ItemLemmas.{fits_UInt, item_bytes_UInt}
-
-roll_UInt : (w : Width) → roll-Ty (Ty-F.UInt w) ≡ UInt w
-roll_UInt w = ap roll-Ty (sym (outs-UInt w)) ∙ roll-out-Ty (UInt w)
 
 pub encoding_UInt : (w : Width) → EncodesAs (UInt w) ≡ EncodesItems (item_bytes (UInt w))
 encoding_UInt w = EncodesAs_out (UInt w) ∙ ap (λ l. encoding_step Ty (λ u. u) EncodesAs l) (outs-UInt w) ∙ ap (λ ty. EncodesItems (item_bytes ty)) (roll_UInt w)
@@ -50,7 +45,7 @@ level_length W128 _ h = cc
 item_length : (w : Width) (v : Value) → IsTrue (fits_of (UInt w) v) → length (item_bytes (UInt w) v) ≡ width_size w
 item_length w v h = ap length (item_bytes_UInt w v) ∙ level_length w (out-Value v) (sym (fits_UInt w v) ∙ h)
 
-pub items_length : (w : Width) (k : ℕ) (rows : List Row) → HasNumbers w k rows → length (flat_map (item_bytes (UInt w)) (column_values k rows)) ≡ length rows * width_size w
+pub items_length : (w : Width) (k : ℕ) (rows : List Row) → HasNumbersOfWidth w k rows → length (flat_map (item_bytes (UInt w)) (column_values k rows)) ≡ length rows * width_size w
 items_length w k [] h = omega arith
 items_length w k (row ∷ rows) h =
     let P : Row → Type 0 = λ row. IsTrue (fits_of (UInt w) (cell row k)) in
@@ -72,7 +67,3 @@ same_rows first second [] fit = refl
 same_rows first second (row ∷ rows) fit =
     ap (λ r. r ∷ map (key_of (0 ∷ 1 ∷ [])) rows) (same_row first second row (All-head (RowFits (both first second)) row rows fit))
     ∙ ap (λ rest. row ∷ rest) (same_rows first second rows (All-tail (RowFits (both first second)) row rows fit))
-
-pub length-granule_rows : (granules : List ℕ) (rows : List Row) → length (granule_rows granules rows) ≡ length granules
-length-granule_rows [] rows = refl
-length-granule_rows (count ∷ granules) rows = ap suc (length-granule_rows granules (drop count rows))

@@ -1,3 +1,3 @@
 pub mod PartitionLemmas
 mod WriteLemmas
-mod WrittenParts
+pub mod WrittenParts

@@ -1,14 +1,13 @@
 -- The lines of one partition.
-use Rattle.std.proofs.Common.{◌≡◌, ℕ, ◌+◌, Bool, true, false, cond, List, [], ◌∷◌, get_or, Option, Some, None, Ok, refl, sym, ap, ◌∙◌, arith}
+use Rattle.std.proofs.Common.{◌≡◌, ℕ, ◌+◌, Bool, true, false, cond, List, [], ◌∷◌, Option, Some, None, Ok, refl, sym, ap, ◌∙◌, arith}
 use Rattle.std.specs.Prelude.{All, Contains, ◌↔◌}
 use Rattle.std.specs.Str.{bytes_eq}
-use Rattle.std.proofs.lemmas.List.Elements.{All-nil, All-cons, All-contains, Contains-get_or}
+use Rattle.std.proofs.lemmas.List.Elements.{All-nil, All-cons}
 use Rattle.std.proofs.lemmas.Slice.Eq.{bytes_eq-Decides}
 use Rattle.mt_table.specs.declared.definition.Table.{Table}
 use Rattle.mt_defs.specs.Partition.{HaveOnePartition, partition_bytes}
 use Rattle.mt_defs.specs.Rows.{Row}
-use Rattle.mt_defs.specs.Sorting.{sorted_rows}
-use Rattle.mt_defs.proofs.Sorted.{All-sorted_rows}
+use Rattle.mt_defs.proofs.PartitionLemmas.{one_for_all}
 use Rattle.mt_writing.specs.Partitions.{are_together, no_other, one_partition, other_line}
 
 -- what a comparison of two rows says
@@ -52,11 +51,6 @@ none_other table first line (row ∷ rows) e = by_test (are_together table first
     by_test true is e later = All-cons (λ other. partition_bytes table first ≡ partition_bytes table other) row rows ((bytes_eq-Decides (partition_bytes table first) (partition_bytes table row)).0 is) (later e)
     by_test false is e later = cc
 
-one_for_all : (table : Table) (first : Row) (rows : List Row) → All (λ row. partition_bytes table first ≡ partition_bytes table row) rows → HaveOnePartition table rows
-one_for_all table first rows all a b in_rows also =
-    let P : Row → Type 0 = λ row. partition_bytes table first ≡ partition_bytes table row in
-    sym (All-contains P rows a all in_rows) ∙ All-contains P rows b all also
-
 no_other_line : (found : Option ℕ) → no_other found ≡ Ok tt → found ≡ None
 no_other_line None e = refl
 no_other_line (Some line) e = cc
@@ -68,11 +62,3 @@ have_one table [] e = λ a b in_rows also. absurd (nowhere a in_rows)
     nowhere : (a : Row) → Contains [] a → ⊥
     nowhere a in_none = let inside = in_none.1 in omega (arith, inside)
 have_one table (first ∷ rows) e = one_for_all table first (first ∷ rows) (none_other table first 1 (first ∷ rows) (no_other_line (other_line table first 1 (first ∷ rows)) e))
-
--- so do they in key order
-pub sorted_one : (table : Table) (rows : List Row) → HaveOnePartition table rows → HaveOnePartition table (sorted_rows table.sort rows)
-sorted_one table [] one = one
-sorted_one table (first ∷ rows) one =
-    let P : Row → Type 0 = λ row. partition_bytes table first ≡ partition_bytes table row in
-    one_for_all table first (sorted_rows table.sort (first ∷ rows))
-    (All-sorted_rows P table.sort (first ∷ rows) (λ k d h. one first (get_or (first ∷ rows) k d) (Contains-get_or (first ∷ rows) 0 first (omega arith)) (Contains-get_or (first ∷ rows) k d h)))

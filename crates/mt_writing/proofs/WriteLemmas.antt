@@ -8,7 +8,7 @@ use Rattle.mt_fault.specs.declared.file.FileBytes.{FileBytes}
 use Rattle.mt_shelf.specs.Streams.{GrowsByPrefix}
 use Rattle.mt_shelf.specs.Files.{Files, gained_files}
 use Rattle.mt_shelf.specs.Held.{pair_of}
-use Rattle.mt_command.specs.Status.{is_outside, refusal, ◌>>=◌}
+use Rattle.mt_command.specs.Status.{is_outside_fault, refusal, ◌>>=◌}
 use Rattle.mt_command.specs.Plans.{Meets, Answers, refusal_of, world, or_else, status_of, answer_of}
 use Rattle.mt_command.specs.Steps.{Counts, StepCausedBy, Stored}
 use Rattle.mt_command.specs.Tables.{table_in}
@@ -70,7 +70,7 @@ text_printed path part (Some f) None written = tt
 text_printed path part (Some f) (Some input) None = refl
 text_printed path part (Some f) (Some input) (Some xs) = ap Some (sym (append-nil xs))
 
-outside_answers : (status : Status) → is_outside status ≡ true → (refused : Option Status) → Answers refused status
+outside_answers : (status : Status) → is_outside_fault status ≡ true → (refused : Option Status) → Answers refused status
 outside_answers status is refused = λ inside. cc
 
 pub folder_stored : (path part : List ℕ) (table : Table) (folder : List FileBytes) (result : Result Unit Status) (left left' written : Option (List ℕ)) (files mid new : Option Files) (a b c a' b' c' : ℕ)
@@ -136,20 +136,20 @@ target_steps (Ok y) (Err other) x status is gives = let same : other ≡ status 
 target_steps (Err s) second x status is gives = cc
 
 pub target_refused : (path part : List ℕ) (table : Table) (status : Status) (files mid : Option Files) → IfSome files (λ f. table_in path f ≡ Ok table) → mid ≡ files
-    → IfSome mid (λ f. is_outside status ≡ false → free_target part f ≡ Err status) → IfSome files (λ f. is_outside status ≡ false → table_for path part f ≡ Err status)
+    → IfSome mid (λ f. is_outside_fault status ≡ false → free_target part f ≡ Err status) → IfSome files (λ f. is_outside_fault status ≡ false → table_for path part f ≡ Err status)
 target_refused path part table status None mid known same gives = tt
 target_refused path part table status (Some f) mid known same gives =
-    let here : is_outside status ≡ false → free_target part f ≡ Err status = subst (λ files. IfSome files (λ g. is_outside status ≡ false → free_target part g ≡ Err status)) same gives in
+    let here : is_outside_fault status ≡ false → free_target part f ≡ Err status = subst (λ files. IfSome files (λ g. is_outside_fault status ≡ false → free_target part g ≡ Err status)) same gives in
     λ inside. target_steps (table_in path f) (free_target part f) table status known (here inside)
 
-then_refuses : {A B : Type 0} (first : Result A Status) (second : A → Result B Status) (x : A) (status : Status) → first ≡ Ok x → (is_outside status ≡ false → second x ≡ Err status)
+then_refuses : {A B : Type 0} (first : Result A Status) (second : A → Result B Status) (x : A) (status : Status) → first ≡ Ok x → (is_outside_fault status ≡ false → second x ≡ Err status)
     → Answers (or_else (refusal first) (refusal (first >>= second))) status
 then_refuses (Ok z) second x status is gives = λ inside. let same : z ≡ x = cc in sym (ap (λ r. status_of (refusal r)) (ap second same ∙ gives inside))
 then_refuses (Err s) second x status is gives = cc
 
 -- the input is refused, or failed
 pub input_refused : (path part : List ℕ) (table : Table) (status : Status) (left left' written : Option (List ℕ)) (files mid : Option Files) (a b c a' b' c' : ℕ) (before now : Counts)
-    → IfSome files (λ f. table_for path part f ≡ Ok table) → mid ≡ files → IfSome left (λ input. is_outside status ≡ false → folder_for table input ≡ Err status)
+    → IfSome files (λ f. table_for path part f ≡ Ok table) → mid ≡ files → IfSome left (λ input. is_outside_fault status ≡ false → folder_for table input ≡ Err status)
     → StepCausedBy (let r : Result (List FileBytes) Status = Err status in r) before now
     → Meets (write_plan path part) (world left written files a b c) (world left' written mid a' b' c') status
 input_refused path part table status left left' written files mid a b c a' b' c' before now known same gives cause =

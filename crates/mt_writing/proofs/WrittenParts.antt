@@ -1,8 +1,8 @@
 -- What `write` publishes is the folder of writable rows, and so stands for them.
-use Rattle.std.proofs.Common.{◌≡◌, ◌≢◌, ℕ, Bool, true, false, List, [], ◌∷◌, ◌||◌, ◌≤◌, get_or, All, Result, Ok, Err, refl, ap, sym, subst, arith}
+use Rattle.std.proofs.Common.{◌≡◌, ◌≢◌, ℕ, Bool, true, false, List, [], ◌≤◌, get_or, All, Result, Ok, Err, refl, ap, sym, subst, arith}
 use Rattle.std.specs.Prelude.{nat_lt}
 use Rattle.std.specs.List.{list_all, list_any}
-use Rattle.std.proofs.lemmas.List.Elements.{All-nil, All-cons}
+use Rattle.mt_facts.proofs.Lists.{none_passes}
 use Rattle.mt_types.specs.Bytes.{is_byte}
 use Rattle.mt_fault.specs.declared.file.FileBytes.{FileBytes}
 use Rattle.mt_table.specs.declared.definition.Table.{Table}
@@ -19,6 +19,7 @@ use Rattle.mt_defs.specs.Sorting.{sorted_rows}
 use Rattle.mt_defs.specs.Writer.{IsWritable, written_folder}
 use Rattle.mt_defs.specs.WrittenGranules.{written_granules}
 use Rattle.mt_defs.proofs.Sorted.{IsSorted-sorted_rows, All-sorted_rows, cell_count-sorted_rows, length-sorted_rows, some_sorted_rows}
+use Rattle.mt_defs.proofs.PartitionLemmas.{sorted_one}
 use Rattle.mt_law_written.proofs.StandLemmas.{written_stands}
 use Rattle.mt_meta.proofs.InnerLemmas.{projections_kept}
 use Rattle.mt_command.specs.Status.{◌>>=◌, refused_by, status_of_rows}
@@ -29,7 +30,7 @@ use Rattle.mt_command.specs.declared.limits.TheConstants.{MAX_FOLDER}
 use Rattle.mt_command.specs.declared.status.Status.{Status}
 use Rattle.mt_command.specs.declared.status.Status.TheVariants.{TooMuch}
 use Rattle.mt_command.specs.declared.status.What.TheVariants as what
-use Rattle.mt_writing.proofs.PartitionLemmas.{have_one, sorted_one}
+use Rattle.mt_writing.proofs.PartitionLemmas.{have_one}
 use Rattle.mt_command.proofs.ProjectionParts.{projection_part}
 
 -- ---- steps that were passed
@@ -52,25 +53,14 @@ read_rows : {A : Type 0} (reading : Result A RowError) (rows : A) → refused_by
 read_rows (Ok x) rows e = let same : x ≡ rows = cc in ap Ok same
 read_rows (Err error) rows e = cc
 
-rows_read : (table : Table) (text : List ℕ) (rows : List Row) → rows_of table text ≡ Ok rows → rows_reading table.columns text ≡ Ok rows
+pub rows_read : (table : Table) (text : List ℕ) (rows : List Row) → rows_of table text ≡ Ok rows → rows_reading table.columns text ≡ Ok rows
 unfolding rows_of
 rows_read table text rows e = read_rows (rows_reading table.columns text) rows e
 
 -- a folder within the limit is the one that was made
-within : (folder files : List FileBytes) (much : Bool) → nat_lt MAX_FOLDER (folder_bytes folder) ≡ much → within_limit folder ≡ Ok files → files ≡ folder
+pub within : (folder files : List FileBytes) (much : Bool) → nat_lt MAX_FOLDER (folder_bytes folder) ≡ much → within_limit folder ≡ Ok files → files ≡ folder
 within folder files true is e = let never : within_limit folder ≡ Err (TooMuch what.Part MAX_FOLDER) = rw is refl in cc
 within folder files false is e = let made : within_limit folder ≡ Ok folder = rw is refl in let same : folder ≡ files = cc in sym same
-
--- a test that finds nothing fails at each element
-none_passes : {X : Type 0} (test : X → Bool) (xs : List X) → list_any test xs ≡ false → All (λ x. test x ≡ false) xs
-none_passes test [] e = All-nil (λ x. test x ≡ false)
-none_passes test (x ∷ xs) e =
-    let both = neither (test x) (list_any test xs) e in
-    All-cons (λ x. test x ≡ false) x xs both.0 (none_passes test xs both.1)
-  where
-    neither : (a b : Bool) → (a || b) ≡ false → (a ≡ false) × (b ≡ false)
-    neither true b e = cc
-    neither false b e = (refl, e)
 
 -- no projection has too many cells
 few_each : (table : Table) (rows : List Row) (many : Bool) → list_any (has_many_cells table rows) table.projections ≡ many → few_cells table rows ≡ Ok tt → All (λ projection. has_many_cells table rows projection ≡ false) table.projections

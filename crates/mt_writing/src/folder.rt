@@ -3,7 +3,7 @@ ghost use Rattle.std.specs.Prelude.{◌≢◌, [], ◌<◌, ◌≤◌, IfOk, All
 ghost use Rattle.mt_table.specs.declared.limits.TheConstants.{MAX_CELLS};
 ghost use Rattle.mt_shelf.specs.Held.{HasName};
 ghost use Rattle.mt_defs.specs.Rows.{RowFits, cell_count};
-ghost use Rattle.mt_command.specs.Status.{Gives};
+ghost use Rattle.mt_command.specs.Status.{GivesOutcome};
 ghost use Rattle.mt_command.specs.Steps.{StepCausedBy, of_nothing};
 ghost use Rattle.mt_writing.specs.Write.{rows_of, folder_of};
 
@@ -22,7 +22,7 @@ use std::thread::Threads;
 #[tactic(auto, unfolding(crate::specs::Write::rows_of))]
 fn rows_of(alloc: Global, table: &Table, text: &[u8]) -> Result<List<Row>, Status>
     requires { text.now ≢ [] }
-    ensures gives { Gives result (rows_of table.now text.now) }
+    ensures gives { GivesOutcome result (rows_of table.now text.now) }
     ensures some { IfOk result (λ rows. rows ≢ []) }
     ensures fit { IfOk result (All (RowFits table.now.columns)) }
     ensures few { IfOk result (λ rows. cell_count table.now.columns rows ≤ MAX_CELLS) }
@@ -47,7 +47,7 @@ pub(crate) fn folder_of<R: Threads + Sync, G: Gate + Sync>(
     requires text { text.now ≢ [] }
     requires few { 0 < workers }
     requires many { workers ≤ 64 }
-    ensures gives { Gives result (folder_of table.now text.now) }
+    ensures gives { GivesOutcome result (folder_of table.now text.now) }
     ensures names { IfOk result (λ folder. All HasName folder) }
     ensures cause { StepCausedBy result of_nothing of_nothing }
 {

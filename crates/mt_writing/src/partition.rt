@@ -4,7 +4,7 @@ ghost use Rattle.std.specs.Prelude.{◌≡◌, All};
 ghost use Rattle.mt_defs.specs.Rows.{RowFits};
 ghost use Rattle.mt_meta.specs.PartitionKeys.{ArePartitionKeys};
 ghost use Rattle.mt_writing.specs.Partitions.{other_line, one_partition};
-ghost use Rattle.mt_command.specs.Status.{Gives};
+ghost use Rattle.mt_command.specs.Status.{GivesOutcome};
 ghost use Rattle.mt_command.specs.Steps.{StepCausedBy, of_nothing};
 
 use mt_command::Status;
@@ -16,7 +16,7 @@ use mt_types::Row;
 pub(crate) fn one_partition(table: &Table, rows: &[Row]) -> Result<(), Status>
     requires key { ArePartitionKeys table.now.columns table.now.partition }
     requires fit { All (RowFits table.now.columns) rows.now }
-    ensures gives { Gives result (one_partition table.now rows.now) }
+    ensures gives { GivesOutcome result (one_partition table.now rows.now) }
     ensures cause { StepCausedBy result of_nothing of_nothing }
 {
     let Some(first) = rows.first() else {

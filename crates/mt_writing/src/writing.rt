@@ -6,7 +6,7 @@ ghost use Rattle.mt_shelf.specs.Paths.{is_path};
 ghost use Rattle.mt_shelf.specs.Files.{gained_files};
 ghost use Rattle.mt_shelf.specs.Held.{pair_of, HasName};
 ghost use Rattle.mt_shelf.specs.State.{files_of};
-ghost use Rattle.mt_command.specs.Status.{Gives};
+ghost use Rattle.mt_command.specs.Status.{GivesOutcome};
 ghost use Rattle.mt_command.specs.Plans.{Meets, CausedBy, world, answer_of};
 ghost use Rattle.mt_command.specs.Steps.{StepCausedBy, Stored, of_shelf, of_source};
 ghost use Rattle.mt_writing.specs.Write.{table_for, folder_for, write_plan};
@@ -31,7 +31,7 @@ fn table_for<F: Shelf>(
     requires path { IsTrue (is_path path.now) }
     requires part { IsTrue (is_path part.now) }
     ensures gives { IfSome (files_of (F.state shelf.old))
-        (λ files. Gives result (table_for path.now part.now files)) }
+        (λ files. GivesOutcome result (table_for path.now part.now files)) }
     ensures files { files_of (F.state shelf.new) ≡ files_of (F.state shelf.old) }
     ensures cause { StepCausedBy result (of_shelf (F.faults shelf.old)) (of_shelf (F.faults shelf.new)) }
 {
@@ -53,7 +53,7 @@ fn folder_for<R: Threads + Sync, S: Source, G: Gate + Sync>(
 ) -> Result<List<FileBytes>, Status>
     requires few { 0 < workers }
     requires many { workers ≤ 64 }
-    ensures gives { IfSome (S.left input.old) (λ input. Gives result (folder_for table.now input)) }
+    ensures gives { IfSome (S.left input.old) (λ input. GivesOutcome result (folder_for table.now input)) }
     ensures names { IfOk result (λ folder. All HasName folder) }
     ensures ended { OnOk result (IsAtEnd (S.left input.new)) }
     ensures cause { StepCausedBy result (of_source (S.faults input.old)) (of_source (S.faults input.new)) }

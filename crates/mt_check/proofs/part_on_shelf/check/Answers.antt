@@ -1,12 +1,12 @@
 use Rattle.std.specs.Prelude.{Ok}
 use Rattle.std.proofs.lemmas.Result.{err_from_is_err_and}
 use Rattle.mt_shelf.specs.State.{files_of}
-use Rattle.mt_files.specs.Listings.{listed_folder, names_of}
+use Rattle.mt_files.specs.Listings.{listed_folder, entry_names}
 use Rattle.mt_check.proofs.PartLemmas.{as_many, whole_fails, whole_gives}
 use Rattle.mt_check.proofs.part_on_shelf.check.Goals as goal
 
 pub check_listed-requires-clause-each : goal.check_listed-requires-clause-each
-check_listed-requires-clause-each g c = as_many c.args.table.now (listed_folder c.args.listing.now) (names_of c.args.listing.now) c.in-Ok.files c.in-Ok.ensures.names.projections
+check_listed-requires-clause-each g c = as_many c.args.table.now (listed_folder c.args.listing.now) (entry_names c.args.listing.now) c.in-Ok.files c.in-Ok.ensures.names.projections
 
 pub returns-in_err-check_listed-in-Ok-clause-gives : goal.returns-in_err-check_listed-in-Ok-clause-gives
 returns-in_err-check_listed-in-Ok-clause-gives g c =

@@ -1,7 +1,7 @@
 use Rattle.std.proofs.Common.{◌≡◌, List, ◌∷◌, sym, ◌∙◌, subst, get_or, ℕ}
+use Rattle.std.proofs.lemmas.List.{get_or_default}
 use Rattle.mt_files.specs.SkipMarks.{pieces_at}
 use Rattle.mt_check.proofs.GroupLemmas.{no_entry, no_group, entry_differs, entry_agrees, cut_next, values_taken, values_left}
-use Rattle.mt_files.proofs.LoopLemmas.{same_default}
 use Rattle.mt_check.proofs.skip_index.check_entries.Goals as goal
 
 pub returns-in_default : goal.returns-in_default
@@ -16,13 +16,13 @@ returns-in-Ok-false c =
     let size = get_or c.args.sizes.now c.loop-index.index 0 in
     let first = subst (λ (p : List ℕ). pieces_at p c.loop-index.ahead.now ≡ c.in-Some.entry.now ∷ pieces_at p c.in-Some.later.now) c.as_slice.ensures c.in-Some.ensures in
     entry_differs c.args.skip.now c.args.ty.now c.args.sizes.now c.args.entries.now.payload c.loop-index.index size c.loop-index.rest.now c.split_at.result.0.now c.split_at.result.1.now c.loop-index.ahead.now
-    c.in-Some.later.now c.in-Some.entry.now _ c.value_fault.result c.loop-index.invariant.ahead c.loop-index-test.true (same_default c.args.sizes.now c.loop-index.index 0 size c.loop-index-test.true) c.split_at.ensures.front c.split_at.ensures.back first
+    c.in-Some.later.now c.in-Some.entry.now _ c.value_fault.result c.loop-index.invariant.ahead c.loop-index-test.true (get_or_default c.args.sizes.now c.loop-index.index 0 size c.loop-index-test.true) c.split_at.ensures.front c.split_at.ensures.back first
     (sym c.in-Ok-false.ensures ∙ c.in-Ok-false.field-0-test) c.value_fault.ensures
 
 pub loop-index-preserved : goal.loop-index-preserved
 loop-index-preserved c =
     let size = get_or c.args.sizes.now c.loop-index.index 0 in
-    let at = same_default c.args.sizes.now c.loop-index.index 0 size c.loop-index-test.true in
+    let at = get_or_default c.args.sizes.now c.loop-index.index 0 size c.loop-index-test.true in
     let first = subst (λ (p : List ℕ). pieces_at p c.loop-index.ahead.now ≡ c.in-Some.entry.now ∷ pieces_at p c.in-Some.later.now) c.as_slice.ensures c.in-Some.ensures in
     record {
       ahead = entry_agrees c.args.skip.now c.args.ty.now c.args.sizes.now c.args.entries.now.payload c.loop-index.index size c.loop-index.rest.now c.split_at.result.0.now c.split_at.result.1.now

@@ -2,7 +2,7 @@ use Rattle.std.proofs.Common.{Bool, List, ℕ, Ok, ◌≡◌, ◌+◌, sum, ap, 
 use Rattle.std.proofs.lemmas.Result.{err_from_is_err_and}
 use Rattle.mt_types.specs.declared.ty.Ty.TheVariants.{Array}
 use Rattle.mt_types.specs.declared.value.Value.{Value}
-use Rattle.mt_codec.specs.Results.{FailsAs}
+use Rattle.mt_codec.specs.Results.{CodecFailsAs}
 use Rattle.mt_codec.specs.ColumnReading.{Read, Column, column_from, array_from, arrays_from}
 use Rattle.mt_codec.specs.Cursor.{is_apart, lists}
 use Rattle.mt_codec.proofs.ColumnLemmas.{column_Array, array_wrong, array_inner_wrong, array_read}
@@ -15,7 +15,7 @@ returns-in_err-sizes-in-Array t c =
     let u = c.get-inner.result.now in
     let is : c.args.ty.now ≡ Array u = c.in-Array.is ∙ ap (λ u. Array u) (sym c.get-inner.ensures) in
     let column : column_from apart c.args.ty.now ≡ array_from apart (column_from apart u) = ap (column_from apart) is ∙ column_Array apart u in
-    rw (p.1, p.2) (subst (λ (f : Column). FailsAs c.in_err-sizes-in-Array.field-0.0 (f c.args.stream c.args.count (lists c.args.streams))) (sym column)
+    rw (p.1, p.2) (subst (λ (f : Column). CodecFailsAs c.in_err-sizes-in-Array.field-0.0 (f c.args.stream c.args.count (lists c.args.streams))) (sym column)
     (array_wrong apart (column_from apart u) c.args.stream c.args.count (lists c.args.streams) c.in_err-sizes-in-Array.field-0.0 c.in_err-sizes-in-Array.ensures))
 
 pub returns-in_err-elements-in-Array : goal.returns-in_err-elements-in-Array
@@ -29,9 +29,9 @@ returns-in_err-elements-in-Array t c =
     let is : c.args.ty.now ≡ Array u = c.in-Array.is ∙ ap (λ u. Array u) (sym c.get-inner.ensures) in
     let column : column_from apart c.args.ty.now ≡ array_from apart (column_from apart u) = ap (column_from apart) is ∙ column_Array apart u in
     let total : c.sum_of-total.result ≡ sum sizes = c.sum_of-total.ensures ∙ ap sum c.as_slice.ensures in
-    let inner = subst (λ (a : Bool). FailsAs e (column_from a u (c.args.stream + 1) (sum sizes) (lists left))) c.in_ok-sizes-in-Array.ensures.0
-    (subst (λ (n : ℕ). FailsAs e (column_from (is_apart left) u (c.args.stream + 1) n (lists left))) total c.in_err-elements-in-Array.ensures) in
-    rw (p.1, p.2) (subst (λ (f : Column). FailsAs e (f c.args.stream c.args.count (lists c.args.streams))) (sym column)
+    let inner = subst (λ (a : Bool). CodecFailsAs e (column_from a u (c.args.stream + 1) (sum sizes) (lists left))) c.in_ok-sizes-in-Array.ensures.0
+    (subst (λ (n : ℕ). CodecFailsAs e (column_from (is_apart left) u (c.args.stream + 1) n (lists left))) total c.in_err-elements-in-Array.ensures) in
+    rw (p.1, p.2) (subst (λ (f : Column). CodecFailsAs e (f c.args.stream c.args.count (lists c.args.streams))) (sym column)
     (array_inner_wrong apart (column_from apart u) c.args.stream c.args.count (lists c.args.streams) sizes (lists left) e c.in_ok-sizes-in-Array.ensures.1 inner))
 
 pub returns-in_ok-arrays_from-in-Array : goal.returns-in_ok-arrays_from-in-Array

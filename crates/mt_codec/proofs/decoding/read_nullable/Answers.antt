@@ -2,7 +2,7 @@ use Rattle.std.proofs.Common.{Bool, List, ℕ, Ok, ◌≡◌, ◌+◌, ap, sym, 
 use Rattle.std.proofs.lemmas.Result.{err_from_is_err_and}
 use Rattle.mt_types.specs.declared.value.Value.{Value}
 use Rattle.mt_item.specs.ItemReading.{item_front}
-use Rattle.mt_codec.specs.Results.{FailsAs}
+use Rattle.mt_codec.specs.Results.{CodecFailsAs}
 use Rattle.mt_codec.specs.ColumnReading.{Read, stream_from}
 use Rattle.mt_codec.specs.Cursor.{is_apart, lists}
 use Rattle.mt_codec.proofs.ColumnLemmas.{nullable_wrong, nullable_inner_wrong, nullable_read}
@@ -18,7 +18,7 @@ returns-in_err-values c =
     let p = err_from_is_err_and c.from_residual-in_err-values.result c.from_residual-in_err-values.ensures.1 in
     let apart = is_apart c.args.streams in
     let e = c.in_err-values.field-0.0 in
-    let inner = subst (λ (a : Bool). FailsAs e (stream_from a (item_front c.args.inner.now) (c.args.stream + 1) c.args.count (lists c.in_ok-nulls.left))) c.in_ok-nulls.ensures.reads.0 c.in_err-values.ensures.reads in
+    let inner = subst (λ (a : Bool). CodecFailsAs e (stream_from a (item_front c.args.inner.now) (c.args.stream + 1) c.args.count (lists c.in_ok-nulls.left))) c.in_ok-nulls.ensures.reads.0 c.in_err-values.ensures.reads in
     rw (p.1, p.2) (nullable_inner_wrong apart (stream_from apart (item_front c.args.inner.now)) c.args.stream c.args.count (lists c.args.streams) c.in_ok-nulls.nulls.now (lists c.in_ok-nulls.left) e c.in_ok-nulls.ensures.reads.1 inner)
 
 pub nulled-requires : goal.nulled-requires

@@ -12,14 +12,15 @@ use Rattle.mt_fault.specs.Results.{FailsAs}
 use Rattle.mt_granules.proofs.FitLemmas.{all_fit, column_fits, first_fits}
 use Rattle.mt_fault.proofs.FaultLemmas.{fails_then}
 use Rattle.mt_granules.proofs.StepLemmas.{fails_first, fails_numbered}
-use Rattle.mt_compact.specs.CompactReading.{column_reading}
-use Rattle.mt_compact.proofs.ReadingLemmas.{after_first, all_read, column_read, first_read, rows_many, values_fit}
+use Rattle.mt_granules.proofs.LayoutLemmas.{after_first, values_fit}
+use Rattle.mt_compact.specs.CompactReading.{compact_column_reading}
+use Rattle.mt_compact.proofs.ReadingLemmas.{all_read, column_read, first_read, rows_many}
 use Rattle.mt_compact.proofs.reading.read_columns.Goals as goal
 
 pub returns-in_err-first_values-clause-reads : goal.returns-in_err-first_values-clause-reads
 returns-in_err-first_values-clause-reads c =
     let p = err_from_is_err_and c.from_residual.result c.from_residual.ensures.1 in
-    let step = column_reading (length c.args.columns.now) (payloads_in c.args.payloads.now) in
+    let step = compact_column_reading (length c.args.columns.now) (payloads_in c.args.payloads.now) in
     rw (p.1, p.2) (fails_then c.in_err-first_values.field-0.0 (in_order step (enumerate_from 0 c.args.columns.now)) (λ values. Ok (rows_of c.args.count (map all_values values)))
     (subst (λ (cs : List Column). FailsAs c.in_err-first_values.field-0.0 (in_order step (enumerate_from 0 cs))) (sym c.in-Some.ensures.cases.0) (fails_first c.in_err-first_values.field-0.0 step (0, c.in-Some.first.now) (enumerate_from 1 c.in-Some.others.now) c.in_err-first_values.ensures.reads)))
 
@@ -44,7 +45,7 @@ read_column-requires-in-loop-other_index-clause-profile c =
 pub returns-in_err-values-clause-reads : goal.returns-in_err-values-clause-reads
 returns-in_err-values-clause-reads c =
     let p = err_from_is_err_and c.from_residual-in_err-values.result c.from_residual-in_err-values.ensures.1 in
-    let step = column_reading (length c.args.columns.now) (payloads_in c.args.payloads.now) in
+    let step = compact_column_reading (length c.args.columns.now) (payloads_in c.args.payloads.now) in
     let at = after_first c.args.columns.now c.in-Some.others.now c.in-Some.first.now c.index-others-other_index.result c.loop-other_index.other_index c.in-Some.ensures.cases.0 c.loop-other_index-test.true c.index-others-other_index.is in
     rw (p.1, p.2) (fails_then c.in_err-values.field-0.0 (in_order step (enumerate_from 0 c.args.columns.now)) (λ values. Ok (rows_of c.args.count (map all_values values)))
     (fails_numbered c.in_err-values.field-0.0 step c.args.columns.now (c.loop-other_index.other_index + 1) c.index-others-other_index.result c.loop-other_index.invariant.read.values at.0 at.1

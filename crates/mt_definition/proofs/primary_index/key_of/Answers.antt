@@ -1,5 +1,5 @@
 use Rattle.std.proofs.Common.{rules}
-use Rattle.mt_definition.proofs.KeyLemmas.{cell_fits}
+use Rattle.mt_defs.proofs.RowLemmas.{cell_fits}
 use Rattle.mt_definition.proofs.primary_index.key_of.Goals as goal
 
 pub append_cell-requires-clause-fits : goal.append_cell-requires-clause-fits

@@ -1,7 +1,7 @@
 use Rattle.std.proofs.Common.{◌∙◌, sym, ap, arith, ◌+◌, ◌-◌, ◌/◌}
+use Rattle.std.proofs.lemmas.List.{get_or_default}
 use Rattle.mt_shelf.specs.declared.file.Entry.{Entry}
 use Rattle.mt_files.proofs.ListingLemmas.{cmp, is_greater_here, is_here, is_less_here, none_left}
-use Rattle.mt_files.proofs.LoopLemmas.{same_default}
 use Rattle.mt_files.proofs.listing.size_of.Goals as goal
 
 pub loop-low-preserved-in-Less : goal.loop-low-preserved-in-Less
@@ -17,7 +17,7 @@ returns-in-Equal c =
     let less = c.loop-low-test.true in
     let middle = c.loop-low.low + (c.loop-low.high - c.loop-low.low) / 2 in
     sym (is_here c.args.listing.now name c.loop-low.low c.loop-low.high middle c.index-listing-middle-in-Equal.result c.requires.rising c.loop-low.invariant (omega arith) (omega (arith, less))
-    (ap (λ (e : Entry). cmp e.name name) (same_default c.args.listing.now middle c.index-listing-middle-in-Equal.result c.index-listing-middle.result (let within = c.loop-low.invariant.within in omega (arith, less, within)))
+    (ap (λ (e : Entry). cmp e.name name) (get_or_default c.args.listing.now middle c.index-listing-middle-in-Equal.result c.index-listing-middle.result (let within = c.loop-low.invariant.within in omega (arith, less, within)))
     ∙ ap (λ n. cmp n name) (sym c.as_slice.ensures) ∙ sym c.cmp.ensures ∙ c.in-Equal.is))
 
 pub loop-low-preserved : goal.loop-low-preserved

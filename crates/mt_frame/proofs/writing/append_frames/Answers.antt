@@ -1,5 +1,6 @@
 use Rattle.std.proofs.Common.{rules, subst, ◌≡◌, take, length, List, ℕ, sym}
-use Rattle.mt_frame.proofs.FrameLemmas.{frames_step, prefix_stays}
+use Rattle.mt_facts.proofs.Lists.{prefix_stays}
+use Rattle.mt_frame.proofs.FrameLemmas.{frames_step}
 use Rattle.mt_frame.proofs.writing.append_frames.Goals as goal
 
 pub loop-rest-preserved : goal.loop-rest-preserved

@@ -2,8 +2,9 @@ use Rattle.std.proofs.Common.{◌∙◌, ap, refl, sym}
 use Rattle.mt_shelf.specs.Files.{entries_below}
 use Rattle.mt_definition.specs.declared.accepted.Accepted.{Accepted}
 use Rattle.mt_defs.specs.Writer.{written_folder}
+use Rattle.mt_law_written.proofs.FolderLemmas.{granules_of}
 use Rattle.mt_headline.proofs.PublishedLemmas.{not_both, same_accepted, steps_accept, steps_checks, steps_refuse, with_draft}
-use Rattle.mt_headline.proofs.WrittenLemmas.{granules_of, written_published}
+use Rattle.mt_headline.proofs.WrittenLemmas.{written_published}
 use Rattle.mt_headline.proofs.law.published_parts_are_accepted.Goals as goal
 
 pub returns-clause-stands : goal.returns-clause-stands

@@ -1,14 +1,15 @@
 use Rattle.std.proofs.Common.{ℕ, ◌≡◌, ◌∷◌, ap, sym, subst, ◌∙◌, arith}
+use Rattle.mt_facts.proofs.Lists.{nil_from_length}
 use Rattle.mt_types.specs.declared.ty.Ty.{out-Ty}
 use Rattle.mt_item.specs.ItemReading.{held_front, number_front}
 use Rattle.mt_item.specs.Results.{GivesRead}
-use Rattle.mt_item.proofs.ExactLemmas.{held_none, held_nothing, held_some, held_bad, no_bytes}
+use Rattle.mt_item.proofs.ExactLemmas.{held_none, held_nothing, held_some, held_bad}
 use Rattle.mt_item.proofs.state.read_held.Goals as goal
 
 pub returns-in_default : goal.returns-in_default
 returns-in_default c =
     let number = number_front (out-Ty c.args.ty.now) in
-    ap (held_front number) (no_bytes c.args.bytes.now c.in_default.ensures.cases) ∙ held_none number
+    ap (held_front number) (nil_from_length c.args.bytes.now c.in_default.ensures.cases) ∙ held_none number
 
 pub returns-then-first-gt1 : goal.returns-then-first-gt1
 returns-then-first-gt1 c =

@@ -3,7 +3,7 @@ use Rattle.std.proofs.lemmas.List.{length_push}
 use Rattle.mt_types.specs.declared.ty.Ty.{Ty}
 use Rattle.mt_table.specs.declared.column.Column.{Column}
 use Rattle.mt_defs.specs.Rows.{Row}
-use Rattle.mt_meta.specs.KeyReading.{types_of, key_types, fits_key, key_items, IsFirst}
+use Rattle.mt_meta.specs.KeyReading.{types_of_key, key_types, fits_key, key_items, IsFirst}
 use Rattle.mt_meta.proofs.KeyReadingLemmas.{KeysGoOn, keys_start, keys_more, keys_taken, no_key, all_keys}
 use Rattle.mt_meta.proofs.keys.read_keys.Goals as goal
 
@@ -14,7 +14,7 @@ granules-init c =
     record {
       goes = subst (λ (keys : List Row). KeysGoOn (key_types c.args.def.now) c.args.bytes.now keys c.args.bytes.now) (sym c.new-keys.ensures) (keys_start (key_types c.args.def.now) c.args.bytes.now);
       few = rw c.new-keys.ensures (omega arith);
-      same = ap (λ (cs : List Column). types_of cs c.split_at.result.0.now) columns ∙ ap (types_of c.args.def.now.columns) key;
+      same = ap (λ (cs : List Column). types_of_key cs c.split_at.result.0.now) columns ∙ ap (types_of_key c.args.def.now.columns) key;
       scalar = rw (columns, key) (keys_taken c.args.def.now.columns c.args.def.now.sort c.args.def.now.primary c.requires.keys);
     }
 

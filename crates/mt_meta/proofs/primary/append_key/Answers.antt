@@ -1,5 +1,5 @@
 use Rattle.std.proofs.Common.{get_or}
-use Rattle.mt_meta.proofs.KeyLemmas.{cell_fits}
+use Rattle.mt_defs.proofs.RowLemmas.{cell_fits}
 use Rattle.mt_meta.proofs.primary.append_key.Goals as goal
 
 pub append_cell-requires-clause-fits : goal.append_cell-requires-clause-fits

@@ -3,7 +3,7 @@ use Rattle.std.specs.Prelude.{All}
 use Rattle.std.proofs.lemmas.List.{take_all}
 use Rattle.std.proofs.lemmas.List.Elements.{All-more}
 use Rattle.mt_table.specs.declared.partition.PartExpr.TheVariants.{Plain}
-use Rattle.mt_meta.specs.PartitionKeys.{IsExpression, HaveSameValue}
+use Rattle.mt_meta.specs.PartitionKeys.{IsKeyExpression, HaveSameValue}
 use Rattle.mt_meta.proofs.PartitionLemmas.{at_index, has_value, all_same_values, all_same_bytes}
 use Rattle.mt_meta.proofs.same.same_partition.Goals as goal
 
@@ -12,14 +12,14 @@ is_same-requires-clause-first c =
     let t = c.args.table.now in
     let items = c.as_slice-expression-items in
     let i = c.loop-expression.expression-index in
-    has_value t.columns c.args.a.now (get_or items.result.now i (Plain 0)) (at_index (IsExpression t.columns) t.partition items.result.now i (Plain 0) items.ensures c.requires.key c.loop-expression-test.true) c.requires.first
+    has_value t.columns c.args.a.now (get_or items.result.now i (Plain 0)) (at_index (IsKeyExpression t.columns) t.partition items.result.now i (Plain 0) items.ensures c.requires.key c.loop-expression-test.true) c.requires.first
 
 pub is_same-requires-clause-second : goal.is_same-requires-clause-second
 is_same-requires-clause-second c =
     let t = c.args.table.now in
     let items = c.as_slice-expression-items in
     let i = c.loop-expression.expression-index in
-    has_value t.columns c.args.b.now (get_or items.result.now i (Plain 0)) (at_index (IsExpression t.columns) t.partition items.result.now i (Plain 0) items.ensures c.requires.key c.loop-expression-test.true) c.requires.second
+    has_value t.columns c.args.b.now (get_or items.result.now i (Plain 0)) (at_index (IsKeyExpression t.columns) t.partition items.result.now i (Plain 0) items.ensures c.requires.key c.loop-expression-test.true) c.requires.second
 
 pub returns-then-not-is_same : goal.returns-then-not-is_same
 returns-then-not-is_same c =

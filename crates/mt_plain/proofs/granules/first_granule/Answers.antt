@@ -2,7 +2,8 @@ use Rattle.std.proofs.Common.{◌≡◌, ◌≤◌, ◌+◌, ◌-◌, length, ar
 use Rattle.std.specs.Prelude.{List, Bool}
 use Rattle.mt_defs.specs.Rows.{Row}
 use Rattle.mt_defs.specs.WrittenGranules.{is_full}
-use Rattle.mt_plain.proofs.GranuleLemmas.{at_least_one, ends_here, ends_last, goes_on}
+use Rattle.mt_defs.proofs.RowLemmas.{some_rows}
+use Rattle.mt_plain.proofs.GranuleLemmas.{ends_here, ends_last, goes_on}
 use Rattle.mt_plain.proofs.granules.first_granule.Goals as goal
 
 pub returns-then-branch : goal.returns-then-branch
@@ -23,7 +24,7 @@ loop-count-preserved c =
 
 pub returns : goal.returns
 returns c =
-    let some : 1 ≤ length c.args.rows.now = at_least_one c.args.rows.now c.requires.some in
+    let some : 1 ≤ length c.args.rows.now = some_rows c.args.rows.now c.requires.some in
     let next : (c.loop-count.count - 1) + 1 ≡ length c.args.rows.now =
     omega (arith, c.loop-count.auto.count, c.loop-count.auto.count-end some, c.loop-count-test.false) in
     record {

@@ -1,7 +1,8 @@
 use Rattle.std.proofs.Common.{rules, ◌≡◌, ℕ, List, ◌++◌, ap, sym, subst, ◌∙◌}
 use Rattle.std.specs.Prelude.{OnOk}
 use Rattle.mt_types.specs.declared.value.Value.TheVariants.{Num}
-use Rattle.mt_plain.proofs.NumberLemmas.{number_fits, fitting_is_number, cast_natural, number_item}
+use Rattle.mt_defs.proofs.NaturalLemmas.{cast_natural, fitting_is_number}
+use Rattle.mt_plain.proofs.NumberLemmas.{number_fits, number_item}
 use Rattle.mt_plain.proofs.items.append_item.Goals as goal
 
 pub overflow_cast-number : goal.overflow_cast-number

@@ -1,7 +1,7 @@
 use Rattle.std.proofs.Common.{length}
 use Rattle.std.proofs.Math.Dec.{leb}
 use Rattle.std.proofs.lemmas.Bool.{leb-true, leb-false}
-use Rattle.mt_sort.proofs.StableLemmas.{not_both}
+use Rattle.mt_facts.proofs.Truth.{never_both}
 use Rattle.mt_proj.proofs.WalkLemmas.{step_fails, step_holds, walk_ends}
 use Rattle.mt_proj.proofs.grouped.runs_stand.Goals as goal
 
@@ -10,7 +10,7 @@ returns-then-not-run_stands c = (
   λ e. cc,
   λ f. absurd (step_fails c.args.columns.now c.args.aggs.now c.args.rows.now c.args.stored.now c.run_at-run.result.now c.run_at-parts.result.now c.loop-start.start c.loop-start.stored_start
       c.requires.in_order c.requires.stored_in_order c.loop-start-test.true c.run_at-run.ensures.run c.run_at-parts.ensures.run
-      (λ r. not_both c.run_stands.result (c.run_stands.ensures.1 r) c.if-not-run_stands.true) (c.loop-start.invariant.ahead.1 f)),
+      (λ r. never_both c.run_stands.result (c.run_stands.ensures.1 r) c.if-not-run_stands.true) (c.loop-start.invariant.ahead.1 f)),
 )
 
 pub loop-start-preserved : goal.loop-start-preserved

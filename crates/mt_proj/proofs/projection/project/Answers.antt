@@ -1,10 +1,11 @@
 use Rattle.std.proofs.Common.{◌≡◌, ap, sym, ◌∙◌, subst}
 use Rattle.std.proofs.lemmas.Result.{IfOk-weaker}
 use Rattle.mt_table.specs.declared.projection.Projection.TheVariants.{Normal, Grouped}
+use Rattle.mt_table.proofs.StoredLemmas.{read_at}
 use Rattle.mt_defs.specs.Projections.{IsProjectionOf}
 use Rattle.mt_defs.specs.Writer.{projection_rows}
 use Rattle.mt_proj.specs.Keys.{projection_at}
-use Rattle.mt_proj.proofs.LawLemmas.{written_stand, read_at}
+use Rattle.mt_proj.proofs.LawLemmas.{written_stand}
 use Rattle.mt_proj.proofs.projection.project.Goals as goal
 
 pub returns-in-Normal-clause-written : goal.returns-in-Normal-clause-written

@@ -2,9 +2,9 @@ use Rattle.std.proofs.Common.{◌≡◌, ◌↔◌, ap, ◌∙◌, subst}
 use Rattle.std.specs.Prelude.{IsTrue}
 use Rattle.std.proofs.lemmas.Result.{IfOk-weaker}
 use Rattle.mt_table.specs.declared.projection.Projection.TheVariants.{Normal, Grouped}
+use Rattle.mt_table.proofs.StoredLemmas.{read_at}
 use Rattle.mt_defs.specs.Projections.{IsProjectionOf, is_projection_of}
 use Rattle.mt_proj.specs.Keys.{projection_at}
-use Rattle.mt_proj.proofs.LawLemmas.{read_at}
 use Rattle.mt_proj.proofs.TestLemmas.{answers_tested}
 use Rattle.mt_proj.proofs.projection.stands_for.Goals as goal
 

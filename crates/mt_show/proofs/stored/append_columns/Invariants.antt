@@ -1,7 +1,7 @@
 use Rattle.std.proofs.Common.{◌≡◌, ◌++◌, take}
-use Rattle.mt_show.specs.Text.{column_lines}
+use Rattle.mt_show.specs.Text.{shown_columns}
 use Rattle.mt_show.proofs.stored.append_columns.Given as goal
 
 -- the lines so far
 abbrev pub invariant-loop-place : goal.invariant-loop-place
-invariant-loop-place l = l.out ≡ l.initial.out ++ column_lines l.columns (take l.place-index l.order)
+invariant-loop-place l = l.out ≡ l.initial.out ++ shown_columns l.columns (take l.place-index l.order)

@@ -1,8 +1,9 @@
 use Rattle.std.proofs.Common.{◌≡◌, true, false, sym, ◌∙◌}
 use Rattle.std.specs.List.{list_any}
+use Rattle.mt_facts.proofs.Lists.{any_map}
 use Rattle.mt_skip.specs.declared.seen.Seen.{Seen}
 use Rattle.mt_skip.specs.Gathering.{is_same, values_in}
-use Rattle.mt_skip.proofs.DistinctLemmas.{any_map, among_fails, among_holds}
+use Rattle.mt_skip.proofs.DistinctLemmas.{among_fails, among_holds}
 use Rattle.mt_skip.proofs.agreement.are_among.Goals as goal
 
 pub returns-then-not-contains : goal.returns-then-not-contains

@@ -5,7 +5,7 @@ use Rattle.mt_types.specs.declared.value.AggState.TheVariants as state
 use Rattle.mt_defs.specs.Folds.{states_join}
 use Rattle.mt_defs.specs.Projections.{aggregate_index}
 use Rattle.mt_query.specs.declared.query.Item.TheVariants.{Column}
-use Rattle.mt_look.specs.Seen.{row_at}
+use Rattle.mt_look.specs.Seen.{row_by_index}
 use Rattle.mt_fold.specs.Answer.{item_aggregates}
 use Rattle.mt_fold.specs.Steps.{option_list}
 use Rattle.mt_fold.proofs.StateLemmas.{at_place}
@@ -24,7 +24,7 @@ loop-item-preserved g c =
     let items = c.args.items.now in
     let i = c.loop-item.item-index in
     let item = get_or items i (Column 0) in
-    let given = given_state c.args.projection.now.keys.now c.args.projection.now.aggs.now (row_at (g.L.Look.rows_of c.args.from.now) c.args.row) in
+    let given = given_state c.args.projection.now.keys.now c.args.projection.now.aggs.now (row_by_index (g.L.Look.rows_of c.args.from.now) c.args.row) in
     let states = c.loop-item.states in
     let at : drop i items ≡ item ∷ drop (i + 1) items = at_place (Column 0) items i (omega arith) in
     elim c.match-aggregate_of.branch [

@@ -1,6 +1,7 @@
 use Rattle.std.proofs.Common.{◌∙◌, ap, map}
 use Rattle.std.specs.Str.{bytes_eq}
-use Rattle.mt_table_names.proofs.SetLemmas.{any_map, keys_more, seen_before, taken_all, taken_more, taken_none, was_among, was_new}
+use Rattle.mt_facts.proofs.Lists.{any_map}
+use Rattle.mt_table_names.proofs.SetLemmas.{keys_more, seen_before, taken_all, taken_more, taken_none, was_among, was_new}
 use Rattle.mt_table_names.proofs.names.distinct.Goals as goal
 
 pub loop-name-init : goal.loop-name-init

@@ -1,7 +1,7 @@
 use Rattle.std.proofs.Common.{arith, ◌≡◌, ◌+◌, ◌-◌, ◌*◌, get_or}
 use Rattle.std.specs.Str.Parse.{digits_value}
 use Rattle.std.proofs.lemmas.List.{take_all}
-use Rattle.mt_tokens.proofs.NumberLemmas.{digit_here, with_next_digit, large_with_next}
+use Rattle.mt_facts.proofs.Digits.{digit_here, large_with_next, with_next_digit}
 use Rattle.mt_tokens.proofs.digits.number_in.Goals as goal
 
 pub returns-in_err-checked_mul : goal.returns-in_err-checked_mul

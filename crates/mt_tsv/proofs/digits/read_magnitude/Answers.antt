@@ -1,7 +1,7 @@
 use Rattle.std.proofs.Common.{◌∙◌, sym, arith, Result, Ok, ap, ℕ}
 use Rattle.std.proofs.lemmas.Str.Parse.{digits_value_short}
+use Rattle.mt_facts.proofs.Digits.{decimal_model}
 use Rattle.mt_tsv.specs.declared.fault.RowWhy.{RowWhy}
-use Rattle.mt_tsv.proofs.DigitLemmas.{decimal_model}
 use Rattle.mt_tsv.proofs.Magnitudes.{some_digits, no_digits, empty, some_text, first_is_other, rest_decides, none_left}
 use Rattle.mt_tsv.proofs.digits.read_magnitude.Goals as goal
 

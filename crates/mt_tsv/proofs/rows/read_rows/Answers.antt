@@ -5,7 +5,7 @@ use Rattle.std.proofs.lemmas.List.{length_push}
 use Rattle.mt_types.proofs.ByteLemmas.{all_bytes}
 use Rattle.mt_tsv.specs.declared.ascii.TheConstants.{LINE_END}
 use Rattle.mt_table.specs.declared.limits.TheConstants.{MAX_CELLS}
-use Rattle.mt_tsv.specs.Reading.{parts, lines, rows_of, rows_reading}
+use Rattle.mt_tsv.specs.Reading.{parts, lines, rows_of_lines, rows_reading}
 use Rattle.mt_tsv.proofs.Prefixes.{with_prefix-nil}
 use Rattle.mt_tsv.proofs.Lines.{rows_ended, rows_cut, rows_bad, rows_over, cells_over, rows_more}
 use Rattle.mt_tsv.proofs.RowLimits.{few_rows, few_cells, some_rows}
@@ -15,7 +15,7 @@ use Rattle.mt_tsv.proofs.rows.read_rows.Goals as goal
 pub lines-init : goal.lines-init
 unfolding rows_reading
 lines-init c = record {
-  so_far = rw c.new-rows.ensures (with_prefix-nil (rows_of c.args.table.now.columns 0 MAX_CELLS (lines c.args.text.now)));
+  so_far = rw c.new-rows.ensures (with_prefix-nil (rows_of_lines c.args.table.now.columns 0 MAX_CELLS (lines c.args.text.now)));
   columns = c.as_slice-columns.ensures;
   within = rw c.new-rows.ensures (omega arith);
 }

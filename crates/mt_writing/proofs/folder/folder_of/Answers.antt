@@ -2,8 +2,9 @@ use Rattle.std.proofs.Common.{ap, sym, ◌∙◌}
 use Rattle.mt_build.proofs.SkipLemmas.{partition_keys}
 use Rattle.mt_defs.specs.Rows.{RowFits}
 use Rattle.mt_defs.proofs.Sorted.{IsSorted-sorted_rows, All-sorted_rows, some_sorted_rows}
+use Rattle.mt_defs.proofs.PartitionLemmas.{sorted_one}
 use Rattle.mt_writing.specs.Partitions.{one_partition}
-use Rattle.mt_writing.proofs.PartitionLemmas.{have_one, sorted_one}
+use Rattle.mt_writing.proofs.PartitionLemmas.{have_one}
 use Rattle.mt_writing.proofs.folder.folder_of.Goals as goal
 
 pub one_partition-requires-clause-key : goal.one_partition-requires-clause-key

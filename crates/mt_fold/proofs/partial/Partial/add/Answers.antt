@@ -1,14 +1,14 @@
 use Rattle.std.proofs.Common.{◌≡◌, ◌∙◌, sym, ap, [], ◌∷◌, ◌++◌, map, length, true}
 use Rattle.std.proofs.lemmas.List.{length-map}
 use Rattle.mt_defs.specs.Rows.{Row, key_of}
-use Rattle.mt_look.specs.Seen.{row_at}
+use Rattle.mt_look.specs.Seen.{row_by_index}
 use Rattle.mt_fold.specs.Answer.{keeps, plain_item, plain_row}
 use Rattle.mt_fold.proofs.GroupLemmas.{grouped_more, plain_more, all_more}
 use Rattle.mt_fold.proofs.partial.Partial.add.Goals as goal
 
 pub returns-in_ok-groups-clause-gathers : goal.returns-in_ok-groups-clause-gathers
 returns-in_ok-groups-clause-gathers g c = λ R had.
-    let row = row_at (g.L.Look.rows_of c.args.from.now) c.args.row in
+    let row = row_by_index (g.L.Look.rows_of c.args.from.now) c.args.row in
     let q = c.args.query.now in
     let keep : keeps q.cond row ≡ true = sym c.keeps.ensures ∙ c.if-not-keeps.false in
     grouped_more c.args.self.rows c.args.self.groups.entries c.in_ok-groups.groups.entries q R row c.in_ok-key.key
@@ -18,7 +18,7 @@ returns-in_ok-groups-clause-gathers g c = λ R had.
 
 pub returns-in_ok-push-clause-suits : goal.returns-in_ok-push-clause-suits
 returns-in_ok-push-clause-suits g c =
-    let row = row_at (g.L.Look.rows_of c.args.from.now) c.args.row in
+    let row = row_by_index (g.L.Look.rows_of c.args.from.now) c.args.row in
     let q = c.args.query.now in
     let made : c.push.new.self ≡ c.args.self.rows ++ plain_row q row ∷ [] =
     c.in_ok-push.ensures.ok ∙ ap (λ r. c.args.self.rows ++ r ∷ []) (c.in_ok-plain_row.ensures ∙ ap (map (plain_item row)) c.as_slice-else-is_grouped.ensures) in
@@ -26,7 +26,7 @@ returns-in_ok-push-clause-suits g c =
 
 pub returns-in_ok-push-clause-gathers : goal.returns-in_ok-push-clause-gathers
 returns-in_ok-push-clause-gathers g c = λ R had.
-    let row = row_at (g.L.Look.rows_of c.args.from.now) c.args.row in
+    let row = row_by_index (g.L.Look.rows_of c.args.from.now) c.args.row in
     let q = c.args.query.now in
     let keep : keeps q.cond row ≡ true = sym c.keeps.ensures ∙ c.if-not-keeps.false in
     let made : c.push.new.self ≡ c.args.self.rows ++ plain_row q row ∷ [] =

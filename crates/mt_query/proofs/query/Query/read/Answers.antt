@@ -2,7 +2,7 @@ use Rattle.std.proofs.Common.{subst}
 use Rattle.std.specs.Prelude.{Err}
 use Rattle.mt_phrases.specs.Answers.{GivesSentence}
 use Rattle.mt_query.specs.Queries.{GivesQuery}
-use Rattle.mt_query.specs.Rules.{judged}
+use Rattle.mt_query.specs.Rules.{judged_query}
 use Rattle.mt_query.proofs.ReadLemmas.{none_is_bad, none_is_only, sentence_is_only}
 use Rattle.mt_query.proofs.NamedLemmas.{query_is_within}
 use Rattle.mt_query.proofs.SuitsLemmas.{query_suits}
@@ -11,7 +11,7 @@ use Rattle.mt_query.proofs.query.Query.read.Goals as goal
 pub returns-in-Ok-clause-only : goal.returns-in-Ok-clause-only
 returns-in-Ok-clause-only c =
     sentence_is_only c.args.text.now c.args.table.now c.in-Ok.sentence c.judge.result c.if-text-gt-MAX_QUERY_TEXT.false c.in-Ok.ensures.found
-    (subst (λ columns. GivesQuery c.judge.result (judged columns c.in-Ok.sentence)) c.of.ensures c.judge.ensures)
+    (subst (λ columns. GivesQuery c.judge.result (judged_query columns c.in-Ok.sentence)) c.of.ensures c.judge.ensures)
 
 pub returns-in-Err-Bad-clause-bad : goal.returns-in-Err-Bad-clause-bad
 returns-in-Err-Bad-clause-bad c =
@@ -25,8 +25,8 @@ returns-in-Err-Bad-clause-only c =
 
 pub returns-in-Ok-clause-within : goal.returns-in-Ok-clause-within
 returns-in-Ok-clause-within c =
-    query_is_within c.args.table.now.columns c.in-Ok.sentence c.judge.result (subst (λ columns. GivesQuery c.judge.result (judged columns c.in-Ok.sentence)) c.of.ensures c.judge.ensures)
+    query_is_within c.args.table.now.columns c.in-Ok.sentence c.judge.result (subst (λ columns. GivesQuery c.judge.result (judged_query columns c.in-Ok.sentence)) c.of.ensures c.judge.ensures)
 
 pub returns-in-Ok-clause-suits : goal.returns-in-Ok-clause-suits
 returns-in-Ok-clause-suits c =
-    query_suits c.args.table.now.columns c.in-Ok.sentence c.judge.result (subst (λ columns. GivesQuery c.judge.result (judged columns c.in-Ok.sentence)) c.of.ensures c.judge.ensures)
+    query_suits c.args.table.now.columns c.in-Ok.sentence c.judge.result (subst (λ columns. GivesQuery c.judge.result (judged_query columns c.in-Ok.sentence)) c.of.ensures c.judge.ensures)

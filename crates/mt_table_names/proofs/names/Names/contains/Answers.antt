@@ -1,6 +1,6 @@
 use Rattle.std.proofs.Common.{◌∙◌, sym}
 use Rattle.std.specs.Str.{bytes_eq}
-use Rattle.mt_table_names.proofs.SetLemmas.{any_map}
+use Rattle.mt_facts.proofs.Lists.{any_map}
 use Rattle.mt_table_names.proofs.names.Names.contains.Goals as goal
 
 pub returns : goal.returns
