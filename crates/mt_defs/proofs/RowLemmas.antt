@@ -1,5 +1,5 @@
 -- Rows that fit their columns: their cells, their lengths and their keys.
-use Rattle.std.proofs.Common.{⊥, [], List, get_or, ℕ, length, ◌-◌, ◌<◌, arith, refl, ◌≡◌, ◌∷◌, map, ◌≤◌}
+use Rattle.std.proofs.Common.{[], List, get_or, ℕ, length, ◌-◌, ◌<◌, arith, refl, ◌≡◌, ◌∷◌, map, ◌≤◌}
 use Rattle.std.specs.Prelude.{IsTrue, All}
 use Rattle.std.proofs.lemmas.List.Elements.{All-weaker, All-tail, All-head, All-map}
 use Rattle.mt_defs.specs.Rows.{RowFits, cell, Row, key_of}

@@ -87,8 +87,6 @@ after_law test {P = P} {p = p} {S = S} law = after_is_read test P p S law
 
 -- ---- a phrase, then a token
 
-]
-
 module _ {A : Type 0} (test : Tok → Bool) (P : Phrase A) (p : Reader A) (S : List Tok → Type 0) (law : IsRead P p S) (stops : (token : Tok) (rest : List Tok) → test token ≡ true → S (token ∷ rest)) where
   before_sound : (tokens : List Tok) (x : A × List Tok) → before p test tokens ≡ Some x → (P ◃ test) tokens x.0 x.1
   before_sound tokens x e =

@@ -19,11 +19,20 @@ pub(crate) enum Parsed<'w> {
         workers: u64,
     },
     /// `check TABLE PART WORKERS`
-    Check { table: &'w str, part: &'w str },
+    Check {
+        table: &'w str,
+        part: &'w str,
+    },
     /// `rows TABLE PART`
-    Rows { table: &'w str, part: &'w str },
+    Rows {
+        table: &'w str,
+        part: &'w str,
+    },
     /// `show TABLE PART`
-    Show { table: &'w str, part: &'w str },
+    Show {
+        table: &'w str,
+        part: &'w str,
+    },
     /// `select TABLE PART QUERY`
     Select {
         table: &'w str,
@@ -38,7 +47,11 @@ pub(crate) enum Parsed<'w> {
         workers: u64,
     },
     /// `trial NUMBER ROWS WORKERS`
-    Trial { number: u64, rows: u64, workers: u64 },
+    Trial {
+        number: u64,
+        rows: u64,
+        workers: u64,
+    },
 }
 
 fn write_command(operands: &[String]) -> Option<Parsed<'_>>

@@ -37,21 +37,32 @@ fn perform_command<R: Threads + Sync, S: Source, K: Sink, F: Shelf, G: Gate + Sy
         (S.faults input.new) (K.faults output.new) (F.faults shelf.new)) result }
 {
     match command {
-        Parsed::Write { table, part, workers } => {
-            write(rt, alloc, table, part, workers, input, output, shelf, gate)
-        }
+        Parsed::Write {
+            table,
+            part,
+            workers,
+        } => { write(rt, alloc, table, part, workers, input, output, shelf, gate) }
         Parsed::Check { table, part } => check(alloc, table, part, input, output, shelf),
         Parsed::Rows { table, part } => rows(alloc, table, part, input, output, shelf),
         Parsed::Show { table, part } => show(alloc, table, part, input, output, shelf),
         Parsed::Select { table, part, query } => {
             select(alloc, table, part, query, input, output, shelf)
         }
-        Parsed::Merge { table, target, inputs, workers } => {
-            merge(rt, alloc, table, target, inputs, workers, input, output, shelf, gate)
+        Parsed::Merge {
+            table,
+            target,
+            inputs,
+            workers,
+        } => {
+            merge(
+                rt, alloc, table, target, inputs, workers, input, output, shelf, gate,
+            )
         }
-        Parsed::Trial { number, rows, workers } => {
-            trial(rt, alloc, number, rows, workers, input, output, shelf, gate)
-        }
+        Parsed::Trial {
+            number,
+            rows,
+            workers,
+        } => { trial(rt, alloc, number, rows, workers, input, output, shelf, gate) }
     }
 }
 

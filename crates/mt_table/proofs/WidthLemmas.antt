@@ -1,6 +1,6 @@
 -- Signed numbers of less than 128 bits.
 use Rattle.std.proofs.lemmas.Bool.{lt-ltb, ltb-true}
-use Rattle.std.proofs.Common.{negsuc, arith, ℕ, ℤ, true, pos, ◌≡◌, ◌-◌, ◌^◌, ◌≤◌}
+use Rattle.std.proofs.Common.{negsuc, arith, lit≤, ℕ, ℤ, true, pos, ◌≡◌, ◌-◌, ◌^◌, ◌≤◌}
 use Rattle.mt_types.specs.Fits.{is_signed, bits}
 use Rattle.mt_types.specs.declared.ty.Width.TheVariants.{W64, W16, W128, W32, W8}
 use Rattle.mt_types.specs.declared.ty.Width.{Width}
