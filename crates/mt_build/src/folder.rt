@@ -1,6 +1,6 @@
 //! The writer's folder.
 
-ghost use Rattle.std.specs.Prelude.{◌≡◌, ◌≢◌, ◌≤◌, [], ◌++◌, All, IsSorted, IfOk, OnOk};
+ghost use Rattle.std.specs.Prelude.{◌≡◌, ◌≢◌, [], ◌++◌, All, IsSorted, IfOk, OnOk};
 ghost use Rattle.mt_defs.specs.Partition.{HaveOnePartition};
 ghost use Rattle.mt_defs.specs.Rows.{RowFits, key_cmp};
 ghost use Rattle.mt_defs.specs.WrittenPartition.{partition_files};
@@ -16,6 +16,7 @@ use mt_meta::partition_files;
 use mt_shelf::Gate;
 use mt_table::Table;
 use mt_types::{List, NoMemory, Row};
+use mt_workers::Workers;
 use std::alloc::Global;
 use std::thread::Threads;
 
@@ -28,15 +29,13 @@ pub fn build<R: Threads + Sync, G: Gate + Sync>(
     alloc: Global,
     table: &Table,
     rows: &[Row],
-    _workers: u64,
+    _workers: Workers,
     _gate: &G,
 ) -> Result<List<FileBytes>, NoMemory>
     requires some_rows { rows.now ≢ [] }
     requires fit { All (RowFits table.now.columns) rows.now }
     requires ordered { IsSorted (key_cmp table.now.sort) rows.now }
     requires one_partition { HaveOnePartition table.now rows.now }
-    requires some_workers { 1 ≤ _workers }
-    requires few_workers { _workers ≤ 64 }
     ensures { IfOk result (λ files. files ≡ written_folder table.now rows.now) }
 {
     let base = table.base(alloc)?;

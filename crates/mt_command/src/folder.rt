@@ -1,6 +1,6 @@
 //! The writer's folder of sorted rows, within the limit on a folder.
 
-ghost use Rattle.std.specs.Prelude.{◌≡◌, ◌≢◌, [], ◌<◌, ◌≤◌, All, IfOk, IsSorted, nat_lt};
+ghost use Rattle.std.specs.Prelude.{◌≡◌, ◌≢◌, [], ◌<◌, All, IfOk, IsSorted, nat_lt};
 ghost use Rattle.mt_shelf.specs.Held.{HasName};
 ghost use Rattle.mt_defs.specs.Partition.{HaveOnePartition};
 ghost use Rattle.mt_defs.specs.Rows.{RowFits, key_cmp};
@@ -16,6 +16,7 @@ use mt_fault::FileBytes;
 use mt_shelf::Gate;
 use mt_table::Table;
 use mt_types::{List, Row};
+use mt_workers::Workers;
 use std::alloc::Global;
 use std::thread::Threads;
 
@@ -36,15 +37,13 @@ pub fn sorted_folder<R: Threads + Sync, G: Gate + Sync>(
     alloc: Global,
     table: &Table,
     rows: &[Row],
-    workers: u64,
+    workers: Workers,
     gate: &G,
 ) -> Result<List<FileBytes>, Status>
     requires some { rows.now ≢ [] }
     requires fit { All (RowFits table.now.columns) rows.now }
     requires ordered { IsSorted (key_cmp table.now.sort) rows.now }
     requires one_partition { HaveOnePartition table.now rows.now }
-    requires few { 0 < workers }
-    requires many { workers ≤ 64 }
     ensures gives { GivesOutcome result (within_limit (written_folder table.now rows.now)) }
     ensures names { IfOk result (λ folder. All HasName folder) }
     ensures cause { StepCausedBy result of_nothing of_nothing }

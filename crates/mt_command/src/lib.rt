@@ -15,7 +15,7 @@ mod target;
 
 pub use cells::few_cells;
 pub use folder::sorted_folder;
-pub use limits::{MAX_FOLDER, MAX_INPUT, MAX_INPUTS, MAX_TABLE_TEXT, MAX_WORKERS};
+pub use limits::{MAX_FOLDER, MAX_INPUT, MAX_INPUTS, MAX_TABLE_TEXT};
 pub use output::print;
 pub use part::{accept_part, at_fault, check_listed, list_part, no_part, read_part};
 pub use status::{

@@ -9,8 +9,5 @@ pub const MAX_INPUT: usize = 268_435_456;
 /// The bytes of all files of a part together, at most.
 pub const MAX_FOLDER: u64 = 536_870_912;
 
-/// The workers of a command, at most; at least 1.
-pub const MAX_WORKERS: u64 = 64;
-
 /// The inputs of a merge, at most; at least 1.
 pub const MAX_INPUTS: usize = 64;

@@ -1,6 +1,6 @@
 //! The folder of the rows of all inputs.
 
-ghost use Rattle.std.specs.Prelude.{◌≢◌, [], ◌<◌, ◌≤◌, All, IfOk};
+ghost use Rattle.std.specs.Prelude.{◌≢◌, [], All, IfOk};
 ghost use Rattle.mt_shelf.specs.Held.{HasName};
 ghost use Rattle.mt_defs.specs.Sorting.{merged_rows};
 ghost use Rattle.mt_command.specs.Status.{GivesOutcome};
@@ -13,6 +13,7 @@ use mt_merge::merge_rows;
 use mt_shelf::Gate;
 use mt_table::Table;
 use mt_types::{List, Row};
+use mt_workers::Workers;
 use std::alloc::Global;
 use std::thread::Threads;
 
@@ -22,13 +23,11 @@ pub(crate) fn folder_of<R: Threads + Sync, G: Gate + Sync>(
     alloc: Global,
     table: &Table,
     read: List<List<Row>>,
-    workers: u64,
+    workers: Workers,
     gate: &G,
 ) -> Result<List<FileBytes>, Status>
     requires inputs { AreInputs table.now read }
     requires some { read ≢ [] }
-    requires few { 0 < workers }
-    requires many { workers ≤ 64 }
     ensures gives { GivesOutcome result (folder_of_rows table.now (merged_rows table.now.sort read)) }
     ensures names { IfOk result (λ folder. All HasName folder) }
     ensures cause { StepCausedBy result of_nothing of_nothing }

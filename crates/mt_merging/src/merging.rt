@@ -1,6 +1,6 @@
 //! The command `merge`.
 
-ghost use Rattle.std.specs.Prelude.{◌≡◌, ◌≢◌, [], ◌<◌, ◌≤◌, All, IfOk, IfSome, IsTrue, length, map};
+ghost use Rattle.std.specs.Prelude.{◌≡◌, ◌≢◌, [], All, IfOk, IfSome, IsTrue, length, map};
 ghost use Rattle.std.specs.String.{string_bytes};
 ghost use Rattle.mt_shelf.specs.Held.{HasName};
 ghost use Rattle.mt_shelf.specs.Paths.{is_path};
@@ -19,6 +19,7 @@ use mt_fault::FileBytes;
 use mt_shelf::{Gate, Shelf, Sink, Source};
 use mt_table::Table;
 use mt_types::List;
+use mt_workers::Workers;
 use std::alloc::Global;
 use std::thread::Threads;
 
@@ -30,15 +31,13 @@ pub fn merge_parts<R: Threads + Sync, F: Shelf, G: Gate + Sync>(
     table: &Table,
     target: &str,
     inputs: &[String],
-    workers: u64,
+    workers: Workers,
     gate: &G,
     shelf: &mut F,
 ) -> Result<List<FileBytes>, Status>
     requires target { IsTrue (is_path target.now) }
     requires inputs { All (λ part. IsTrue (is_path (string_bytes part))) inputs.now }
     requires some { inputs.now ≢ [] }
-    requires few { 0 < workers }
-    requires many { workers ≤ 64 }
     ensures gives { IfSome (files_of (F.state shelf.old))
         (λ files. ReturnsOutcome result (merge_table_steps table.now target.now (map string_bytes inputs.now) files)) }
     ensures names { IfOk result (λ folder. All HasName folder) }
@@ -63,7 +62,7 @@ fn merged_folder<R: Threads + Sync, F: Shelf, G: Gate + Sync>(
     path: &str,
     target: &str,
     inputs: &[String],
-    workers: u64,
+    workers: Workers,
     gate: &G,
     shelf: &mut F,
 ) -> Result<List<FileBytes>, Status>
@@ -71,8 +70,6 @@ fn merged_folder<R: Threads + Sync, F: Shelf, G: Gate + Sync>(
     requires target { IsTrue (is_path target.now) }
     requires inputs { All (λ part. IsTrue (is_path (string_bytes part))) inputs.now }
     requires some { inputs.now ≢ [] }
-    requires few { 0 < workers }
-    requires many { workers ≤ 64 }
     ensures gives { IfSome (files_of (F.state shelf.old))
         (λ files. ReturnsOutcome result (merge_steps path.now target.now (map string_bytes inputs.now) files)) }
     ensures names { IfOk result (λ folder. All HasName folder) }
@@ -94,7 +91,7 @@ pub fn merge<R: Threads + Sync, S: Source, K: Sink, F: Shelf, G: Gate + Sync>(
     path: &str,
     target: &str,
     inputs: &[String],
-    workers: u64,
+    workers: Workers,
     _input: &mut S,
     _output: &mut K,
     shelf: &mut F,
@@ -104,8 +101,6 @@ pub fn merge<R: Threads + Sync, S: Source, K: Sink, F: Shelf, G: Gate + Sync>(
     requires target { IsTrue (is_path target.now) }
     requires inputs { All (λ part. IsTrue (is_path (string_bytes part))) inputs.now }
     requires some { inputs.now ≢ [] }
-    requires few { 0 < workers }
-    requires many { workers ≤ 64 }
     ensures { PublishesFolderOf target.now (merge_steps path.now target.now (map string_bytes inputs.now))
         (world (S.left _input.old) (K.written _output.old) (files_of (F.state shelf.old))
         (S.faults _input.old) (K.faults _output.old) (F.faults shelf.old))

@@ -1,8 +1,7 @@
 -- A command that the program has parsed of the words, and the command that it is.
-use Rattle.std.specs.Prelude.{ℕ, ◌<◌, ◌≤◌, ◌≢◌, List, [], All, IsTrue, map}
+use Rattle.std.specs.Prelude.{ℕ, ◌≤◌, ◌≢◌, List, [], All, IsTrue, map}
 use Rattle.std.specs.String.{string_bytes}
 use Rattle.mt_shelf.specs.Paths.{is_path}
-use Rattle.mt_command.specs.declared.limits.TheConstants.{MAX_WORKERS}
 use Rattle.mt_trial.specs.declared.rows.TheConstants.{MAX_TRIAL_ROWS}
 use Rattle.mt_run.specs.declared.parsed.Parsed.{Parsed}
 use Rattle.mt_run.specs.declared.parsed.Parsed.TheVariants as parsed
@@ -22,16 +21,12 @@ command_for (parsed.Trial number rows workers) = Trial number rows
 abbrev pub ArePaths : (table part : List ℕ) → Type 0
 ArePaths table part = IsTrue (is_path table) × IsTrue (is_path part)
 
--- from 1 to the most
-abbrev pub AreWorkers : ℕ → Type 0
-AreWorkers workers = (0 < workers) × (workers ≤ MAX_WORKERS)
-
 -- the operands are within what the command's words may be
 abbrev pub IsWithin : Parsed → Type 0
-IsWithin (parsed.Write table part workers) = ArePaths table.now part.now × AreWorkers workers
+IsWithin (parsed.Write table part workers) = ArePaths table.now part.now
 IsWithin (parsed.Check table part) = ArePaths table.now part.now
 IsWithin (parsed.Rows table part) = ArePaths table.now part.now
 IsWithin (parsed.Show table part) = ArePaths table.now part.now
 IsWithin (parsed.Select table part query) = ArePaths table.now part.now
-IsWithin (parsed.Merge table target inputs workers) = ArePaths table.now target.now × (inputs.now ≢ []) × All (λ part. IsTrue (is_path (string_bytes part))) inputs.now × AreWorkers workers
-IsWithin (parsed.Trial number rows workers) = (2 ≤ rows) × (rows ≤ MAX_TRIAL_ROWS) × AreWorkers workers
+IsWithin (parsed.Merge table target inputs workers) = ArePaths table.now target.now × (inputs.now ≢ []) × All (λ part. IsTrue (is_path (string_bytes part))) inputs.now
+IsWithin (parsed.Trial number rows workers) = (2 ≤ rows) × (rows ≤ MAX_TRIAL_ROWS)

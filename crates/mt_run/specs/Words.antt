@@ -3,7 +3,8 @@ use Rattle.std.specs.Prelude.{ℕ, ◌+◌, ◌-◌, ◌*◌, nat_le, Bool, ◌&
 use Rattle.std.specs.List.{list_all}
 use Rattle.std.specs.Str.{bytes_eq}
 use Rattle.mt_shelf.specs.Paths.{is_path}
-use Rattle.mt_command.specs.declared.limits.TheConstants.{MAX_WORKERS, MAX_INPUTS}
+use Rattle.mt_command.specs.declared.limits.TheConstants.{MAX_INPUTS}
+use Rattle.mt_workers.specs.Workers.{workers_of}
 use Rattle.mt_trial.specs.Words.{number_in_word, row_count_in}
 use Rattle.mt_run.specs.Commands.{Command, Write, Check, Rows, Show, Select, Merge, Trial}
 
@@ -15,14 +16,10 @@ is_first_digit byte = nat_le 49 byte && nat_le byte 57
 abbrev pub is_digit : ℕ → Bool
 is_digit byte = nat_le 48 byte && nat_le byte 57
 
--- a number that is written well and within the limit
-abbrev pub workers_if : Bool → ℕ → Option ℕ
-workers_if good workers = if good && nat_le workers MAX_WORKERS then Some workers else None
-
 -- decimal, from 1 to 64, without sign and leading zeros
 abbrev pub workers_in : List ℕ → Option ℕ
-workers_in (a ∷ []) = workers_if (is_first_digit a) (a - 48)
-workers_in (a ∷ b ∷ []) = workers_if (is_first_digit a && is_digit b) (10 * (a - 48) + (b - 48))
+workers_in (a ∷ []) = if is_first_digit a then workers_of (a - 48) else None
+workers_in (a ∷ b ∷ []) = if is_first_digit a && is_digit b then workers_of (10 * (a - 48) + (b - 48)) else None
 workers_in word = None
 
 -- both are paths

@@ -8,6 +8,7 @@ mod perform;
 mod top;
 mod words;
 
-pub use mt_command::{MAX_FOLDER, MAX_INPUT, MAX_TABLE_TEXT, MAX_WORKERS, Status, What};
+pub use mt_command::{MAX_FOLDER, MAX_INPUT, MAX_TABLE_TEXT, Status, What};
+pub use mt_workers::MAX_WORKERS;
 pub use mt_writing::published_folders_stand;
 pub use top::run;

@@ -8,6 +8,7 @@ ghost use Rattle.mt_run.specs.Words.{select_command, show_command, trial_command
 
 use crate::words::{are_inputs, are_paths, workers_in};
 use mt_trial::{number_in, rows_in};
+use mt_workers::Workers;
 
 /// A command with its operands. Tables, parts and targets are paths.
 #[derive(Clone, Copy)]
@@ -16,7 +17,7 @@ pub(crate) enum Parsed<'w> {
     Write {
         table: &'w str,
         part: &'w str,
-        workers: u64,
+        workers: Workers,
     },
     /// `check TABLE PART WORKERS`
     Check {
@@ -44,13 +45,13 @@ pub(crate) enum Parsed<'w> {
         table: &'w str,
         target: &'w str,
         inputs: &'w [String],
-        workers: u64,
+        workers: Workers,
     },
     /// `trial NUMBER ROWS WORKERS`
     Trial {
         number: u64,
         rows: u64,
-        workers: u64,
+        workers: Workers,
     },
 }
 

@@ -1,12 +1,14 @@
 //! The words of a call.
-ghost use Rattle.std.specs.Prelude.{◌≡◌, ◌≢◌, ◌<◌, ◌≤◌, [], All, IfSome, IsTrue, map, true};
+ghost use Rattle.std.specs.Prelude.{◌≡◌, ◌≢◌, [], All, IsTrue, map, true};
 ghost use Rattle.mt_shelf.specs.Paths.{is_path};
 ghost use Rattle.std.specs.List.{list_all};
+ghost use Rattle.std.specs.Option.{option_map};
 ghost use Rattle.std.specs.String.{string_bytes};
 ghost use Rattle.mt_run.specs.Words.{are_inputs, are_paths, is_digit, is_first_digit, workers_in};
 
-use mt_command::{MAX_INPUTS, MAX_WORKERS};
+use mt_command::MAX_INPUTS;
 use mt_shelf::is_path;
+use mt_workers::Workers;
 
 fn is_first_digit(byte: u8) -> bool
     ensures { result ≡ is_first_digit byte }
@@ -21,20 +23,13 @@ fn is_digit(byte: u8) -> bool
 }
 
 /// The number of workers that a word gives, from 1 to 64, if it gives one.
-pub(crate) fn workers_in(word: &[u8]) -> Option<u64>
-    ensures same { result ≡ workers_in word.now }
-    ensures few { IfSome result (λ workers. 0 < workers) }
-    ensures many { IfSome result (λ workers. workers ≤ MAX_WORKERS) }
+pub(crate) fn workers_in(word: &[u8]) -> Option<Workers>
+    ensures { option_map (λ workers. workers.count) result ≡ workers_in word.now }
 {
     match word {
-        [a] if is_first_digit(*a) => Some(u64::from(*a - b'0')),
+        [a] if is_first_digit(*a) => Workers::new(u64::from(*a - b'0')),
         [a, b] if is_first_digit(*a) && is_digit(*b) => {
-            let workers = 10 * u64::from(*a - b'0') + u64::from(*b - b'0');
-            if workers <= MAX_WORKERS {
-                Some(workers)
-            } else {
-                None
-            }
+            Workers::new(10 * u64::from(*a - b'0') + u64::from(*b - b'0'))
         }
         _ => None,
     }

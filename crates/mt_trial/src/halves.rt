@@ -16,6 +16,7 @@ use mt_fault::FileBytes;
 use mt_shelf::{FileSet, Gate, Shelf, SureShelf};
 use mt_table::Table;
 use mt_types::{List, NoMemory};
+use mt_workers::Workers;
 use std::alloc::Global;
 use std::thread::Threads;
 
@@ -30,7 +31,7 @@ pub(crate) fn half_folder<R: Threads + Sync, G: Gate + Sync>(
     number: u64,
     rows: u64,
     remainder: u64,
-    workers: u64,
+    workers: Workers,
     gate: &G,
 ) -> Result<List<FileBytes>, Status>
     requires columns { table.now.columns ≡ trial_columns }
@@ -38,8 +39,6 @@ pub(crate) fn half_folder<R: Threads + Sync, G: Gate + Sync>(
     requires some { 2 ≤ rows }
     requires most { rows ≤ MAX_TRIAL_ROWS }
     requires half { remainder < 2 }
-    requires few { 0 < workers }
-    requires many { workers ≤ 64 }
     ensures gives { GivesOutcome result (half_folder table.now number rows remainder) }
     ensures names { IfOk result (λ folder. All HasName folder) }
     ensures cause { StepCausedBy result of_nothing of_nothing }

@@ -1,6 +1,6 @@
 //! The two parts of a trial are merged, and the merge is checked and queried.
 
-ghost use Rattle.std.specs.Prelude.{◌≡◌, ◌≢◌, [], ◌<◌, ◌≤◌, All, IfOk, IfSome, IsTrue, map};
+ghost use Rattle.std.specs.Prelude.{◌≡◌, ◌≢◌, [], All, IfOk, IfSome, IsTrue, map};
 ghost use Rattle.std.specs.String.{string_bytes};
 ghost use Rattle.mt_shelf.specs.Paths.{is_path};
 ghost use Rattle.mt_shelf.specs.State.{files_of};
@@ -14,6 +14,7 @@ use mt_merging::merge_parts;
 use mt_shelf::{Gate, Shelf};
 use mt_table::Table;
 use mt_types::{List, NoMemory};
+use mt_workers::Workers;
 use std::alloc::Global;
 use std::thread::Threads;
 
@@ -47,11 +48,9 @@ pub(crate) fn merge_answers<R: Threads + Sync, F: Shelf, G: Gate + Sync>(
     alloc: Global,
     shelf: &mut F,
     table: &Table,
-    workers: u64,
+    workers: Workers,
     gate: &G,
 ) -> Result<List<u8>, Status>
-    requires few { 0 < workers }
-    requires many { workers ≤ 64 }
     ensures gives { IfSome (files_of (F.state shelf.old)) (λ files. ReturnsOutcome result (merge_answers table.now files)) }
     ensures cause { StepCausedBy result (of_shelf (F.faults shelf.old)) (of_shelf (F.faults shelf.new)) }
 {

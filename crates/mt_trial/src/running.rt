@@ -1,6 +1,6 @@
 //! The command `trial`.
 
-ghost use Rattle.std.specs.Prelude.{◌≤◌, ◌<◌, Ok};
+ghost use Rattle.std.specs.Prelude.{◌≤◌, Ok};
 ghost use Rattle.mt_shelf.specs.State.{files_of};
 ghost use Rattle.mt_command.specs.Outcomes.{ReturnsOutcome, gives};
 ghost use Rattle.mt_command.specs.Plans.{world};
@@ -15,6 +15,7 @@ use crate::table::trial_table;
 use mt_command::{Status, finished, print};
 use mt_shelf::{Gate, Shelf, Sink, Source};
 use mt_types::List;
+use mt_workers::Workers;
 use std::alloc::Global;
 use std::thread::Threads;
 
@@ -24,13 +25,11 @@ fn trial_text<R: Threads + Sync, G: Gate + Sync>(
     alloc: Global,
     number: u64,
     rows: u64,
-    workers: u64,
+    workers: Workers,
     gate: &G,
 ) -> Result<List<u8>, Status>
     requires some { 2 ≤ rows }
     requires most { rows ≤ MAX_TRIAL_ROWS }
-    requires few { 0 < workers }
-    requires many { workers ≤ 64 }
     ensures gives { ReturnsOutcome result (gives (Ok (trial_text number rows))) }
     ensures cause { StepCausedBy result of_nothing of_nothing }
 {
@@ -61,7 +60,7 @@ pub fn trial<R: Threads + Sync, S: Source, K: Sink, F: Shelf, G: Gate + Sync>(
     alloc: Global,
     number: u64,
     rows: u64,
-    workers: u64,
+    workers: Workers,
     _input: &mut S,
     output: &mut K,
     _shelf: &mut F,
@@ -69,8 +68,6 @@ pub fn trial<R: Threads + Sync, S: Source, K: Sink, F: Shelf, G: Gate + Sync>(
 ) -> Status
     requires some { 2 ≤ rows }
     requires most { rows ≤ MAX_TRIAL_ROWS }
-    requires few { 0 < workers }
-    requires many { workers ≤ 64 }
     ensures { PrintsTrial number rows
         (world (S.left _input.old) (K.written output.old) (files_of (F.state _shelf.old))
         (S.faults _input.old) (K.faults output.old) (F.faults _shelf.old))

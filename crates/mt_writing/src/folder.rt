@@ -1,5 +1,5 @@
 //! From lines to the folder of their rows.
-ghost use Rattle.std.specs.Prelude.{◌≢◌, [], ◌<◌, ◌≤◌, IfOk, All};
+ghost use Rattle.std.specs.Prelude.{◌≢◌, [], ◌≤◌, IfOk, All};
 ghost use Rattle.mt_table.specs.declared.limits.TheConstants.{MAX_CELLS};
 ghost use Rattle.mt_shelf.specs.Held.{HasName};
 ghost use Rattle.mt_defs.specs.Rows.{RowFits, cell_count};
@@ -15,6 +15,7 @@ use mt_shelf::Gate;
 use mt_table::Table;
 use mt_tsv::read_rows;
 use mt_types::{List, Row};
+use mt_workers::Workers;
 use std::alloc::Global;
 use std::thread::Threads;
 
@@ -41,12 +42,10 @@ pub(crate) fn folder_of<R: Threads + Sync, G: Gate + Sync>(
     alloc: Global,
     table: &Table,
     text: &[u8],
-    workers: u64,
+    workers: Workers,
     gate: &G,
 ) -> Result<List<FileBytes>, Status>
     requires text { text.now ≢ [] }
-    requires few { 0 < workers }
-    requires many { workers ≤ 64 }
     ensures gives { GivesOutcome result (folder_of table.now text.now) }
     ensures names { IfOk result (λ folder. All HasName folder) }
     ensures cause { StepCausedBy result of_nothing of_nothing }

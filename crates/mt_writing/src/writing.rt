@@ -1,5 +1,5 @@
 //! The command `write`: rows from the input become a part.
-ghost use Rattle.std.specs.Prelude.{◌≡◌, ◌<◌, ◌≤◌, map, All, IfOk, IfSome, OnOk, IsTrue};
+ghost use Rattle.std.specs.Prelude.{◌≡◌, map, All, IfOk, IfSome, OnOk, IsTrue};
 ghost use Rattle.std.specs.Option.{option_map};
 ghost use Rattle.std.specs.Io.KnownBytes.{IsAtEnd};
 ghost use Rattle.mt_shelf.specs.Paths.{is_path};
@@ -18,6 +18,7 @@ use mt_fault::FileBytes;
 use mt_shelf::{Gate, Shelf, Sink, Source};
 use mt_table::Table;
 use mt_types::List;
+use mt_workers::Workers;
 use std::alloc::Global;
 use std::thread::Threads;
 
@@ -48,11 +49,9 @@ fn folder_for<R: Threads + Sync, S: Source, G: Gate + Sync>(
     alloc: Global,
     input: &mut S,
     table: &Table,
-    workers: u64,
+    workers: Workers,
     gate: &G,
 ) -> Result<List<FileBytes>, Status>
-    requires few { 0 < workers }
-    requires many { workers ≤ 64 }
     ensures gives { IfSome (S.left input.old) (λ input. GivesOutcome result (folder_for table.now input)) }
     ensures names { IfOk result (λ folder. All HasName folder) }
     ensures ended { OnOk result (IsAtEnd (S.left input.new)) }
@@ -68,7 +67,7 @@ fn write_steps<R: Threads + Sync, S: Source, K: Sink, F: Shelf, G: Gate + Sync>(
     alloc: Global,
     path: &str,
     part: &str,
-    workers: u64,
+    workers: Workers,
     input: &mut S,
     _output: &mut K,
     shelf: &mut F,
@@ -76,8 +75,6 @@ fn write_steps<R: Threads + Sync, S: Source, K: Sink, F: Shelf, G: Gate + Sync>(
 ) -> Result<(), Status>
     requires path { IsTrue (is_path path.now) }
     requires part { IsTrue (is_path part.now) }
-    requires few { 0 < workers }
-    requires many { workers ≤ 64 }
     ensures meets { Meets (write_plan path.now part.now)
         (world (S.left input.old) (K.written _output.old) (files_of (F.state shelf.old))
         (S.faults input.old) (K.faults _output.old) (F.faults shelf.old))
@@ -103,7 +100,7 @@ pub fn write<R: Threads + Sync, S: Source, K: Sink, F: Shelf, G: Gate + Sync>(
     alloc: Global,
     path: &str,
     part: &str,
-    workers: u64,
+    workers: Workers,
     input: &mut S,
     output: &mut K,
     shelf: &mut F,
@@ -111,8 +108,6 @@ pub fn write<R: Threads + Sync, S: Source, K: Sink, F: Shelf, G: Gate + Sync>(
 ) -> Status
     requires path { IsTrue (is_path path.now) }
     requires part { IsTrue (is_path part.now) }
-    requires few { 0 < workers }
-    requires many { workers ≤ 64 }
     ensures meets { Meets (write_plan path.now part.now)
         (world (S.left input.old) (K.written output.old) (files_of (F.state shelf.old))
         (S.faults input.old) (K.faults output.old) (F.faults shelf.old))
