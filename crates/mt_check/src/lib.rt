@@ -13,5 +13,5 @@ mod skip_index;
 
 pub use folder::{PartFiles, check_files};
 pub use law::partitions_are_checked;
-pub use part_on_shelf::{check, check_listed};
+pub use part_on_shelf::{MAX_FOLDER, check, check_listed};
 pub use reading::read_part;

@@ -31,6 +31,9 @@ use mt_table::Table;
 use mt_types::List;
 use std::alloc::Global;
 
+/// The bytes of all files of a part together, at most.
+pub const MAX_FOLDER: u64 = 536_870_912;
+
 /// The rows and granules for which a part on a shelf stands, or its first fault (docs/FORMAT.md, "The first
 /// fault"). Each file that the table expects is read once; all others are known by their names.
 pub fn check<F: Shelf>(
@@ -42,7 +45,7 @@ pub fn check<F: Shelf>(
 ) -> Result<Accepted, ReadError>
     requires path { IsTrue (is_path part.now) }
     requires form { IsListing listing.now }
-    requires few { sum_by (λ entry. entry.size) listing.now ≤ 536870912 }
+    requires few { sum_by (λ entry. entry.size) listing.now ≤ MAX_FOLDER }
     requires known { IfSome (files_of (F.state shelf.old)) (λ files. listing.now ≡ entries_below part.now files) }
     ensures gives { IfSome (files_of (F.state shelf.old)) (λ files. GivesFrom result
         (folder_checks table.now (λ name. get files (joined_path part.now name)) (map (λ entry. entry.name) listing.now))) }

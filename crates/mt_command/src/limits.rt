@@ -7,7 +7,7 @@ pub const MAX_TABLE_TEXT: u64 = 1_048_576;
 pub const MAX_INPUT: usize = 268_435_456;
 
 /// The bytes of all files of a part together, at most.
-pub const MAX_FOLDER: u64 = 536_870_912;
+pub const MAX_FOLDER: u64 = mt_check::MAX_FOLDER;
 
 /// The inputs of a merge, at most; at least 1.
 pub const MAX_INPUTS: usize = 64;

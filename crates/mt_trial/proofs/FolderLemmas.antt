@@ -8,6 +8,7 @@ use Rattle.mt_types.specs.Items.{item_bytes}
 use Rattle.mt_table.specs.declared.definition.Table.{Table}
 use Rattle.mt_table.specs.Kept.{keeps_rules}
 use Rattle.mt_table.specs.Tables.{table_with}
+use Rattle.mt_command.specs.declared.limits.TheConstants.{MAX_FOLDER}
 use Rattle.mt_defs.specs.Partition.{partition_bytes}
 use Rattle.mt_defs.specs.Projections.{base_of, inner_of}
 use Rattle.mt_defs.specs.Rows.{Row, cell, column_values}
@@ -69,5 +70,5 @@ module _ (rules : IsTrue (keeps_rules trial_fields)) (rows : List Row) (are : Al
 
   -- ---- all of it
 
-  pub trial_size : files_size (written_folder table rows) ≤ 536870912
+  pub trial_size : files_size (written_folder table rows) ≤ MAX_FOLDER
   trial_size = omega (arith, folder_size table rows, base_size, days_size, index_size, groups_size, few)

@@ -4,6 +4,7 @@ use Rattle.mt_types.specs.declared.ty.Ty.TheVariants.{Date, Str, UInt}
 use Rattle.mt_types.specs.declared.ty.Agg.TheVariants.{Sum}
 use Rattle.mt_types.specs.declared.ty.Width.TheVariants.{W32, W64}
 use Rattle.mt_table.specs.declared.column.Column.{Column}
+use Rattle.mt_table.specs.declared.limits.TheConstants.{DEFAULT_GRANULE_BYTES, DEFAULT_GRANULE_ROWS, DEFAULT_WIDE_BYTES, DEFAULT_WIDE_ROWS}
 use Rattle.mt_table.specs.declared.partition.PartExpr.{PartExpr}
 use Rattle.mt_table.specs.declared.partition.PartExpr.TheVariants.{Month}
 use Rattle.mt_table.specs.declared.projection.Aggregate.TheVariants as aggregate
@@ -43,7 +44,7 @@ trial_projection = Grouped (codes "pk") (1 ∷ []) (aggregate.Count ∷ aggregat
 
 -- the settings of a table that names none
 abbrev pub trial_settings : Settings
-trial_settings = record { granule_rows = 8192; granule_bytes = 10485760; wide_bytes = 10485760; wide_rows = 0 }
+trial_settings = record { granule_rows = DEFAULT_GRANULE_ROWS; granule_bytes = DEFAULT_GRANULE_BYTES; wide_bytes = DEFAULT_WIDE_BYTES; wide_rows = DEFAULT_WIDE_ROWS }
 
 -- all of it; the key is (k, v)
 abbrev pub trial_fields : Fields
