@@ -17,6 +17,7 @@ state_with (state.Greatest greatest) n = state.Greatest (greater greatest (Some 
 
 -- ---- the number that is printed
 
+-- a type of signed numbers, of one level
 abbrev pub is_signed_at : {X : Type 0} → Ty-F X → Bool
 is_signed_at (Ty-F.Int width) = true
 is_signed_at _ = false

@@ -17,6 +17,7 @@ pub enum Edge {
 }
 
 impl Edge {
+    /// The end of an interval that it is.
     pub fn end(self) -> End {
         match self {
             Edge::Free => End::Free,
@@ -55,10 +56,12 @@ pub fn side(lo: Edge, hi: Edge) -> Side {
     }
 }
 
+/// A text as a value.
 pub fn text(alloc: Global, bytes: &[u8]) -> Result<Value, NoMemory> {
     Ok(Value::Text(List::of_bytes(alloc, bytes)?))
 }
 
+/// A column compared with a number.
 pub fn compared(column: u32, op: Op, number: i128) -> Cond {
     Cond::Cmp {
         column,
@@ -67,14 +70,17 @@ pub fn compared(column: u32, op: Op, number: i128) -> Cond {
     }
 }
 
+/// Both conditions.
 pub fn both(alloc: Global, left: Cond, right: Cond) -> Result<Cond, NoMemory> {
     Ok(Cond::And(Boxed::new(alloc, left)?, Boxed::new(alloc, right)?))
 }
 
+/// Either condition.
 pub fn either(alloc: Global, left: Cond, right: Cond) -> Result<Cond, NoMemory> {
     Ok(Cond::Or(Boxed::new(alloc, left)?, Boxed::new(alloc, right)?))
 }
 
+/// The opposite of a condition.
 pub fn opposite(alloc: Global, inner: Cond) -> Result<Cond, NoMemory> {
     Ok(Cond::Not(Boxed::new(alloc, inner)?))
 }

@@ -28,12 +28,15 @@ abbrev pub projection_element_name : Element → Option (List ℕ)
 projection_element_name (element.Projection name items group order) = Some name
 projection_element_name _ = None
 
+-- the names of the columns among the elements
 abbrev pub column_element_names : List Element → List (List ℕ)
 column_element_names = filter_map column_name
 
+-- those of the indexes
 abbrev pub index_names : List Element → List (List ℕ)
 index_names = filter_map index_element_name
 
+-- those of the projections
 abbrev pub projection_element_names : List Element → List (List ℕ)
 projection_element_names = filter_map projection_element_name
 
@@ -91,5 +94,6 @@ names_or_none names = unwrap_or names []
 abbrev pub place_in : List (List ℕ) → List ℕ → ℕ
 place_in names name = position_or_len (bytes_eq name) names
 
+-- where each of several names stands
 abbrev pub places_in : List (List ℕ) → List (List ℕ) → List ℕ
 places_in names = map (place_in names)

@@ -16,6 +16,7 @@ example_with key_data key_marks index =
     ∷ file (codes "v.mrk2") marks
     ∷ []
 
+-- the primary index of the folder
 abbrev pub example_index : List ℕ
 example_index = eight 1 ++ eight 3 ++ eight 3
 
