@@ -21,7 +21,7 @@ use Rattle.mt_command.specs.Status.{◌>>=◌}
 use Rattle.mt_command.specs.Targets.{free_target}
 use Rattle.mt_command.specs.declared.limits.TheConstants.{MAX_FOLDER}
 use Rattle.mt_command.specs.declared.status.Status.{Status}
-use Rattle.mt_merging.specs.Inputs.{all_rows, are_ready, are_there, are_together, folder_of_rows, one_partition, some_files, with_input}
+use Rattle.mt_merging.specs.Inputs.{all_rows, are_ready, are_there, share_partition, folder_of_rows, inputs_partition, some_files, with_input}
 use Rattle.mt_merging.specs.Merge.{inputs_steps, merge_steps}
 use Rattle.mt_merging.specs.Rooms.{within_limits}
 use Rattle.mt_merging.proofs.RoomLemmas.{cells_after}
@@ -40,7 +40,7 @@ record Within (table : Table) (all : List Row) : Type 0 where
   cells : cell_count table.columns all ≤ MAX_CELLS
 
 together : (table : Table) (first rows : List Row) (read inputs : List (List Row)) → HaveOnePartition table (all_rows ((first ∷ read) ++ rows ∷ inputs))
-    → are_together table first rows ≡ true
+    → share_partition table first rows ≡ true
 together table [] rows read inputs one = refl
 together table (a ∷ first) [] read inputs one = refl
 together table (a ∷ first) (b ∷ rows) read inputs one =
@@ -52,7 +52,7 @@ together table (a ∷ first) (b ∷ rows) read inputs one =
     (one a b (Contains-append_left (a ∷ first) rest a (Contains-get_or (a ∷ first) 0 a (omega arith))) (Contains-append_right (a ∷ first) rest b in_rest))
 
 joins : (table : Table) (read : List (List Row)) (rows : List Row) (inputs : List (List Row)) → HaveOnePartition table (all_rows (read ++ rows ∷ inputs))
-    → one_partition table read rows ≡ Ok tt
+    → inputs_partition table read rows ≡ Ok tt
 joins table [] rows inputs one = refl
 joins table (first ∷ read) rows inputs one = let here = together table first rows read inputs one in rw here refl
 

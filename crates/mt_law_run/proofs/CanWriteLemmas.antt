@@ -18,8 +18,8 @@ use Rattle.mt_command.specs.Tables.{table_in}
 use Rattle.mt_command.specs.Targets.{few_cells, folder_bytes, within_limit}
 use Rattle.mt_command.specs.declared.limits.TheConstants.{MAX_FOLDER, MAX_INPUT}
 use Rattle.mt_command.specs.declared.status.Status.{Status}
-use Rattle.mt_writing.specs.Partitions.{are_together, no_other, one_partition, other_line}
-use Rattle.mt_writing.specs.Write.{folder_for, folder_in, folder_of, input_text, rows_of, some_input, table_for}
+use Rattle.mt_writing.specs.Partitions.{are_together, no_other, lines_partition, other_line}
+use Rattle.mt_writing.specs.Write.{folder_for, folder_in, folder_of_text, input_text, rows_of_text, some_input, table_for}
 use Rattle.mt_law_run.specs.Published.{CanWrite}
 
 -- no line is of another partition
@@ -32,7 +32,7 @@ none_other table first line (row ∷ rows) all =
     let here : are_together table first row ≡ true = (bytes_eq-Decides (partition_bytes table first) (partition_bytes table row)).1 (All-head P row rows all) in
     rw here (none_other table first (line + 1) rows (All-tail P row rows all))
 
-is_one : (table : Table) (rows : List Row) → HaveOnePartition table rows → one_partition table rows ≡ Ok tt
+is_one : (table : Table) (rows : List Row) → HaveOnePartition table rows → lines_partition table rows ≡ Ok tt
 is_one table [] one = refl
 is_one table (first ∷ rows) one = ap no_other (none_other table first 1 (first ∷ rows) (as_first table first rows one))
 
@@ -43,13 +43,13 @@ text_given input some short = let test = le-ltb MAX_INPUT (length input) short i
     by [] some = absurd (some refl)
     by (byte ∷ more) some = refl
 
-rows_given : (table : Table) (input : List ℕ) (rows : List Row) → rows_reading table.columns input ≡ Ok rows → rows_of table input ≡ Ok rows
-unfolding rows_of
+rows_given : (table : Table) (input : List ℕ) (rows : List Row) → rows_reading table.columns input ≡ Ok rows → rows_of_text table input ≡ Ok rows
+unfolding rows_of_text
 rows_given table input rows is = ap (refused_by status_of_rows) is
 
-made : (table : Table) (input : List ℕ) (rows : List Row) → rows_of table input ≡ Ok rows → few_cells table rows ≡ Ok tt → one_partition table rows ≡ Ok tt
-    → within_limit (written_folder table (sorted_rows table.sort rows)) ≡ Ok (written_folder table (sorted_rows table.sort rows)) → folder_of table input ≡ Ok (written_folder table (sorted_rows table.sort rows))
-unfolding folder_of
+made : (table : Table) (input : List ℕ) (rows : List Row) → rows_of_text table input ≡ Ok rows → few_cells table rows ≡ Ok tt → lines_partition table rows ≡ Ok tt
+    → within_limit (written_folder table (sorted_rows table.sort rows)) ≡ Ok (written_folder table (sorted_rows table.sort rows)) → folder_of_text table input ≡ Ok (written_folder table (sorted_rows table.sort rows))
+unfolding folder_of_text
 made table input rows read few one small = rw (read, few, one) small
 
 pub within_given : (folder : List FileBytes) → folder_bytes folder ≤ MAX_FOLDER → within_limit folder ≡ Ok folder
@@ -64,5 +64,5 @@ pub can_write : (files : Files) (path part input : List ℕ) (table : Table) (ro
 can_write files path part input table rows can =
     let text = text_given input can.some can.short in
     let folder = made table input rows (rows_given table input rows can.rows_are) can.projections (is_one table rows can.one_partition) (within_given (written_folder table (sorted_rows table.sort rows)) can.small) in
-    let given : folder_for table input ≡ Ok (written_folder table (sorted_rows table.sort rows)) = ap (λ (r : Result (List ℕ) Status). r >>= folder_of table) text ∙ folder in
+    let given : folder_for table input ≡ Ok (written_folder table (sorted_rows table.sort rows)) = ap (λ (r : Result (List ℕ) Status). r >>= folder_of_text table) text ∙ folder in
     ap (λ (r : Result Table Status). r >>= λ table. folder_for table input) (table_given path part files table can.table_is can.free) ∙ given

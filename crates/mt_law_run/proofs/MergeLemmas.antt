@@ -30,7 +30,7 @@ use Rattle.mt_command.specs.Targets.{few_cells, free_target, within_limit}
 use Rattle.mt_command.specs.declared.status.Status.{Status}
 use Rattle.mt_command.specs.declared.status.Status.TheVariants.{Done, TooMuch}
 use Rattle.mt_command.specs.declared.status.What.TheVariants as what
-use Rattle.mt_merging.specs.Inputs.{AreInputs, all_rows, are_ready, are_there, folder_of_rows, one_partition, with_input}
+use Rattle.mt_merging.specs.Inputs.{AreInputs, all_rows, are_ready, are_there, folder_of_rows, inputs_partition, with_input}
 use Rattle.mt_merging.specs.Merge.{inputs_steps, merge_steps, merge_table_steps}
 use Rattle.mt_merging.specs.Rooms.{have_room, within_limits}
 use Rattle.mt_merging.proofs.InputLemmas.{no_inputs}
@@ -64,7 +64,7 @@ joined table read more rows there fit one before e =
     let Some : List Row → Type 0 = λ input. input ≢ [] in
     let Fit : List Row → Type 0 = λ input. All (RowFits table.columns) input in
     let all : List (List Row) = read ++ rows ∷ [] in
-    let first = passed (one_partition table read rows) (λ _. within_limits table (all_rows all) >>= λ _. let r : Result (List (List Row)) Status = Ok all in r) more e in
+    let first = passed (inputs_partition table read rows) (λ _. within_limits table (all_rows all) >>= λ _. let r : Result (List (List Row)) Status = Ok all in r) more e in
     let second = passed (within_limits table (all_rows all)) (λ _. let r : Result (List (List Row)) Status = Ok all in r) more first.later in
     let same : all ≡ more = same_value all more second.later in
     let few = limits_kept (length (all_rows all)) (cell_count table.columns (all_rows all)) MAX_ROWS MAX_CELLS (nat_lt MAX_ROWS (length (all_rows all))) (nat_lt MAX_CELLS (cell_count table.columns (all_rows all))) refl refl second.given in
@@ -72,7 +72,7 @@ joined table read more rows there fit one before e =
       are = record {
         some = All-append Some read (rows ∷ []) before.are.some (All-cons Some rows [] there (All-nil Some));
         fit = All-append Fit read (rows ∷ []) before.are.fit (All-cons Fit rows [] fit (All-nil Fit));
-        one_partition =
+        inputs_partition =
             subst (HaveOnePartition table) (sym (all_rows_push read rows)) (joined_one table read rows before.are.some there before.are.one_partition one first.given);
         few_cells = few.1;
       };
@@ -115,7 +115,7 @@ storable table read is there few = record {
   row_limit = let same = length-sorted_rows table.sort (all_rows read) in let most = is.few in omega (arith, same, most);
   cell_limit = merged_cells table read is.are;
   projection_limit = few;
-  one_partition = merged_one table read is.are;
+  inputs_partition = merged_one table read is.are;
 }
 
 writable : WriterLaws → (table : Table) (read : List (List Row)) → Read table read → read ≢ [] → few_cells table (merged_rows table.sort read) ≡ Ok tt

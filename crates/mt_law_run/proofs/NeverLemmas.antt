@@ -31,8 +31,8 @@ use Rattle.mt_command.specs.declared.status.What.TheVariants as what
 use Rattle.mt_merging.specs.Inputs as merging
 use Rattle.mt_merging.specs.Merge.{input_steps, inputs_steps, merge_steps, merge_table_steps}
 use Rattle.mt_merging.specs.Rooms.{within_limits}
-use Rattle.mt_writing.specs.Partitions.{no_other, one_partition, other_partition}
-use Rattle.mt_writing.specs.Write.{folder_for, folder_in, folder_of, input_text, rows_of, some_input, table_for}
+use Rattle.mt_writing.specs.Partitions.{no_other, lines_partition, other_partition_line}
+use Rattle.mt_writing.specs.Write.{folder_for, folder_in, folder_of_text, input_text, rows_of_text, some_input, table_for}
 use Rattle.mt_reading.specs.Reading.{check_steps, rows_steps}
 use Rattle.mt_select.specs.Select.{answer_steps, query_asked, select_steps}
 use Rattle.mt_show.specs.Show.{part_text, show_steps}
@@ -148,8 +148,8 @@ input_late input = so_if IsEarly (nat_lt MAX_INPUT (length input)) (Err (TooMuch
     some_late [] = λ e. e
     some_late (byte ∷ more) = tt
 
-rows_late : (table : Table) (text : List ℕ) → Late (rows_of table text)
-unfolding rows_of
+rows_late : (table : Table) (text : List ℕ) → Late (rows_of_text table text)
+unfolding rows_of_text
 rows_late table text = so_read IsEarly status_of_rows (rows_reading table.columns text) late
   where
     late : (e : RowError) → ¬ (IsEarly (status_of_rows e))
@@ -164,19 +164,19 @@ few_late table rows = so_if IsEarly (list_any (has_many_cells table rows) table.
 within_late : (folder : List FileBytes) → Late (within_limit folder)
 within_late folder = so_if IsEarly (nat_lt MAX_FOLDER (folder_bytes folder)) (Err (TooMuch what.Part MAX_FOLDER)) (Ok folder) (λ e. e) tt
 
-made_late : (table : Table) (text : List ℕ) → Late (folder_of table text)
-unfolding folder_of
+made_late : (table : Table) (text : List ℕ) → Late (folder_of_text table text)
+unfolding folder_of_text
 made_late table text =
-    so_then IsEarly (rows_of table text) _ (rows_late table text) (λ rows.
+    so_then IsEarly (rows_of_text table text) _ (rows_late table text) (λ rows.
     so_then IsEarly (few_cells table rows) _ (few_late table rows) (λ _.
-    so_then IsEarly (one_partition table rows) _ (one_late (other_partition table rows)) (λ _. within_late (written_folder table (sorted_rows table.sort rows)))))
+    so_then IsEarly (lines_partition table rows) _ (one_late (other_partition_line table rows)) (λ _. within_late (written_folder table (sorted_rows table.sort rows)))))
   where
     one_late : (o : Option ℕ) → Late (no_other o)
     one_late None = tt
     one_late (Some line) = λ e. e
 
 for_late : (table : Table) (input : List ℕ) → Late (folder_for table input)
-for_late table input = so_then IsEarly (input_text input) (folder_of table) (input_late input) (λ text. made_late table text)
+for_late table input = so_then IsEarly (input_text input) (folder_of_text table) (input_late input) (λ text. made_late table text)
 
 pub all_never : (path part : List ℕ) (files : Files) (input : List ℕ) → NeverDone (folder_in path part files input)
 all_never path part files input =
@@ -281,12 +281,12 @@ there_late (part ∷ parts) files =
 with_late : (table : Table) (read : List (List Row)) (rows : List Row) → Late (merging.with_input table read rows)
 with_late table read rows =
     let all : List (List Row) = read ++ rows ∷ [] in
-    so_then IsEarly (merging.one_partition table read rows) _ (one_late read)
+    so_then IsEarly (merging.inputs_partition table read rows) _ (one_late read)
     (λ _. so_then IsEarly (within_limits table (merging.all_rows all)) (λ _. let r : Result (List (List Row)) Status = Ok all in r) (limits_late (merging.all_rows all)) (λ _. tt))
   where
-    one_late : (read : List (List Row)) → Late (merging.one_partition table read rows)
+    one_late : (read : List (List Row)) → Late (merging.inputs_partition table read rows)
     one_late [] = tt
-    one_late (first ∷ read) = so_if IsEarly (merging.are_together table first rows) (Ok tt) (Err (MixedPartitions _)) tt (λ e. e)
+    one_late (first ∷ read) = so_if IsEarly (merging.share_partition table first rows) (Ok tt) (Err (MixedPartitions _)) tt (λ e. e)
 
     limits_late : (all : List Row) → Late (within_limits table all)
     limits_late all =

@@ -22,8 +22,8 @@ use Rattle.mt_command.specs.declared.status.Status.{Status}
 use Rattle.mt_command.specs.declared.status.Status.TheVariants.{Done, TooMuch}
 use Rattle.mt_command.specs.declared.status.What.TheVariants as what
 use Rattle.mt_trial.proofs.OnlyLemmas.{same_value}
-use Rattle.mt_writing.specs.Partitions.{one_partition}
-use Rattle.mt_writing.specs.Write.{folder_for, folder_in, folder_of, input_text, rows_of, some_input, table_for, write_plan}
+use Rattle.mt_writing.specs.Partitions.{lines_partition}
+use Rattle.mt_writing.specs.Write.{folder_for, folder_in, folder_of_text, input_text, rows_of_text, some_input, table_for, write_plan}
 use Rattle.mt_writing.proofs.PartitionLemmas.{have_one}
 use Rattle.mt_writing.proofs.WrittenParts.{rows_read}
 use Rattle.mt_law_run.specs.Published.{Wrote}
@@ -43,7 +43,7 @@ pub record Made (path part input : List ℕ) (files : Files) (folder : List File
   pub rows : List Row
   pub rows_are : rows_reading table.columns input ≡ Ok rows
   pub few : few_cells table rows ≡ Ok tt
-  pub one : one_partition table rows ≡ Ok tt
+  pub one : lines_partition table rows ≡ Ok tt
   pub small : within_limit (written_folder table (sorted_rows table.sort rows)) ≡ Ok folder
 
 text_is : (input text : List ℕ) (much : Bool) → nat_lt MAX_INPUT (length input) ≡ much → input_text input ≡ Ok text → (text ≡ input) × (input ≢ [])
@@ -56,18 +56,18 @@ text_is input text false is e = let here : input_text input ≡ some_input input
 
 pub was_made : (path part input : List ℕ) (files : Files) (folder : List FileBytes) → folder_in path part files input ≡ Ok folder
     → Made path part input files folder
-unfolding folder_of
+unfolding folder_of_text
 was_made path part input files folder e =
     let all = passed (table_for path part files) (λ table. folder_for table input) folder e in
     let found = passed (table_in path files) (λ table. free_target part files >>= λ _. Ok table) all.gave all.given in
     let free = passed (free_target part files) (λ _. let r : Result Table Status = Ok found.gave in r) all.gave found.later in
     let table = all.gave in
-    let text = passed (input_text input) (folder_of table) folder all.later in
+    let text = passed (input_text input) (folder_of_text table) folder all.later in
     let is = text_is input text.gave (nat_lt MAX_INPUT (length input)) refl text.given in
-    let made : folder_of table input ≡ Ok folder = subst (λ t. folder_of table t ≡ Ok folder) is.0 text.later in
-    let rows = passed (rows_of table input) (λ rows. few_cells table rows >>= λ _. one_partition table rows >>= λ _. within_limit (written_folder table (sorted_rows table.sort rows))) folder made in
-    let few = passed (few_cells table rows.gave) (λ _. one_partition table rows.gave >>= λ _. within_limit (written_folder table (sorted_rows table.sort rows.gave))) folder rows.later in
-    let one = passed (one_partition table rows.gave) (λ _. within_limit (written_folder table (sorted_rows table.sort rows.gave))) folder few.later in
+    let made : folder_of_text table input ≡ Ok folder = subst (λ t. folder_of_text table t ≡ Ok folder) is.0 text.later in
+    let rows = passed (rows_of_text table input) (λ rows. few_cells table rows >>= λ _. lines_partition table rows >>= λ _. within_limit (written_folder table (sorted_rows table.sort rows))) folder made in
+    let few = passed (few_cells table rows.gave) (λ _. lines_partition table rows.gave >>= λ _. within_limit (written_folder table (sorted_rows table.sort rows.gave))) folder rows.later in
+    let one = passed (lines_partition table rows.gave) (λ _. within_limit (written_folder table (sorted_rows table.sort rows.gave))) folder few.later in
     record {
       table = table;
       table_is = found.given ∙ free.later;
@@ -88,7 +88,7 @@ storable path part input files folder m bytes = record {
   row_limit = limits.few_rows m.table.columns input m.rows m.rows_are;
   cell_limit = limits.few_cells m.table.columns input m.rows m.rows_are;
   projection_limit = m.few;
-  one_partition = have_one m.table m.rows m.one;
+  lines_partition = have_one m.table m.rows m.one;
 }
 
 -- ---- the law

@@ -6,7 +6,7 @@ use Rattle.mt_table.specs.declared.definition.Table.{Table}
 use Rattle.mt_defs.specs.Partition.{HaveOnePartition}
 use Rattle.mt_defs.specs.Rows.{Row, RowFits, cell_count}
 use Rattle.mt_command.specs.declared.status.Status.{Status}
-use Rattle.mt_merging.specs.Inputs.{AreInputs, all_rows, one_partition, with_input}
+use Rattle.mt_merging.specs.Inputs.{AreInputs, all_rows, inputs_partition, with_input}
 use Rattle.mt_merging.specs.Rooms.{LeaveRoom, have_room, within_limits}
 use Rattle.mt_merging.specs.declared.room.Room.{Room}
 use Rattle.mt_merging.proofs.RoomLemmas.{cells_within, limits_after, room_after_others}
@@ -19,10 +19,10 @@ limits_push table read rows room left = limits_after table (all_rows read) rows 
 
 -- ---- refusals
 
-pub other_refused : (table : Table) (read : List (List Row)) (rows : List Row) (status : Status) → one_partition table read rows ≡ Err status → with_input table read rows ≡ Err status
+pub other_refused : (table : Table) (read : List (List Row)) (rows : List Row) (status : Status) → inputs_partition table read rows ≡ Err status → with_input table read rows ≡ Err status
 other_refused table read rows status refused = rw refused refl
 
-pub limit_refused : (table : Table) (read : List (List Row)) (rows : List Row) (room : Room) (status : Status) → LeaveRoom table (all_rows read) room → one_partition table read rows ≡ Ok tt
+pub limit_refused : (table : Table) (read : List (List Row)) (rows : List Row) (room : Room) (status : Status) → LeaveRoom table (all_rows read) room → inputs_partition table read rows ≡ Ok tt
     → have_room (length rows) (cell_count table.columns rows) room.rows room.cells ≡ Err status → with_input table read rows ≡ Err status
 limit_refused table read rows room status left one refused =
     let limits : within_limits table (all_rows (read ++ rows ∷ [])) ≡ Err status = sym (limits_push table read rows room left) ∙ refused in
@@ -30,7 +30,7 @@ limit_refused table read rows room status left one refused =
 
 -- ---- an input that is added
 
-pub input_added : (table : Table) (read : List (List Row)) (rows : List Row) (room : Room) → LeaveRoom table (all_rows read) room → one_partition table read rows ≡ Ok tt
+pub input_added : (table : Table) (read : List (List Row)) (rows : List Row) (room : Room) → LeaveRoom table (all_rows read) room → inputs_partition table read rows ≡ Ok tt
     → have_room (length rows) (cell_count table.columns rows) room.rows room.cells ≡ Ok tt → with_input table read rows ≡ Ok (read ++ rows ∷ [])
 input_added table read rows room left one there =
     let limits : within_limits table (all_rows (read ++ rows ∷ [])) ≡ Ok tt = sym (limits_push table read rows room left) ∙ there in
@@ -42,7 +42,7 @@ room_added table read rows room left before row_room cell_room =
     subst (λ all. LeaveRoom table all left) (sym (all_rows_push read rows)) (room_after_others table (all_rows read) rows room left before row_room cell_room)
 
 pub inputs_added : (table : Table) (read : List (List Row)) (rows : List Row) (left : Room) → AreInputs table read → rows ≢ [] → All (RowFits table.columns) rows → HaveOnePartition table rows
-    → one_partition table read rows ≡ Ok tt → LeaveRoom table (all_rows (read ++ rows ∷ [])) left → AreInputs table (read ++ rows ∷ [])
+    → inputs_partition table read rows ≡ Ok tt → LeaveRoom table (all_rows (read ++ rows ∷ [])) left → AreInputs table (read ++ rows ∷ [])
 inputs_added table read rows left are there fit one passed room =
     let Some : List Row → Type 0 = λ input. input ≢ [] in
     let Fit : List Row → Type 0 = λ input. All (RowFits table.columns) input in
@@ -58,7 +58,7 @@ pub no_inputs : (table : Table) → AreInputs table []
 no_inputs table = record {
   some = All-nil (λ (rows : List Row). rows ≢ []);
   fit = All-nil (λ (rows : List Row). All (RowFits table.columns) rows);
-  one_partition = λ a b in_none also. absurd (nowhere a in_none);
+  inputs_partition = λ a b in_none also. absurd (nowhere a in_none);
   few_cells = omega arith;
 }
   where

@@ -15,7 +15,7 @@ use Rattle.mt_defs.specs.Sorting.{merged_rows}
 use Rattle.mt_defs.proofs.Sorted.{All-sorted_rows, IsSorted-sorted_rows, cell_count-sorted_rows, some_sorted_rows}
 use Rattle.mt_defs.proofs.PartitionLemmas.{as_first, one_for_all, sorted_one}
 use Rattle.mt_command.specs.declared.status.Status.TheVariants.{MixedPartitions}
-use Rattle.mt_merging.specs.Inputs.{AreInputs, all_rows, are_together, one_partition}
+use Rattle.mt_merging.specs.Inputs.{AreInputs, all_rows, share_partition, inputs_partition}
 
 -- ---- all rows
 
@@ -41,18 +41,18 @@ joined_rows table a b xs ys one other same =
     (All-append P (a ∷ xs) (b ∷ ys) (as_first table a xs one) (λ k d h. same ∙ as_first table b ys other k d h))
 
 -- the test of two inputs, passed
-pub together : (table : Table) (first rows : List Row) (read : List (List Row)) (same : Bool) → are_together table first rows ≡ same → one_partition table (first ∷ read) rows ≡ Ok tt → same ≡ true
+pub together : (table : Table) (first rows : List Row) (read : List (List Row)) (same : Bool) → share_partition table first rows ≡ same → inputs_partition table (first ∷ read) rows ≡ Ok tt → same ≡ true
 together table first rows read true is passed = refl
-together table first rows read false is passed = let never : one_partition table (first ∷ read) rows ≡ Err (MixedPartitions (length (first ∷ read) + 1)) = rw is refl in cc
+together table first rows read false is passed = let never : inputs_partition table (first ∷ read) rows ≡ Err (MixedPartitions (length (first ∷ read) + 1)) = rw is refl in cc
 
 -- an input of the first one's partition
-pub joined_one : (table : Table) (read : List (List Row)) (rows : List Row) → All (λ input. input ≢ []) read → rows ≢ [] → HaveOnePartition table (all_rows read) → HaveOnePartition table rows → one_partition table read rows ≡ Ok tt
+pub joined_one : (table : Table) (read : List (List Row)) (rows : List Row) → All (λ input. input ≢ []) read → rows ≢ [] → HaveOnePartition table (all_rows read) → HaveOnePartition table rows → inputs_partition table read rows ≡ Ok tt
     → HaveOnePartition table (all_rows read ++ rows)
 joined_one table [] rows some there one other passed = other
 joined_one table ([] ∷ read) rows some there one other passed = absurd (All-head (λ (input : List Row). input ≢ []) [] read some refl)
 joined_one table ((a ∷ xs) ∷ read) [] some there one other passed = absurd (there refl)
 joined_one table ((a ∷ xs) ∷ read) (b ∷ ys) some there one other passed =
-    let test = together table (a ∷ xs) (b ∷ ys) read (are_together table (a ∷ xs) (b ∷ ys)) refl passed in
+    let test = together table (a ∷ xs) (b ∷ ys) read (share_partition table (a ∷ xs) (b ∷ ys)) refl passed in
     joined_rows table a b (xs ++ all_rows read) ys one other ((bytes_eq-Decides (partition_bytes table a) (partition_bytes table b)).0 test)
 
 -- the first row of a list
@@ -70,11 +70,11 @@ same_test table a b false both = sym (apart (bytes_eq (partition_bytes table a) 
     apart true e = let yes = both.1 ((bytes_eq-Decides (partition_bytes table a) (partition_bytes table b)).0 e) in cc
 
 pub together_is : (table : Table) (a b : Row) (one other : List Row) (same : Bool) → Some a ≡ slice_get one 0 → Some b ≡ slice_get other 0 → (same ≡ true) ↔ (partition_bytes table a ≡ partition_bytes table b)
-    → same ≡ are_together table one other
+    → same ≡ share_partition table one other
 together_is table a b one other same first second both =
     let left = first_is a one first in
     let right = first_is b other second in
-    same_test table a b same both ∙ sym (ap (λ (rows : List Row). are_together table rows other) left.1 ∙ ap (are_together table (a ∷ left.0)) right.1)
+    same_test table a b same both ∙ sym (ap (λ (rows : List Row). share_partition table rows other) left.1 ∙ ap (share_partition table (a ∷ left.0)) right.1)
 
 -- ---- in key order
 

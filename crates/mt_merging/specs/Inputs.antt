@@ -43,19 +43,19 @@ abbrev pub all_rows : List (List Row) → List Row
 all_rows read = flat_map (λ rows. rows) read
 
 -- whether two lists of rows begin with the same partition value
-abbrev pub are_together : Table → List Row → List Row → Bool
-are_together table (a ∷ _) (b ∷ _) = bytes_eq (partition_bytes table a) (partition_bytes table b)
-are_together table _ _ = true
+abbrev pub share_partition : Table → List Row → List Row → Bool
+share_partition table (a ∷ _) (b ∷ _) = bytes_eq (partition_bytes table a) (partition_bytes table b)
+share_partition table _ _ = true
 
 -- an input of the first one's partition
-abbrev pub one_partition : Table → List (List Row) → List Row → Result Unit Status
-one_partition table [] rows = Ok tt
-one_partition table (first ∷ read) rows = if are_together table first rows then Ok tt else Err (MixedPartitions (length (first ∷ read) + 1))
+abbrev pub inputs_partition : Table → List (List Row) → List Row → Result Unit Status
+inputs_partition table [] rows = Ok tt
+inputs_partition table (first ∷ read) rows = if share_partition table first rows then Ok tt else Err (MixedPartitions (length (first ∷ read) + 1))
 
 -- an input's rows after those that were read: of one partition with them, and within the limits with them
 abbrev pub with_input : Table → List (List Row) → List Row → Result (List (List Row)) Status
 with_input table read rows = do
-  _ ← one_partition table read rows
+  _ ← inputs_partition table read rows
   _ ← within_limits table (all_rows (read ++ rows ∷ []))
   Ok (read ++ rows ∷ [])
 

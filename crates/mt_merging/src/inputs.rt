@@ -5,7 +5,7 @@ ghost use Rattle.mt_defs.specs.Partition.{HaveOnePartition};
 ghost use Rattle.mt_defs.specs.Rows.{RowFits};
 ghost use Rattle.mt_command.specs.Status.{GivesOutcome, is_outside_fault};
 ghost use Rattle.mt_command.specs.Steps.{StepCausedBy, of_nothing};
-ghost use Rattle.mt_merging.specs.Inputs.{AreInputs, all_rows, are_together, one_partition, with_input};
+ghost use Rattle.mt_merging.specs.Inputs.{AreInputs, all_rows, share_partition, inputs_partition, with_input};
 ghost use Rattle.mt_merging.specs.Rooms.{LeaveRoom};
 
 use crate::room::{Room, room_after};
@@ -16,16 +16,16 @@ use mt_types::{List, Row};
 
 /// Refuses rows of another partition than the first input's.
 #[tactic(auto, using(mt_build::proofs::SkipLemmas::partition_keys))]
-fn one_partition(table: &Table, read: &[List<Row>], rows: &[Row]) -> Result<(), Status>
+fn inputs_partition(table: &Table, read: &[List<Row>], rows: &[Row]) -> Result<(), Status>
     requires read { All (λ input. All (RowFits table.now.columns) input) read.now }
     requires fit { All (RowFits table.now.columns) rows.now }
-    ensures gives { GivesOutcome result (one_partition table.now read.now rows.now) }
+    ensures gives { GivesOutcome result (inputs_partition table.now read.now rows.now) }
     ensures cause { StepCausedBy result of_nothing of_nothing }
 {
     let Some(first) = read.first() else {
         return Ok(());
     };
-    if are_together(table, first.as_slice(), rows) {
+    if share_partition(table, first.as_slice(), rows) {
         return Ok(());
     }
     Err(Status::MixedPartitions {
@@ -34,10 +34,10 @@ fn one_partition(table: &Table, read: &[List<Row>], rows: &[Row]) -> Result<(), 
 }
 
 /// Whether two lists of rows begin with the same partition value.
-fn are_together(table: &Table, one: &[Row], other: &[Row]) -> bool
+fn share_partition(table: &Table, one: &[Row], other: &[Row]) -> bool
     requires one { All (RowFits table.now.columns) one.now }
     requires other { All (RowFits table.now.columns) other.now }
-    ensures { result ≡ are_together table.now one.now other.now }
+    ensures { result ≡ share_partition table.now one.now other.now }
 {
     match (one.first(), other.first()) {
         (Some(a), Some(b)) => same_partition(table, a, b),
@@ -64,7 +64,7 @@ pub(crate) fn add_input(
     ensures room { IfOk result (LeaveRoom table.now (all_rows read.new)) }
     ensures cause { StepCausedBy result of_nothing of_nothing }
 {
-    one_partition(table, read.as_slice(), rows.as_slice())?;
+    inputs_partition(table, read.as_slice(), rows.as_slice())?;
     let left = match room_after(table, room, rows.as_slice()) {
         Ok(left) => left,
         Err(status) => return Err(status),

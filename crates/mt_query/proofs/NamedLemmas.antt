@@ -33,7 +33,8 @@ use Rattle.mt_query.specs.Columns.{column_of, place_of}
 use Rattle.mt_query.specs.Conditions.{cond_of, cond_step, given, given_cond, given_is_present, joined_conditions, null_test_on}
 use Rattle.mt_query.specs.Lists.{all_of}
 use Rattle.mt_query.specs.Literals.{element_value_of, prefix_of, literal_value_of}
-use Rattle.mt_query.specs.Named.{columns_step, cond_passes, given_cond_passes, is_place, item_passes, query_passes}
+use Rattle.mt_query.specs.Named.{columns_step, cond_passes, given_cond_passes, item_passes, query_passes}
+use Rattle.mt_table.specs.Kept.{is_place}
 use Rattle.mt_query.specs.Queries.{GivesQuery}
 use Rattle.mt_query.specs.Rules.{are_grouped, is_over, item_of, items_of, judged_query, judged_items}
 

@@ -1,7 +1,6 @@
 -- The columns that a query names, each put to a test.
-use Rattle.std.specs.Prelude.{ℕ, Bool, true, ◌&&◌, nat_lt, List, length, Option, Some, None}
+use Rattle.std.specs.Prelude.{ℕ, Bool, true, ◌&&◌, Option, Some, None}
 use Rattle.std.specs.List.{list_all}
-use Rattle.mt_table.specs.declared.column.Column.{Column}
 use Rattle.mt_query.specs.declared.cond.Cond.{Cond}
 use Rattle.mt_query.specs.declared.cond.Cond.TheOpen.{Cond-F}
 use Rattle.mt_query.specs.declared.cond.Cond.TheFolds.{fold-Cond}
@@ -38,7 +37,3 @@ item_passes test (Of agg place) = test place
 -- every column that a query names passes
 abbrev pub query_passes : (ℕ → Bool) → Query → Bool
 query_passes test query = list_all (item_passes test) query.items && (given_cond_passes test query.cond && list_all test query.keys)
-
--- there is a column at the place
-abbrev pub is_place : List Column → (place : ℕ) → Bool
-is_place columns place = nat_lt place (length columns)

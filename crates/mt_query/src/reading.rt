@@ -4,7 +4,8 @@ ghost use Rattle.std.specs.Prelude.{◌≡◌, IfOk, IsTrue, Result, Ok, Err};
 ghost use Rattle.mt_query.specs.declared.query.Query.{Query};
 ghost use Rattle.mt_query.specs.declared.why.QueryWhy.{QueryWhy};
 ghost use Rattle.mt_query.specs.declared.why.QueryError.TheVariants as error;
-ghost use Rattle.mt_query.specs.Named.{is_place, query_passes};
+ghost use Rattle.mt_table.specs.Kept.{is_place};
+ghost use Rattle.mt_query.specs.Named.{query_passes};
 ghost use Rattle.mt_query.specs.Queries.{Asks, GivesQuery};
 ghost use Rattle.mt_query.specs.Suits.{given_cond_suits};
 

@@ -17,7 +17,7 @@ use Rattle.mt_command.specs.Status.{◌>>=◌}
 use Rattle.mt_command.specs.Targets.{free_target}
 use Rattle.mt_command.specs.declared.status.Status.{Status}
 use Rattle.mt_headline.specs.Storable.{AreStorable}
-use Rattle.mt_merging.specs.Inputs.{all_rows, are_ready, are_together, folder_of_rows, with_input}
+use Rattle.mt_merging.specs.Inputs.{all_rows, are_ready, share_partition, folder_of_rows, with_input}
 use Rattle.mt_merging.specs.Merge.{input_steps, inputs_steps, merge_table_steps}
 use Rattle.mt_merging.specs.Rooms.{have_room, within_limits}
 use Rattle.mt_trial.specs.Steps.{half_names}
@@ -37,7 +37,7 @@ first_joins table rows are =
     let limits : within_limits table (all_rows (rows ∷ [])) ≡ Ok tt = ap (within_limits table) (append-nil rows) ∙ within table rows are in
     ap (λ (r : Result Unit Status). r >>= λ _. Ok (rows ∷ [])) limits
 
-are_of_one : (table : Table) (a b : List Row) → HaveOnePartition table (all_rows (a ∷ b ∷ [])) → are_together table a b ≡ true
+are_of_one : (table : Table) (a b : List Row) → HaveOnePartition table (all_rows (a ∷ b ∷ [])) → share_partition table a b ≡ true
 are_of_one table [] b one = refl
 are_of_one table (x ∷ a) [] one = refl
 are_of_one table (x ∷ a) (y ∷ b) one =

@@ -8,7 +8,7 @@ use Rattle.mt_table.specs.declared.definition.Table.{Table}
 use Rattle.mt_defs.specs.Partition.{HaveOnePartition, partition_bytes}
 use Rattle.mt_defs.specs.Rows.{Row}
 use Rattle.mt_defs.proofs.PartitionLemmas.{one_for_all}
-use Rattle.mt_writing.specs.Partitions.{are_together, no_other, one_partition, other_line}
+use Rattle.mt_writing.specs.Partitions.{are_together, no_other, lines_partition, other_line}
 
 -- what a comparison of two rows says
 together : (table : Table) (a b : Row) (same : Bool) → same ≡ true → (same ≡ true) ↔ (partition_bytes table a ≡ partition_bytes table b) → are_together table a b ≡ true
@@ -56,7 +56,7 @@ no_other_line None e = refl
 no_other_line (Some line) e = cc
 
 -- the step that refuses another partition lets rows of one pass
-pub have_one : (table : Table) (rows : List Row) → one_partition table rows ≡ Ok tt → HaveOnePartition table rows
+pub have_one : (table : Table) (rows : List Row) → lines_partition table rows ≡ Ok tt → HaveOnePartition table rows
 have_one table [] e = λ a b in_rows also. absurd (nowhere a in_rows)
   where
     nowhere : (a : Row) → Contains [] a → ⊥

@@ -23,8 +23,8 @@ use Rattle.mt_defs.proofs.PartitionLemmas.{sorted_one}
 use Rattle.mt_law_written.proofs.StandLemmas.{written_stands}
 use Rattle.mt_meta.proofs.InnerLemmas.{projections_kept}
 use Rattle.mt_command.specs.Status.{◌>>=◌, refused_by, status_of_rows}
-use Rattle.mt_writing.specs.Partitions.{one_partition}
-use Rattle.mt_writing.specs.Write.{folder_of, rows_of}
+use Rattle.mt_writing.specs.Partitions.{lines_partition}
+use Rattle.mt_writing.specs.Write.{folder_of_text, rows_of_text}
 use Rattle.mt_command.specs.Targets.{few_cells, folder_bytes, has_many_cells, within_limit}
 use Rattle.mt_command.specs.declared.limits.TheConstants.{MAX_FOLDER}
 use Rattle.mt_command.specs.declared.status.Status.{Status}
@@ -53,8 +53,8 @@ read_rows : {A : Type 0} (reading : Result A RowError) (rows : A) → refused_by
 read_rows (Ok x) rows e = let same : x ≡ rows = cc in ap Ok same
 read_rows (Err error) rows e = cc
 
-pub rows_read : (table : Table) (text : List ℕ) (rows : List Row) → rows_of table text ≡ Ok rows → rows_reading table.columns text ≡ Ok rows
-unfolding rows_of
+pub rows_read : (table : Table) (text : List ℕ) (rows : List Row) → rows_of_text table text ≡ Ok rows → rows_reading table.columns text ≡ Ok rows
+unfolding rows_of_text
 rows_read table text rows e = read_rows (rows_reading table.columns text) rows e
 
 -- a folder within the limit is the one that was made
@@ -73,15 +73,15 @@ few_each table rows false is e = none_passes (has_many_cells table rows) table.p
 pub record Accepted (table : Table) (text : List ℕ) (rows : List Row) (files : List FileBytes) : Type 0 where
   pub reads : rows_reading table.columns text ≡ Ok rows
   pub few : All (λ projection. has_many_cells table rows projection ≡ false) table.projections
-  pub one : one_partition table rows ≡ Ok tt
+  pub one : lines_partition table rows ≡ Ok tt
   pub made : files ≡ written_folder table (sorted_rows table.sort rows)
 
-accepted : (table : Table) (text : List ℕ) (rows : List Row) (files : List FileBytes) → rows_of table text ≡ Ok rows → folder_of table text ≡ Ok files → Accepted table text rows files
-unfolding folder_of
+accepted : (table : Table) (text : List ℕ) (rows : List Row) (files : List FileBytes) → rows_of_text table text ≡ Ok rows → folder_of_text table text ≡ Ok files → Accepted table text rows files
+unfolding folder_of_text
 accepted table text rows files read made =
-    let steps = at_once (rows_of table text) (λ found. few_cells table found >>= λ _. one_partition table found >>= λ _. within_limit (written_folder table (sorted_rows table.sort found))) rows files read made in
-    let cells = passed (few_cells table rows) (λ _. one_partition table rows >>= λ _. within_limit (written_folder table (sorted_rows table.sort rows))) files steps in
-    let one = passed (one_partition table rows) (λ _. within_limit (written_folder table (sorted_rows table.sort rows))) files cells.later in
+    let steps = at_once (rows_of_text table text) (λ found. few_cells table found >>= λ _. lines_partition table found >>= λ _. within_limit (written_folder table (sorted_rows table.sort found))) rows files read made in
+    let cells = passed (few_cells table rows) (λ _. lines_partition table rows >>= λ _. within_limit (written_folder table (sorted_rows table.sort rows))) files steps in
+    let one = passed (lines_partition table rows) (λ _. within_limit (written_folder table (sorted_rows table.sort rows))) files cells.later in
     record {
       reads = rows_read table text rows read;
       few = few_each table rows (list_any (has_many_cells table rows) table.projections) refl cells.given;
@@ -107,11 +107,11 @@ writable table text rows files some bytes are =
         few_rows = omega (arith, count, few_rows);
         few_cells = sorted_few;
       };
-      one_partition = sorted_one table rows (have_one table rows are.one);
+      lines_partition = sorted_one table rows (have_one table rows are.one);
       projections = λ k d h. projection_part table (get_or table.projections k d) rows (projections_kept table k d h) fit sorted_fit some_rows few_rows sorted_few (are.few k d h);
     }
 
-pub parts_stand : (table : Table) (text : List ℕ) (rows : List Row) (files : List FileBytes) → text ≢ [] → list_all is_byte text ≡ true → rows_of table text ≡ Ok rows → folder_of table text ≡ Ok files
+pub parts_stand : (table : Table) (text : List ℕ) (rows : List Row) (files : List FileBytes) → text ≢ [] → list_all is_byte text ≡ true → rows_of_text table text ≡ Ok rows → folder_of_text table text ≡ Ok files
     → StandsFor table (folders.folder_of files) (sorted_rows table.sort rows)
 parts_stand table text rows files some bytes read made =
     let are = accepted table text rows files read made in

@@ -17,9 +17,9 @@ other_line table first line [] = None
 other_line table first line (row ∷ rows) = if are_together table first row then other_line table first (line + 1) rows else Some line
 
 -- the first line, from 1, whose partition value isn't line 1's
-abbrev pub other_partition : Table → List Row → Option ℕ
-other_partition table [] = None
-other_partition table (first ∷ rows) = other_line table first 1 (first ∷ rows)
+abbrev pub other_partition_line : Table → List Row → Option ℕ
+other_partition_line table [] = None
+other_partition_line table (first ∷ rows) = other_line table first 1 (first ∷ rows)
 
 -- no such line
 abbrev pub no_other : Option ℕ → Result Unit Status
@@ -27,5 +27,5 @@ no_other None = Ok tt
 no_other (Some line) = Err (ManyPartitions line)
 
 -- rows of one partition, or the first line of another
-abbrev pub one_partition : Table → List Row → Result Unit Status
-one_partition table rows = no_other (other_partition table rows)
+abbrev pub lines_partition : Table → List Row → Result Unit Status
+lines_partition table rows = no_other (other_partition_line table rows)

@@ -15,7 +15,7 @@ use Rattle.mt_command.specs.declared.limits.TheConstants.{MAX_INPUT}
 use Rattle.mt_command.specs.declared.status.What.TheVariants as what
 use Rattle.mt_command.specs.declared.status.Status.{Status}
 use Rattle.mt_command.specs.declared.status.Status.TheVariants.{TooMuch, NoRows}
-use Rattle.mt_writing.specs.Partitions.{one_partition}
+use Rattle.mt_writing.specs.Partitions.{lines_partition}
 
 -- the table of a file, where the target is free
 abbrev pub table_for : List ℕ → List ℕ → Files → Result Table Status
@@ -34,20 +34,20 @@ abbrev pub input_text : List ℕ → Result (List ℕ) Status
 input_text input = if nat_lt MAX_INPUT (length input) then Err (TooMuch what.Input MAX_INPUT) else some_input input
 
 -- the rows of a text, or the first line that is none
-unfoldable pub rows_of : Table → List ℕ → Result (List Row) Status
-rows_of table text = refused_by status_of_rows (rows_reading table.columns text)
+unfoldable pub rows_of_text : Table → List ℕ → Result (List Row) Status
+rows_of_text table text = refused_by status_of_rows (rows_reading table.columns text)
 
 -- the writer's folder of the rows of a text in key order, which are of one partition and within the limits
-unfoldable pub folder_of : Table → List ℕ → Result (List FileBytes) Status
-folder_of table text = do
-  rows ← rows_of table text
+unfoldable pub folder_of_text : Table → List ℕ → Result (List FileBytes) Status
+folder_of_text table text = do
+  rows ← rows_of_text table text
   _ ← few_cells table rows
-  _ ← one_partition table rows
+  _ ← lines_partition table rows
   within_limit (written_folder table (sorted_rows table.sort rows))
 
 -- the folder of the input's rows
 abbrev pub folder_for : Table → List ℕ → Result (List FileBytes) Status
-folder_for table input = input_text input >>= folder_of table
+folder_for table input = input_text input >>= folder_of_text table
 
 -- the folder that the command publishes, or its first refusal
 abbrev pub folder_in : List ℕ → List ℕ → Files → List ℕ → Result (List FileBytes) Status

@@ -5,9 +5,9 @@ ghost use Rattle.mt_shelf.specs.Held.{HasName};
 ghost use Rattle.mt_defs.specs.Rows.{RowFits, cell_count};
 ghost use Rattle.mt_command.specs.Status.{GivesOutcome};
 ghost use Rattle.mt_command.specs.Steps.{StepCausedBy, of_nothing};
-ghost use Rattle.mt_writing.specs.Write.{rows_of, folder_of};
+ghost use Rattle.mt_writing.specs.Write.{rows_of_text, folder_of_text};
 
-use crate::partition::one_partition;
+use crate::partition::lines_partition;
 use mt_build::sort_rows;
 use mt_command::{Status, few_cells, sorted_folder, status_of_rows};
 use mt_fault::FileBytes;
@@ -20,10 +20,10 @@ use std::alloc::Global;
 use std::thread::Threads;
 
 /// The rows of a text.
-#[tactic(auto, unfolding(crate::specs::Write::rows_of))]
-fn rows_of(alloc: Global, table: &Table, text: &[u8]) -> Result<List<Row>, Status>
+#[tactic(auto, unfolding(crate::specs::Write::rows_of_text))]
+fn rows_of_text(alloc: Global, table: &Table, text: &[u8]) -> Result<List<Row>, Status>
     requires { text.now ≢ [] }
-    ensures gives { GivesOutcome result (rows_of table.now text.now) }
+    ensures gives { GivesOutcome result (rows_of_text table.now text.now) }
     ensures some { IfOk result (λ rows. rows ≢ []) }
     ensures fit { IfOk result (All (RowFits table.now.columns)) }
     ensures few { IfOk result (λ rows. cell_count table.now.columns rows ≤ MAX_CELLS) }
@@ -36,8 +36,8 @@ fn rows_of(alloc: Global, table: &Table, text: &[u8]) -> Result<List<Row>, Statu
 }
 
 /// The folder of the rows of a text.
-#[tactic(auto, unfolding(crate::specs::Write::folder_of))]
-pub(crate) fn folder_of<R: Threads + Sync, G: Gate + Sync>(
+#[tactic(auto, unfolding(crate::specs::Write::folder_of_text))]
+pub(crate) fn folder_of_text<R: Threads + Sync, G: Gate + Sync>(
     rt: &R,
     alloc: Global,
     table: &Table,
@@ -46,13 +46,13 @@ pub(crate) fn folder_of<R: Threads + Sync, G: Gate + Sync>(
     gate: &G,
 ) -> Result<List<FileBytes>, Status>
     requires text { text.now ≢ [] }
-    ensures gives { GivesOutcome result (folder_of table.now text.now) }
+    ensures gives { GivesOutcome result (folder_of_text table.now text.now) }
     ensures names { IfOk result (λ folder. All HasName folder) }
     ensures cause { StepCausedBy result of_nothing of_nothing }
 {
-    let rows = rows_of(alloc, table, text)?;
+    let rows = rows_of_text(alloc, table, text)?;
     few_cells(alloc, table, rows.as_slice())?;
-    one_partition(table, rows.as_slice())?;
+    lines_partition(table, rows.as_slice())?;
     let Ok(sorted) = sort_rows(alloc, table, rows) else {
         return Err(Status::NoMemory);
     };

@@ -3,7 +3,7 @@
 ghost use Rattle.std.specs.Prelude.{◌≡◌, All};
 ghost use Rattle.mt_defs.specs.Rows.{RowFits};
 ghost use Rattle.mt_meta.specs.PartitionKeys.{ArePartitionKeys};
-ghost use Rattle.mt_writing.specs.Partitions.{other_line, one_partition};
+ghost use Rattle.mt_writing.specs.Partitions.{other_line, lines_partition};
 ghost use Rattle.mt_command.specs.Status.{GivesOutcome};
 ghost use Rattle.mt_command.specs.Steps.{StepCausedBy, of_nothing};
 
@@ -13,10 +13,10 @@ use mt_table::Table;
 use mt_types::Row;
 
 /// Refuses the first line whose partition value isn't line 1's.
-pub(crate) fn one_partition(table: &Table, rows: &[Row]) -> Result<(), Status>
+pub(crate) fn lines_partition(table: &Table, rows: &[Row]) -> Result<(), Status>
     requires key { ArePartitionKeys table.now.columns table.now.partition }
     requires fit { All (RowFits table.now.columns) rows.now }
-    ensures gives { GivesOutcome result (one_partition table.now rows.now) }
+    ensures gives { GivesOutcome result (lines_partition table.now rows.now) }
     ensures cause { StepCausedBy result of_nothing of_nothing }
 {
     let Some(first) = rows.first() else {

@@ -11,7 +11,7 @@ ghost use Rattle.mt_command.specs.Plans.{Meets, CausedBy, world, answer_of};
 ghost use Rattle.mt_command.specs.Steps.{StepCausedBy, Stored, of_shelf, of_source};
 ghost use Rattle.mt_writing.specs.Write.{table_for, folder_for, write_plan};
 
-use crate::folder::folder_of;
+use crate::folder::folder_of_text;
 use crate::input::read_input;
 use mt_command::{Status, finished, free_target, read_table, store_folder};
 use mt_fault::FileBytes;
@@ -58,7 +58,7 @@ fn folder_for<R: Threads + Sync, S: Source, G: Gate + Sync>(
     ensures cause { StepCausedBy result (of_source (S.faults input.old)) (of_source (S.faults input.new)) }
 {
     let text = read_input(alloc, input)?;
-    folder_of(rt, alloc, table, text.as_slice(), workers, gate)
+    folder_of_text(rt, alloc, table, text.as_slice(), workers, gate)
 }
 
 /// The steps of the command, up to the first that ends it.

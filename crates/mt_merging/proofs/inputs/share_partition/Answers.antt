@@ -1,6 +1,6 @@
 use Rattle.mt_build.proofs.SkipLemmas.{partition_keys}
 use Rattle.mt_merging.proofs.RowLemmas.{together_is}
-use Rattle.mt_merging.proofs.inputs.are_together.Goals as goal
+use Rattle.mt_merging.proofs.inputs.share_partition.Goals as goal
 
 pub same_partition-requires-clause-key : goal.same_partition-requires-clause-key
 same_partition-requires-clause-key c = partition_keys c.args.table.now

@@ -3,12 +3,12 @@ use Rattle.mt_build.proofs.SkipLemmas.{partition_keys}
 use Rattle.mt_defs.specs.Rows.{RowFits}
 use Rattle.mt_defs.proofs.Sorted.{IsSorted-sorted_rows, All-sorted_rows, some_sorted_rows}
 use Rattle.mt_defs.proofs.PartitionLemmas.{sorted_one}
-use Rattle.mt_writing.specs.Partitions.{one_partition}
+use Rattle.mt_writing.specs.Partitions.{lines_partition}
 use Rattle.mt_writing.proofs.PartitionLemmas.{have_one}
-use Rattle.mt_writing.proofs.folder.folder_of.Goals as goal
+use Rattle.mt_writing.proofs.folder.folder_of_text.Goals as goal
 
-pub one_partition-requires-clause-key : goal.one_partition-requires-clause-key
-one_partition-requires-clause-key g c = partition_keys c.args.table.now
+pub lines_partition-requires-clause-key : goal.lines_partition-requires-clause-key
+lines_partition-requires-clause-key g c = partition_keys c.args.table.now
 
 pub sorted_folder-requires-clause-some : goal.sorted_folder-requires-clause-some
 sorted_folder-requires-clause-some g c = λ κs outlive. rw (c.as_slice-3.ensures, c.in-Ok.ensures) (some_sorted_rows c.args.table.now.sort c.in_ok-rows.rows c.in_ok-rows.ensures.some)
@@ -23,4 +23,4 @@ sorted_folder-requires-clause-ordered g c = λ κs outlive. rw (c.as_slice-3.ens
 pub sorted_folder-requires-clause-one_partition : goal.sorted_folder-requires-clause-one_partition
 sorted_folder-requires-clause-one_partition g c =
     λ κs outlive. rw (c.as_slice-3.ensures, c.in-Ok.ensures)
-    (sorted_one c.args.table.now c.in_ok-rows.rows (have_one c.args.table.now c.in_ok-rows.rows (ap (one_partition c.args.table.now) (sym c.as_slice-2.ensures) ∙ c.in_ok-one_partition.ensures.gives)))
+    (sorted_one c.args.table.now c.in_ok-rows.rows (have_one c.args.table.now c.in_ok-rows.rows (ap (lines_partition c.args.table.now) (sym c.as_slice-2.ensures) ∙ c.in_ok-lines_partition.ensures.gives)))
