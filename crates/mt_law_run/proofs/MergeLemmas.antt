@@ -72,7 +72,7 @@ joined table read more rows there fit one before e =
       are = record {
         some = All-append Some read (rows ∷ []) before.are.some (All-cons Some rows [] there (All-nil Some));
         fit = All-append Fit read (rows ∷ []) before.are.fit (All-cons Fit rows [] fit (All-nil Fit));
-        inputs_partition =
+        one_partition =
             subst (HaveOnePartition table) (sym (all_rows_push read rows)) (joined_one table read rows before.are.some there before.are.one_partition one first.given);
         few_cells = few.1;
       };
@@ -115,7 +115,7 @@ storable table read is there few = record {
   row_limit = let same = length-sorted_rows table.sort (all_rows read) in let most = is.few in omega (arith, same, most);
   cell_limit = merged_cells table read is.are;
   projection_limit = few;
-  inputs_partition = merged_one table read is.are;
+  one_partition = merged_one table read is.are;
 }
 
 writable : WriterLaws → (table : Table) (read : List (List Row)) → Read table read → read ≢ [] → few_cells table (merged_rows table.sort read) ≡ Ok tt

@@ -88,7 +88,7 @@ storable path part input files folder m bytes = record {
   row_limit = limits.few_rows m.table.columns input m.rows m.rows_are;
   cell_limit = limits.few_cells m.table.columns input m.rows m.rows_are;
   projection_limit = m.few;
-  lines_partition = have_one m.table m.rows m.one;
+  one_partition = have_one m.table m.rows m.one;
 }
 
 -- ---- the law

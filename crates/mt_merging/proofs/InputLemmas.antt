@@ -58,7 +58,7 @@ pub no_inputs : (table : Table) → AreInputs table []
 no_inputs table = record {
   some = All-nil (λ (rows : List Row). rows ≢ []);
   fit = All-nil (λ (rows : List Row). All (RowFits table.columns) rows);
-  inputs_partition = λ a b in_none also. absurd (nowhere a in_none);
+  one_partition = λ a b in_none also. absurd (nowhere a in_none);
   few_cells = omega arith;
 }
   where

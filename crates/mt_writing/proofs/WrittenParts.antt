@@ -107,7 +107,7 @@ writable table text rows files some bytes are =
         few_rows = omega (arith, count, few_rows);
         few_cells = sorted_few;
       };
-      lines_partition = sorted_one table rows (have_one table rows are.one);
+      one_partition = sorted_one table rows (have_one table rows are.one);
       projections = λ k d h. projection_part table (get_or table.projections k d) rows (projections_kept table k d h) fit sorted_fit some_rows few_rows sorted_few (are.few k d h);
     }
 
