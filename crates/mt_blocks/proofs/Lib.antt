@@ -1,0 +1,6 @@
+pub mod StableLemmas
+pub mod SortedLemmas
+pub mod RankLemmas
+pub mod SortLemmas
+pub mod RowLemmas
+pub mod BlockLemmas
