@@ -62,6 +62,7 @@ module _ (columns : List (List Value)) (count : ℕ) (sort : List ℕ) (keys : L
 
   pub ordered : (order : List ℕ) → order ≡ sorted_by (index_cmp keys) (indexes count) → All (λ i. i < count) order
       → All (λ i. i < length (rows_in columns count)) order × (rows_at order (rows_in columns count) ≡ sorted_rows sort (rows_in columns count))
-  ordered order is all =
-      (All-weaker (λ i. i < count) (λ i. i < length (rows_in columns count)) (λ i (p : i < count). (let q : i < length (rows_in columns count) = omega (arith, p, length-rows columns count) in q)) order all,
-      rows_are_at columns count order all ∙ ap (map (row_in columns)) is ∙ rows_sorted columns count sort keys are)
+  ordered order is all = (
+    All-weaker (λ i. i < count) (λ i. i < length (rows_in columns count)) (λ i (p : i < count). (let q : i < length (rows_in columns count) = omega (arith, p, length-rows columns count) in q)) order all,
+    rows_are_at columns count order all ∙ ap (map (row_in columns)) is ∙ rows_sorted columns count sort keys are,
+  )

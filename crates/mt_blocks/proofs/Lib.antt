@@ -4,3 +4,4 @@ pub mod RankLemmas
 pub mod SortLemmas
 pub mod RowLemmas
 pub mod BlockLemmas
+pub mod SeenLemmas

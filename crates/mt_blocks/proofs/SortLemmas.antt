@@ -53,9 +53,9 @@ array_rank column i deep = ap (λ (b : Bool). if b then value_rank (scale_of col
 -- a value of lower rank is below
 column_rise : (column : Columned) (a b : ℕ) → rank_in column a < rank_in column b → value_cmp (get_or column.values a Null) (get_or column.values b Null) ≡ Less
 column_rise column a b h = elim (cases_Bool (column.depth == 0)) [
-    | inl flat ↦ values_rise (scale_of column) (get_or column.values a Null) (get_or column.values b Null) (omega (arith, h, flat_rank column a flat, flat_rank column b flat))
-    | inr deep ↦ absurd (omega (arith, h, array_rank column a deep, array_rank column b deep))
-  ]
+  | inl flat ↦ values_rise (scale_of column) (get_or column.values a Null) (get_or column.values b Null) (omega (arith, h, flat_rank column a flat, flat_rank column b flat))
+  | inr deep ↦ absurd (omega (arith, h, array_rank column a deep, array_rank column b deep))
+]
 
 -- ranks are decided of narrow numbers alone
 decided_narrow : (k : ItemKind) (rank : ℕ) → is_decided (kind_scale k) rank ≡ true → is_narrow_kind k ≡ true
@@ -81,14 +81,14 @@ zero_undecided Texts = refl
 -- values of one decided rank are the same
 column_tie : (column : Columned) (a b : ℕ) → IsRanked column → is_decided (scale_of column) (rank_in column a) ≡ true → rank_in column a ≡ rank_in column b → value_cmp (get_or column.values a Null) (get_or column.values b Null) ≡ Equal
 column_tie column a b known d e = elim (cases_Bool (column.depth == 0)) [
-    | inl flat ↦
-        (let v = get_or column.values a Null in
-        let w = get_or column.values b Null in
-        let decided : is_decided (scale_of column) (value_rank (scale_of column) v) ≡ true = ap (is_decided (scale_of column)) (sym (flat_rank column a flat)) ∙ d in
-        let real = known (eqb-true column.depth 0 flat) (decided_narrow column.kind (value_rank (scale_of column) v) decided) in
-        values_tie (scale_of column) v w (not-true (huge_at (out-Value v)) (real a)) (not-true (huge_at (out-Value w)) (real b)) decided (sym (flat_rank column a flat) ∙ e ∙ flat_rank column b flat))
-    | inr deep ↦ (let bad : false ≡ true = sym (ap (is_decided (scale_of column)) (array_rank column a deep) ∙ zero_undecided (scale_of column)) ∙ d in cc)
-  ]
+  | inl flat ↦
+      (let v = get_or column.values a Null in
+      let w = get_or column.values b Null in
+      let decided : is_decided (scale_of column) (value_rank (scale_of column) v) ≡ true = ap (is_decided (scale_of column)) (sym (flat_rank column a flat)) ∙ d in
+      let real = known (eqb-true column.depth 0 flat) (decided_narrow column.kind (value_rank (scale_of column) v) decided) in
+      values_tie (scale_of column) v w (not-true (huge_at (out-Value v)) (real a)) (not-true (huge_at (out-Value w)) (real b)) decided (sym (flat_rank column a flat) ∙ e ∙ flat_rank column b flat))
+  | inr deep ↦ (let bad : false ≡ true = sym (ap (is_decided (scale_of column)) (array_rank column a deep) ∙ zero_undecided (scale_of column)) ∙ d in cc)
+]
 
 -- ---- rows
 

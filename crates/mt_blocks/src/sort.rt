@@ -28,7 +28,11 @@ pub struct Place {
 
 /// The indexes of so many rows in the order of key columns, rows of equal key in the order that they
 /// had. Columns are compared only where ranks tie. A value that a column lacks counts as NULL.
-pub fn sorted_order(alloc: Global, columns: &[&Column], count: usize) -> Result<Vec<usize>, NoMemory>
+pub fn sorted_order(
+    alloc: Global,
+    columns: &[&Column],
+    count: usize,
+) -> Result<Vec<usize>, NoMemory>
     ensures sorted { IfOk result (λ order. order.items
         ≡ sorted_by (index_cmp columns.now) (indexes count)) }
     ensures within { IfOk result (λ order. All (λ index. index < count) order.items) }
