@@ -1,5 +1,5 @@
 -- What is seen of a value has the value's rank.
-use Rattle.std.proofs.Common.{◌≡◌, refl, ap, sym, ◌∙◌}
+use Rattle.std.proofs.Common.{◌≡◌, ap, sym}
 use Rattle.mt_types.specs.declared.value.Value.TheVariants.{outs-Num, outs-Huge, outs-Text, outs-Null, outs-List, outs-State}
 use Rattle.mt_cells.specs.declared.seen.Seen.{Seen}
 use Rattle.mt_cells.specs.declared.seen.Seen.TheVariants as seen

@@ -10,5 +10,4 @@ mod sort;
 
 pub use block::Block;
 pub use law::gathered_rows_are_sorted;
-pub use rank::Scale;
-pub use sort::{Place, sorted_order};
+pub use sort::sorted_order;

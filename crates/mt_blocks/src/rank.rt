@@ -12,7 +12,7 @@ use mt_types::Width;
 
 /// How the values of a column are ranked, so that few values of the column have one rank.
 #[derive(Clone, Copy)]
-pub enum Scale {
+pub(crate) enum Scale {
     /// Numbers of at most 64 bits; here is the rank of 0.
     Numbers(u64),
     /// Numbers of 128 bits; here is the rank of 0.
@@ -22,7 +22,7 @@ pub enum Scale {
 }
 
 /// The scale of a column's values.
-pub fn scale_of(column: &Column) -> Scale
+pub(crate) fn scale_of(column: &Column) -> Scale
     ensures { result ≡ scale_of column.now }
 {
     let (_, leaf) = column.parts();
@@ -52,7 +52,7 @@ fn scale_of_width(width: Width, zero: u64) -> Scale
 }
 
 /// The rank of a column's value at an index. A value that the column lacks counts as NULL.
-pub fn rank_at(column: &Column, index: usize) -> u64
+pub(crate) fn rank_at(column: &Column, index: usize) -> u64
     ensures { result ≡ rank_in column.now index }
 {
     if column.is_flat() {
@@ -125,7 +125,7 @@ fn byte_at(bytes: &[u8], place: usize) -> u8
 }
 
 /// Whether only one value that is no Huge has this rank: a number that neither end has cut off.
-pub fn is_decided(scale: Scale, rank: u64) -> bool
+pub(crate) fn is_decided(scale: Scale, rank: u64) -> bool
     ensures { result ≡ is_decided scale rank }
 {
     match scale {

@@ -17,7 +17,7 @@ use std::cmp::Ordering;
 
 /// A row's index, beside the ranks of its values in the first two key columns.
 #[derive(Clone, Copy)]
-pub struct Place {
+pub(crate) struct Place {
     /// The rank in the first column.
     pub rank: u64,
     /// The rank in the second, or 0 where the first rank is not decided.
@@ -53,7 +53,7 @@ fn know_ranked(columns: &[&Column])
 }
 
 /// Whether no row is above the next.
-pub fn never_falls(columns: &[&Column], count: usize) -> bool
+pub(crate) fn never_falls(columns: &[&Column], count: usize) -> bool
     ensures { IsTrue result → NeverFalls (index_cmp columns.now) count }
 {
     for index in 1..count {

@@ -1,4 +1,4 @@
-use Rattle.std.proofs.Common.{◌≡◌, ◌∙◌}
+use Rattle.std.proofs.Common.{◌∙◌}
 use Rattle.mt_blocks.proofs.SeenLemmas.{seen_ranked}
 use Rattle.mt_blocks.proofs.rank.rank_of_seen.Goals as goal
 
