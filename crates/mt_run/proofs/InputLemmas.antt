@@ -1,6 +1,6 @@
 -- The words of inputs are tried one after another.
-use Rattle.std.proofs.Common.{◌≡◌, ℕ, List, [], ◌∷◌, map, length, ◌≤◌, Bool, true, false, IsTrue, All, refl, sym, ap, ◌∙◌, string_bytes, Global, String}
-use Rattle.std.specs.Prelude.{◌&&◌, nat_le}
+use Rattle.std.proofs.Common.{◌≡◌, List, [], ◌∷◌, map, true, false, IsTrue, All, sym, ap, ◌∙◌, string_bytes, Global, String}
+use Rattle.std.specs.Prelude.{◌&&◌}
 use Rattle.std.specs.List.{list_all}
 use Rattle.std.proofs.lemmas.List.Elements.{All-nil, All-cons}
 use Rattle.mt_types.proofs.StepLemmas.{both_true}
