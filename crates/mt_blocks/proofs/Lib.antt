@@ -1,4 +1,3 @@
-pub mod StableLemmas
 pub mod SortedLemmas
 pub mod RankLemmas
 pub mod SortLemmas

@@ -17,7 +17,8 @@ use Rattle.mt_types.specs.Fits.{Level}
 use Rattle.mt_types.specs.Order.{value_cmp, cmp_step, rank, same_kind_cmp}
 use Rattle.mt_blocks.specs.declared.rank.Scale.{Scale}
 use Rattle.mt_blocks.specs.declared.rank.Scale.TheVariants.{Numbers, Wide, Texts}
-use Rattle.mt_blocks.specs.Ranks.{top_rank, number_rank, prefix_rank, level_rank, value_rank, is_decided}
+use Rattle.mt_sort.specs.Ranks.{top_rank, number_rank, prefix_rank}
+use Rattle.mt_blocks.specs.Ranks.{level_rank, value_rank, is_decided}
 use Rattle.mt_cells.specs.Items.{huge_at}
 
 -- ---- numbers

@@ -15,7 +15,8 @@ use Rattle.mt_defs.specs.Sorting.{placed_by, sorted_by, sorted_rows}
 use Rattle.mt_columns.specs.Nesting.{Columned}
 use Rattle.mt_blocks.specs.Rows.{indexes, picked, row_in, rows_at, rows_in}
 use Rattle.mt_blocks.specs.Sorting.{NeverFalls, index_cmp, key_at}
-use Rattle.mt_blocks.proofs.SortedLemmas.{map-sorted_by, sorted_same}
+use Rattle.mt_sort.proofs.SortedLemmas.{map-sorted_by}
+use Rattle.mt_blocks.proofs.SortedLemmas.{sorted_same}
 
 -- ---- rows, one by one
 

@@ -29,8 +29,9 @@ use Rattle.mt_blocks.specs.Ranks.{IsRanked, is_decided, kind_scale, rank_in, sca
 use Rattle.mt_blocks.specs.Rows.{indexes}
 use Rattle.mt_blocks.specs.Sorting.{key_at, index_cmp, first_rank, second_rank, place_at, place_cmp, tied_cmp}
 use Rattle.mt_blocks.proofs.RankLemmas.{values_rise, values_tie}
-use Rattle.mt_blocks.proofs.SortedLemmas.{map-sorted_by, sorted_same}
-use Rattle.mt_blocks.proofs.StableLemmas.{the_one}
+use Rattle.mt_sort.proofs.SortedLemmas.{map-sorted_by}
+use Rattle.mt_blocks.proofs.SortedLemmas.{sorted_same}
+use Rattle.mt_sort.proofs.StableLemmas.{the_one}
 
 -- a comparison that the whole agrees with, where it does not tie, goes before the whole
 then_whole : (r whole : Ordering) → (r ≡ Less → whole ≡ Less) → (r ≡ Greater → whole ≡ Greater) → ordering_then r whole ≡ whole

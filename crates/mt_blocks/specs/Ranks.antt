@@ -1,5 +1,5 @@
 -- The rank of a value: a number that never falls along the order on values.
-use Rattle.std.specs.Prelude.{◌≡◌, ℕ, zero, suc, ◌+◌, ◌-◌, ◌*◌, ◌^◌, ◌==◌, min, nat_lt, Bool, true, false, ◌&&◌, ℤ, pos, negsuc, List, [], ◌∷◌, if◌then◌else◌, slice_index_or}
+use Rattle.std.specs.Prelude.{◌≡◌, ℕ, ◌^◌, ◌==◌, nat_lt, Bool, true, false, ◌&&◌, pos, if◌then◌else◌, slice_index_or}
 use Rattle.mt_types.specs.declared.ty.Width.{Width}
 use Rattle.mt_types.specs.declared.value.Value.{Value, out-Value}
 use Rattle.mt_types.specs.declared.value.Value.TheOpen.{Value-F}
@@ -12,27 +12,9 @@ use Rattle.mt_cells.specs.declared.seen.Seen.TheVariants as seen
 use Rattle.mt_cells.specs.Items.{ItemKind, OfCells, is_narrow_kind}
 use Rattle.mt_columns.specs.Leaves.{AreNotHuge}
 use Rattle.mt_columns.specs.Nesting.{Columned}
+use Rattle.mt_sort.specs.Ranks.{number_rank, text_rank, top_rank}
 use Rattle.mt_blocks.specs.declared.rank.Scale.{Scale}
 use Rattle.mt_blocks.specs.declared.rank.Scale.TheVariants.{Numbers, Wide, Texts}
-
--- the greatest rank
-abbrev pub top_rank : ℕ
-top_rank = 2 ^ 64 - 1
-
--- the rank of a number where that of 0 is given: its distance from the number of rank 0
-abbrev pub number_rank : ℕ → ℤ → ℕ
-number_rank origin (pos n) = min (origin + n) top_rank
-number_rank origin (negsuc n) = min (origin - suc n) top_rank
-
--- the number that the first so many bytes spell, zeros after the last; what is no byte comes after all of them
-abbrev pub prefix_rank : ℕ → List ℕ → ℕ
-prefix_rank zero bytes = 0
-prefix_rank (suc n) [] = 0
-prefix_rank (suc n) (byte ∷ bytes) = if nat_lt byte 256 then byte * 256 ^ n + prefix_rank n bytes else 256 ^ suc n - 1
-
--- the rank of a text
-abbrev pub text_rank : List ℕ → ℕ
-text_rank bytes = prefix_rank 8 bytes
 
 -- the rank of one level of a value
 abbrev pub level_rank : Scale → Level → ℕ

@@ -3,8 +3,9 @@
 ghost use Rattle.std.specs.Prelude.{◌≡◌, pos, slice_index_or};
 ghost use Rattle.mt_cells.specs.Items.{OfCells};
 ghost use Rattle.mt_cells.specs.Seen.{value_seen};
-ghost use Rattle.mt_blocks.specs.Ranks.{is_decided, kind_scale, number_rank, rank_in, scale_of, seen_rank};
-ghost use Rattle.mt_blocks.specs.Ranks.{text_rank, value_rank, width_scale};
+ghost use Rattle.mt_sort.specs.Ranks.{number_rank, text_rank};
+ghost use Rattle.mt_blocks.specs.Ranks.{is_decided, kind_scale, rank_in, scale_of, seen_rank};
+ghost use Rattle.mt_blocks.specs.Ranks.{value_rank, width_scale};
 
 use mt_cells::{Items, Kind, Seen};
 use mt_columns::Column;
