@@ -15,7 +15,7 @@ use Rattle.mt_stream.specs.declared.error.StreamError.{StreamError}
 use Rattle.mt_stream.specs.declared.error.StreamError.TheVariants as error
 use Rattle.mt_stream.specs.Touched.{MarksBlocks, IsFrameStart, AreInOrder}
 use Rattle.mt_stream.specs.Held.{HoldsItsFrame, HoldsOneOf, IsBehind, HoldFails, AppendFails, IsOutside}
-use Rattle.mt_stream.proofs.MarkLemmas.{first_len, mark_split}
+use Rattle.mt_stream.proofs.MarkLemmas.{first_len, mark_split, split_on}
 use Rattle.mt_stream.proofs.WalkLemmas.{Walk, Front, found, front_there, rest_bytes, next_seam, same_front}
 
 -- some frame is left
@@ -23,10 +23,6 @@ pub record Starts (rest : List Block) : Type 0 where
   pub block : Block
   pub after : List Block
   pub is : rest ≡ block ∷ after
-
--- the frames from a start on, taken for what they are
-split_on : {blocks before rest after : List Block} → blocks ≡ before ++ rest → rest ≡ after → blocks ≡ before ++ after
-split_on {before = before} split is = split ∙ ap (λ (cs : List Block). before ++ cs) is
 
 -- before a later seam some frame is left
 some_left : (a r b s : List Block) → a ++ r ≡ b ++ s → length (file_of a) < length (file_of b) → Starts r
@@ -49,7 +45,7 @@ pub ahead : (bytes : List ℕ) (blocks : List Block) (at skip p end q : ℕ) (m 
 ahead bytes blocks at skip p end q m old new held is w f marks less =
     let k = mark_split blocks m q marks in
     let g = found bytes blocks w.before w.rest at end held is w.split w.here f in
-    let split : w.before ++ g.block ∷ g.after ≡ k.before ++ k.rest = sym (split_on w.split g.rest_is) ∙ k.split in
+    let split : w.before ++ g.block ∷ g.after ≡ k.before ++ k.rest = sym (split_on w.before (g.block ∷ g.after) w.split g.rest_is) ∙ k.split in
     let next = next_seam k.before w.before k.rest g.after g.block split (omega (arith, less, w.here, k.offset)) in
     omega (arith, next, g.ends, w.here, k.offset)
 
@@ -72,7 +68,7 @@ not_under bytes blocks before' c after at s is split here holds seam' behind und
     elim (cases_lt s.start at) [
       | inl less ↦
           let g = found bytes blocks seam.before seam.rest s.start s.end s.held is seam.split seam.at_offset (holds some) in
-          let both : seam.before ++ g.block ∷ g.after ≡ before' ++ c ∷ after = sym (split_on seam.split g.rest_is) ∙ split in
+          let both : seam.before ++ g.block ∷ g.after ≡ before' ++ c ∷ after = sym (split_on seam.before (g.block ∷ g.after) seam.split g.rest_is) ∙ split in
           let next = next_seam before' seam.before (c ∷ after) g.after g.block both (omega (arith, less, seam.at_offset, here)) in
           absurd (omega (arith, next, g.ends, seam.at_offset, here, under))
       | inr over ↦ absurd (differs (omega (arith, over, low)))
@@ -111,7 +107,7 @@ pub hold_inside : (bytes : List ℕ) (blocks : List Block) (at skip p q : ℕ) (
 hold_inside bytes blocks at skip p q m old new s result is w marks less size holds seam behind fails =
     let k = mark_split blocks m q marks in
     let left = some_left w.before w.rest k.before k.rest (sym w.split ∙ k.split) (omega (arith, less, w.here, k.offset)) in
-    hold_good bytes blocks w.before left.block left.after at s result is (split_on w.split left.is) w.here size holds seam behind fails
+    hold_good bytes blocks w.before left.block left.after at s result is (split_on w.before (left.block ∷ left.after) w.split left.is) w.here size holds seam behind fails
 
 pub append_inside : (bytes : List ℕ) (blocks : List Block) (at skip p end : ℕ) (old new held : List ℕ) (result : Result (Unit {0}) StreamError) → IsFileOf blocks bytes → Walk blocks at skip p old new
     → IsFrameAt at end held (frame_reading (drop at bytes)) → AppendFails skip (length held) (length held) result → IsOutside result
@@ -126,7 +122,7 @@ pub hold_last : (bytes : List ℕ) (blocks : List Block) (at q : ℕ) (m : Mark)
 hold_last bytes blocks at q m s result is marks there some size holds seam behind fails =
     let k = mark_split blocks m q marks in
     let left = some_here k.rest m.inner k.within some in
-    hold_good bytes blocks k.before left.block left.after at s result is (split_on k.split left.is) (there ∙ k.offset) size holds seam behind fails
+    hold_good bytes blocks k.before left.block left.after at s result is (split_on k.before (left.block ∷ left.after) k.split left.is) (there ∙ k.offset) size holds seam behind fails
 
 pub append_last : (bytes : List ℕ) (blocks : List Block) (at skip p end q : ℕ) (m : Mark) (old new held : List ℕ) (result : Result (Unit {0}) StreamError) → IsFileOf blocks bytes → Walk blocks at skip p old new
     → MarksBlocks blocks m q → at ≡ m.offset → p ≤ q → IsFrameAt at end held (frame_reading (drop at bytes)) → AppendFails skip m.inner (length held) result → IsOutside result

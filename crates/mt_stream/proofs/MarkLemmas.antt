@@ -1,5 +1,5 @@
 -- A mark denotes a position exactly where it stands between two frames of the file.
-use Rattle.std.proofs.Common.{inl, inr, ◌≡◌, ◌⊎◌, ℕ, ◌+◌, ◌≤◌, List, [], ◌∷◌, ◌++◌, length, refl, sym, arith, subst, append-nil}
+use Rattle.std.proofs.Common.{inl, inr, ◌≡◌, ℕ, ◌+◌, ◌≤◌, List, [], ◌∷◌, ◌++◌, length, ap, sym, ◌∙◌, arith, subst, append-nil}
 use Rattle.mt_defs.specs.declared.mark.Mark.{Mark}
 use Rattle.mt_defs.specs.Frames.{Block, IsFileOf, file_of, payload_of}
 use Rattle.mt_defs.specs.Marks.{MarksPosition}
@@ -25,6 +25,10 @@ pub record MarkSplit (blocks : List Block) (m : Mark) (n : ℕ) : Type 0 where
 pub mark_split : (blocks : List Block) (m : Mark) (n : ℕ) → MarksBlocks blocks m n → MarkSplit blocks m n
 mark_split blocks m n (inl at) = record { before = at.before; rest = at.here ∷ at.after; split = at.split; offset = at.at_offset; within = at.within; position = at.at_position }
 mark_split blocks m n (inr at) = record { before = blocks; rest = []; split = sym (append-nil blocks); offset = at.at_offset; within = omega (arith, at.at_start); position = omega (arith, at.at_position, at.at_start) }
+
+-- the same split, by what its rest is
+pub split_on : (before after : List Block) {blocks rest : List Block} → blocks ≡ before ++ rest → rest ≡ after → blocks ≡ before ++ after
+split_on before after split is = split ∙ ap (λ (cs : List Block). before ++ cs) is
 
 -- a file has one list of frames
 pub marks_blocks : (file : List ℕ) (blocks : List Block) (m : Mark) (n : ℕ) → IsFileOf blocks file → MarksPosition file m n → MarksBlocks blocks m n

@@ -14,7 +14,7 @@ use Rattle.mt_defs.specs.declared.mark.Mark.{Mark}
 use Rattle.mt_defs.specs.Frames.{Block, IsBlock, IsFileOf, block_bytes, file_of, payload_of}
 use Rattle.mt_frame.specs.FrameReading.{frame_reading}
 use Rattle.mt_stream.specs.Touched.{MarkRange, touches, touched_bytes, MarksBlocks}
-use Rattle.mt_stream.proofs.MarkLemmas.{first_len, mark_split}
+use Rattle.mt_stream.proofs.MarkLemmas.{first_len, mark_split, split_on}
 use Rattle.mt_types.proofs.StepLemmas.{ok_pair}
 use Rattle.mt_frame.proofs.BlockLemmas.{frame_complete, frame_len as block_len}
 use Rattle.mt_stream.proofs.TouchedLemmas.{touched_step}
@@ -110,7 +110,7 @@ walk_step bytes blocks at skip p end old new held is w f within =
     record {
       before = w.before ++ g.block ∷ [];
       rest = g.after;
-      split = w.split ∙ ap (λ (cs : List Block). w.before ++ cs) g.rest_is ∙ sym (append_assoc w.before (g.block ∷ []) g.after);
+      split = split_on w.before (g.block ∷ g.after) w.split g.rest_is ∙ sym (append_assoc w.before (g.block ∷ []) g.after);
       here = omega (arith, g.ends, w.here, file_more w.before g.block);
       skip_is = omega (arith, w.skip_is, long);
       within = omega arith;
@@ -180,7 +180,7 @@ pub paid_step : (bytes : List ℕ) (blocks : List Block) (at skip p end from : �
     → now.taken + touched_bytes end 0 blocks ranges ≤ before.taken + touched_bytes from 0 blocks ranges
 paid_step bytes blocks at skip p end from shown new held before now ranges is w under f took touched =
     let g = found bytes blocks w.before w.rest at end held is w.split w.here f in
-    let split : blocks ≡ w.before ++ g.block ∷ g.after = w.split ∙ ap (λ (cs : List Block). w.before ++ cs) g.rest_is in
+    let split : blocks ≡ w.before ++ g.block ∷ g.after = split_on w.before (g.block ∷ g.after) w.split g.rest_is in
     let step = touched_step w.before g.block g.after from 0 at ranges (omega (arith, w.here)) under g.some touched in
     let step' : length (block_bytes g.block) + touched_bytes (at + length (block_bytes g.block)) 0 blocks ranges ≤ touched_bytes from 0 blocks ranges =
     subst (λ (cs : List Block). length (block_bytes g.block) + touched_bytes (at + length (block_bytes g.block)) 0 cs ranges ≤ touched_bytes from 0 cs ranges) (sym split) step in
