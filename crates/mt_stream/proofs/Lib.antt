@@ -1,0 +1,5 @@
+pub mod TouchedLemmas
+pub mod MarkLemmas
+pub mod WalkLemmas
+pub mod HoldLemmas
+pub mod GoodLemmas

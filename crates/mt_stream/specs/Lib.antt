@@ -1,0 +1,4 @@
+pub mod FrameErrors
+pub mod Touched
+pub mod Held
+pub mod Reading
