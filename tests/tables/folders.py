@@ -728,6 +728,7 @@ ACCEPTED = [
 ]
 
 CHECK = ["check", "t.sql", "p", "1"]
+OTHERS = [["rows", "t.sql", "p"], ["show", "t.sql", "p"], ["select", "t.sql", "p", "SELECT count() FROM t ORDER BY ALL"]]
 
 
 def files_of(part, changed, inside=(), more=()):
@@ -739,8 +740,9 @@ def files_of(part, changed, inside=(), more=()):
 
 
 def faulty(part, changed, text, inside=(), more=()):
-    """A part of which a check names this fault first."""
-    return Story(text, files_of(part, changed, inside, more), [Step(CHECK, status=1, note=f"p: {text}")])
+    """A part of which a check names this fault first, and so does each command that checks it."""
+    steps = [Step(words, status=1, note=f"p: {text}") for words in [CHECK, *OTHERS]]
+    return Story(text, files_of(part, changed, inside, more), steps)
 
 
 def stories():

@@ -1,6 +1,7 @@
 //! The n-th call of one object fails, for n from 1 until a run in which none fails.
 
 use crate::objects::{files_of, words_of};
+use mt_fault::FileBytes;
 use mt_run::run;
 use mt_shelf::{MemShelf, MemSink, MemSource, NoGate};
 use mt_types::List;
@@ -44,22 +45,50 @@ enum Object {
     Shelf,
 }
 
-/// The words of a call, the object that fails, and how many calls of it there are.
+/// The words of a call, the object that fails, and how many calls of it there are; and what comes where none fails.
 struct Case {
     words: &'static [&'static str],
     object: Object,
     calls: u64,
-    /// The status and the note where a call fails.
-    code: u8,
-    note: &'static str,
-    /// The status and what is printed where none does.
+    /// The status, and what is printed.
     done: u8,
     printed: &'static str,
+    /// How many files are gained, and how many bytes of the shelf's are read.
+    gained: usize,
+    taken: u64,
 }
 
 const WRITE: &[&str] = &["write", "t.sql", "p", "1"];
 
+const CHECK: &[&str] = &["check", "u.sql", "q", "1"];
+
 const ROWS: &[&str] = &["rows", "u.sql", "q"];
+
+const SHOW: &[&str] = &["show", "u.sql", "q"];
+
+const SELECT: &[&str] = &[
+    "select",
+    "u.sql",
+    "q",
+    "SELECT k, count() FROM q GROUP BY k ORDER BY ALL",
+];
+
+const MERGE: &[&str] = &["merge", "u.sql", "1", "m", "q", "q"];
+
+const ACCEPTED: &str = "accepted 1 rows in 1 granules\n";
+
+const SHAPE: &str = "kind Wide\nrows 1\ngranules 1\ncolumn k UInt8\ngranule 0 1\t7\nlast\t7\n";
+
+const TRIED: &str = "rows 4\n4\t798\t0\t399\n0\t1\t0\n26\t1\t42\n";
+
+/// The bytes of the part's files together.
+const PART: u64 = 47 + 1 + 26 + 48 + 2;
+
+/// The bytes of the part and of its table: each file is read once.
+const TAKEN: u64 = 91 + PART;
+
+/// The bytes of the table of the rows that are written.
+const TABLE: u64 = 125;
 
 const CASES: &[Case] = &[
     // Four bytes a call, and a call at the end.
@@ -67,52 +96,142 @@ const CASES: &[Case] = &[
         words: WRITE,
         object: Object::Input,
         calls: 5,
-        code: 3,
-        note: "mtpart: input failed\n",
         done: 0,
         printed: "",
+        gained: 7,
+        taken: TABLE,
     },
     // The table's size and text, the target, the draft, seven files, and its end.
     Case {
         words: WRITE,
         object: Object::Shelf,
         calls: 12,
-        code: 3,
-        note: "mtpart: shelf failed\n",
         done: 0,
         printed: "",
+        gained: 7,
+        taken: TABLE,
     },
     // The table's size and text, the listing, and the five files.
+    Case {
+        words: CHECK,
+        object: Object::Shelf,
+        calls: 8,
+        done: 0,
+        printed: ACCEPTED,
+        gained: 0,
+        taken: TAKEN,
+    },
+    // The same.
     Case {
         words: ROWS,
         object: Object::Shelf,
         calls: 8,
-        code: 3,
-        note: "mtpart: shelf failed\n",
         done: 0,
         printed: "7\n",
+        gained: 0,
+        taken: TAKEN,
     },
-    // Two bytes, a byte a call.
+    // The same.
+    Case {
+        words: SHOW,
+        object: Object::Shelf,
+        calls: 8,
+        done: 0,
+        printed: SHAPE,
+        gained: 0,
+        taken: TAKEN,
+    },
+    // The same.
+    Case {
+        words: SELECT,
+        object: Object::Shelf,
+        calls: 8,
+        done: 0,
+        printed: "7\t1\n",
+        gained: 0,
+        taken: TAKEN,
+    },
+    // The table's size and text, two listings, the target, twice five files, the draft, five files, and its end.
+    Case {
+        words: MERGE,
+        object: Object::Shelf,
+        calls: 22,
+        done: 0,
+        printed: "",
+        gained: 5,
+        taken: TAKEN + PART,
+    },
+    // A byte a call, as in the cases below.
+    Case {
+        words: CHECK,
+        object: Object::Output,
+        calls: 30,
+        done: 0,
+        printed: ACCEPTED,
+        gained: 0,
+        taken: TAKEN,
+    },
+    // Two bytes.
     Case {
         words: ROWS,
         object: Object::Output,
         calls: 2,
-        code: 3,
-        note: "mtpart: output failed\n",
         done: 0,
         printed: "7\n",
+        gained: 0,
+        taken: TAKEN,
     },
-    // Seventeen bytes, a byte a call: notes that fail change no status.
+    // Six lines.
+    Case {
+        words: SHOW,
+        object: Object::Output,
+        calls: 64,
+        done: 0,
+        printed: SHAPE,
+        gained: 0,
+        taken: TAKEN,
+    },
+    // Four bytes.
+    Case {
+        words: SELECT,
+        object: Object::Output,
+        calls: 4,
+        done: 0,
+        printed: "7\t1\n",
+        gained: 0,
+        taken: TAKEN,
+    },
+    // Four lines.
+    Case {
+        words: &["trial", "0", "4", "1"],
+        object: Object::Output,
+        calls: 33,
+        done: 0,
+        printed: TRIED,
+        gained: 0,
+        taken: 0,
+    },
+    // Seventeen bytes: notes that fail change no status.
     Case {
         words: &["rows", "none.sql", "q"],
         object: Object::Notes,
         calls: 17,
-        code: 2,
-        note: "mtpart: no table\n",
         done: 2,
         printed: "",
+        gained: 0,
+        taken: 0,
     },
 ];
+
+/// The status and the note of a run in which a call of the object fails; notes that fail are a part of those of the run.
+fn failure_of(object: Object) -> (u8, &'static str) {
+    match object {
+        Object::Input => (3, "mtpart: input failed\n"),
+        Object::Output => (3, "mtpart: output failed\n"),
+        Object::Shelf => (3, "mtpart: shelf failed\n"),
+        Object::Notes => (2, "mtpart: no table\n"),
+    }
+}
 
 /// What a run leaves.
 #[derive(Drop)]
@@ -120,10 +239,19 @@ struct Left {
     code: u8,
     printed: List<u8>,
     noted: List<u8>,
-    /// How many files lie on the shelf.
-    files: usize,
-    /// How many bytes were read of it.
+    /// Whether the files that lay there beforehand do so as they were, and how many others do.
+    kept: bool,
+    gained: usize,
+    /// How many bytes were read of the shelf.
     taken: u64,
+}
+
+/// Whether files that lay there beforehand do so as they were, at the front of those that are held.
+fn are_kept(held: &[FileBytes]) -> bool {
+    held.len() >= FILES.len()
+        && held.iter().zip(FILES).all(|(file, (path, text))| {
+            file.name.as_slice() == path.as_bytes() && file.bytes.as_slice() == text.as_bytes()
+        })
 }
 
 /// The number of a call that fails, if it is one of this object.
@@ -159,23 +287,31 @@ fn outcome<R: Threads + Sync>(rt: &R, alloc: Global, case: &Case, call: u64) -> 
         code: status.code(),
         printed: List::of_bytes(alloc, output.shown())?,
         noted: List::of_bytes(alloc, notes.shown())?,
-        files: shelf.held().len(),
+        kept: are_kept(shelf.held()),
+        gained: shelf.held().len().saturating_sub(FILES.len()),
         taken: shelf.bytes_taken(),
     })
 }
 
-/// Whether a run was cut off by a failed call: what is printed and noted is a part of the whole, and the part that
-/// `write` makes is there as a whole or not at all.
+/// Whether a run was cut off by a failed call: what is printed and noted is a part of the whole, and the files are as before.
 fn is_cut(case: &Case, left: &Left, call: u64) -> bool {
-    let (short, note) = match case.object {
-        Object::Output => (left.printed.len() as u64 == call.saturating_sub(1), true),
-        Object::Notes => (left.noted.len() as u64 == call.saturating_sub(1), false),
-        _ => (left.printed.is_empty(), true),
+    let (code, note) = failure_of(case.object);
+    let before = call.saturating_sub(1) as usize;
+    let (printed, noted) = match case.object {
+        Object::Output => (before, note.len()),
+        Object::Notes => (0, before),
+        _ => (0, note.len()),
     };
-    let noted = !note || left.noted.as_slice() == case.note.as_bytes();
-    let files = left.files == FILES.len()
-        || (call == case.calls && left.files == FILES.len().saturating_add(7));
-    left.code == case.code && short && noted && files
+    left.code == code
+        && is_front(left.printed.as_slice(), case.printed, printed)
+        && is_front(left.noted.as_slice(), note, noted)
+        && left.kept
+        && left.gained == 0
+}
+
+/// Whether the bytes are so many of a text, from its front.
+fn is_front(bytes: &[u8], text: &str, count: usize) -> bool {
+    bytes.len() == count && text.as_bytes().starts_with(bytes)
 }
 
 #[test]
@@ -183,25 +319,14 @@ fn each_call_fails_in_turn(rt: HostRuntime) -> Result<(), Fail> {
     for case in CASES {
         for call in 1..=case.calls {
             let left = outcome(&rt, rt.alloc(), case, call)?;
-            assert!(rt; is_cut(case, &left, call), "{}, call {call}", case.note);
+            assert!(rt; is_cut(case, &left, call), "{}, call {call}", case.printed);
         }
         let left = outcome(&rt, rt.alloc(), case, case.calls.saturating_add(1))?;
         assert_eq!(rt; left.code, case.done);
         assert_eq!(rt; left.printed.as_slice(), case.printed.as_bytes());
-    }
-    Ok(())
-}
-
-/// The bytes of the table of the part and of its files together.
-const TAKEN: u64 = 91 + 47 + 1 + 26 + 48 + 2;
-
-#[test]
-fn each_file_is_read_once(rt: HostRuntime) -> Result<(), Fail> {
-    for case in CASES {
-        if case.object == Object::Output {
-            let left = outcome(&rt, rt.alloc(), case, case.calls.saturating_add(1))?;
-            assert_eq!(rt; left.taken, TAKEN);
-        }
+        assert!(rt; left.kept);
+        assert_eq!(rt; left.gained, case.gained);
+        assert_eq!(rt; left.taken, case.taken);
     }
     Ok(())
 }

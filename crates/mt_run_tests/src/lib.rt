@@ -9,3 +9,5 @@ mod commands;
 mod failures;
 #[cfg(test)]
 mod objects;
+#[cfg(test)]
+mod swaps;
