@@ -151,11 +151,11 @@ const CASES: &[Case] = &[
         gained: 0,
         taken: TAKEN,
     },
-    // The table's size and text, two listings, the target, twice five files, the draft, five files, and its end.
+    // The table's size and text, two listings, the target, twice a listing and five files, the draft, five files, and its end.
     Case {
         words: MERGE,
         object: Object::Shelf,
-        calls: 22,
+        calls: 24,
         done: 0,
         printed: "",
         gained: 5,

@@ -2,6 +2,7 @@
 #![tactic(auto)]
 
 use mt_host::{DirShelf, StdSink, StdSource};
+use mt_note::report;
 use mt_run::{Status, run};
 use mt_shelf::NoGate;
 use std::env;
@@ -25,18 +26,19 @@ fn words_of(rt: &HostRuntime) -> Option<Vec<String>> {
 }
 
 fn main(rt: HostRuntime) -> ExitCode {
-    let Some(words) = words_of(&rt) else {
-        return ExitCode::from(Status::NoMemory.code());
+    let mut notes = StdSink::new(rt.stderr());
+    let status = match words_of(&rt) {
+        Some(words) => run(
+            &rt,
+            rt.alloc(),
+            words.as_slice(),
+            &mut StdSource::new(rt.reader()),
+            &mut StdSink::new(rt.stdout()),
+            &mut notes,
+            &mut DirShelf::new(&rt),
+            &NoGate,
+        ),
+        None => report(rt.alloc(), &mut notes, Status::NoMemory),
     };
-    let status = run(
-        &rt,
-        rt.alloc(),
-        words.as_slice(),
-        &mut StdSource::new(rt.reader()),
-        &mut StdSink::new(rt.stdout()),
-        &mut StdSink::new(rt.stderr()),
-        &mut DirShelf::new(&rt),
-        &NoGate,
-    );
     ExitCode::from(status.code())
 }
