@@ -19,7 +19,12 @@ pub struct MarkedFile {
 
 /// The payload in frames of these sizes. Where one frame ends and the next begins, the mark is in the first
 /// of them or in the second.
-pub fn framed(alloc: Global, payload: &[u8], sizes: &[u64], at_ends: bool) -> Result<MarkedFile, Fail> {
+pub fn framed(
+    alloc: Global,
+    payload: &[u8],
+    sizes: &[u64],
+    at_ends: bool,
+) -> Result<MarkedFile, Fail> {
     let mut file = List::new(alloc);
     let mut marks = List::new(alloc);
     if at_ends {
