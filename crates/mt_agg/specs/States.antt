@@ -1,11 +1,9 @@
--- What states are worth and how they are stored: docs/FORMAT.md, "States"
+-- What states gather and what they are worth: docs/FORMAT.md, "States"
 -- (ClickHouse: IAggregateFunction).
 use Rattle.std.specs.Prelude.{ℕ, ◌+◌, ◌%◌, ◌^◌, ℤ, pos, Bool, true, false, if◌then◌else◌, Option, Some, None, unwrap_or}
 use Rattle.std.specs.Int.{w64, w128, cast_signed, cast_unsigned}
-use Rattle.mt_types.specs.declared.ty.Agg.TheVariants.{Sum, Min, Max}
 use Rattle.mt_types.specs.declared.ty.Ty.{Ty, out-Ty}
 use Rattle.mt_types.specs.declared.ty.Ty.TheOpen.{Ty-F}
-use Rattle.mt_types.specs.declared.ty.Ty.TheVariants.{State, CountState}
 use Rattle.mt_types.specs.declared.value.AggState.{AggState}
 use Rattle.mt_types.specs.declared.value.AggState.TheVariants as state
 use Rattle.mt_defs.specs.Folds.{lesser, greater}
@@ -16,14 +14,6 @@ state_with (state.Count rows) n = state.Count ((rows + 1) % 2 ^ 64)
 state_with (state.Sum sum) n = state.Sum ((sum + cast_unsigned w128 n % 2 ^ 64) % 2 ^ 64)
 state_with (state.Least least) n = state.Least (lesser least (Some n))
 state_with (state.Greatest greatest) n = state.Greatest (greater greatest (Some n))
-
--- the type of a state over an argument of a type; a count takes any argument and needs none, and
--- without an argument no other state has a type, so that it does not fit the one given here
-abbrev pub state_type : AggState → Option Ty → Ty
-state_type (state.Sum sum) (Some argument) = State Sum argument
-state_type (state.Least least) (Some argument) = State Min argument
-state_type (state.Greatest greatest) (Some argument) = State Max argument
-state_type _ _ = CountState
 
 -- ---- the number that is printed
 

@@ -1,18 +1,14 @@
-//! What a state does: gathers numbers, merges with others, is printed and stored.
+//! What a state does: gathers numbers, merges with others, is printed.
 
-ghost use Rattle.std.specs.Prelude.{◌≡◌, ◌++◌, ◌∷◌, [], ℤ, List, IsTrue, OnOk, OnErr, is_some, unwrap_or};
+ghost use Rattle.std.specs.Prelude.{◌≡◌, ◌++◌, ◌∷◌, [], ℤ, List, is_some, unwrap_or};
 ghost use Rattle.std.specs.Option.{option_copied};
 ghost use Rattle.mt_types.specs.declared.value.AggState.{AggState};
-ghost use Rattle.mt_types.specs.declared.value.Value.TheVariants.{State};
-ghost use Rattle.mt_types.specs.Fits.{fits_of};
-ghost use Rattle.mt_types.specs.Items.{item_bytes};
-ghost use Rattle.mt_types.specs.Profile.{is_profile};
 ghost use Rattle.mt_table.specs.declared.projection.Aggregate.{Aggregate};
 ghost use Rattle.mt_defs.specs.Folds.{state_of, states_join};
-ghost use Rattle.mt_agg.specs.States.{finished, state_type, state_with};
+ghost use Rattle.mt_agg.specs.States.{finished, state_with};
 
 use mt_table::Aggregate;
-use mt_types::{List, NoMemory, Ty};
+use mt_types::Ty;
 
 /// A state that gathers numbers (docs/FORMAT.md, "States"; ClickHouse: `IAggregateFunction`).
 pub trait Folding {
@@ -42,16 +38,4 @@ pub trait Folding {
     /// signed, and 0 stands for the least and the greatest of no rows.
     fn finish(&self, arg: Option<&Ty>) -> i128
         ensures { result ≡ finished (option_copied arg.entry) (state self.now) };
-
-    /// Appends the stored bytes, where the argument has this type. On `NoMemory` `out` is
-    /// unchanged.
-    fn put(&self, arg: Option<&Ty>, out: &mut List<u8>) -> Result<(), NoMemory>
-        requires profile { IsTrue
-            (is_profile (state_type (state self.now) (option_copied arg))) }
-        requires fits { IsTrue (fits_of (state_type (state self.now) (option_copied arg))
-            (State (state self.now))) }
-        ensures ok { OnOk result (out.new ≡ out.old
-            ++ item_bytes (state_type (state self.now) (option_copied arg.entry))
-            (State (state self.now))) }
-        ensures err { OnErr result (out.new ≡ out.old) };
 }

@@ -19,7 +19,7 @@ pub fn is_signed(arg: Option<&Ty>) -> bool
 }
 
 /// The low 64 bits of a number in two's complement.
-pub fn low_bits(number: i128) -> u64
+fn low_bits(number: i128) -> u64
     ensures { result ≡ cast_unsigned w128 number % 2 ^ 64 }
 {
     (number.cast_unsigned() % 0x1_0000_0000_0000_0000) as u64

@@ -6,7 +6,6 @@
 mod folding;
 mod join;
 mod law;
-mod number;
 mod state;
 
 pub use folding::Folding;

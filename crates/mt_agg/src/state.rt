@@ -2,9 +2,8 @@
 
 use crate::folding::Folding;
 use crate::join::{is_signed, joined, with};
-use crate::number::{argument_of, put_count, put_held};
 use mt_table::Aggregate;
-use mt_types::{Agg, AggState, List, NoMemory, Ty};
+use mt_types::{Agg, AggState, Ty};
 
 impl Folding for AggState {
     ghost state = { λ s. s };
@@ -42,15 +41,6 @@ impl Folding for AggState {
             }
             AggState::Least(number) => number.unwrap_or(0),
             AggState::Greatest(number) => number.unwrap_or(0),
-        }
-    }
-
-    fn put(&self, arg: Option<&Ty>, out: &mut List<u8>) -> Result<(), NoMemory> {
-        match *self {
-            AggState::Count(rows) => put_count(rows, out),
-            AggState::Sum(sum) => out.append(&sum.to_le_bytes()),
-            AggState::Least(number) => put_held(argument_of(arg), number, out),
-            AggState::Greatest(number) => put_held(argument_of(arg), number, out),
         }
     }
 }

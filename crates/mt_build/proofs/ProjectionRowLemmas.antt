@@ -18,7 +18,7 @@ use Rattle.mt_types.specs.Fits.{bits, fits_of, is_least_of, is_signed, is_unsign
 use Rattle.mt_types.specs.Numbers.{is_argument_at, is_argument_type, is_narrow}
 use Rattle.mt_types.proofs.StepLemmas.{both_true}
 use Rattle.mt_types.proofs.NumberLemmas.{fits_at}
-use Rattle.mt_agg.proofs.StateLemmas.{fits_count, fits_state}
+use Rattle.mt_item.proofs.StateLemmas.{fits_count, fits_state}
 use Rattle.mt_table.specs.declared.column.Column.{Column}
 use Rattle.mt_table.specs.declared.definition.Table.{Table}
 use Rattle.mt_table.specs.declared.projection.Aggregate.{Aggregate}

@@ -23,7 +23,7 @@ use Rattle.mt_types.specs.Leb128.{leb128}
 use Rattle.mt_types.specs.Numbers.{is_argument_at, is_argument_type}
 use Rattle.mt_types.proofs.Levels.{same_level}
 use Rattle.mt_types.proofs.NumberLemmas.{fits_at, item_at}
-use Rattle.mt_agg.proofs.StateLemmas.{item_state, item_count}
+use Rattle.mt_item.proofs.StateLemmas.{item_state, item_count}
 use Rattle.mt_item.specs.ItemReading.{First, read_as, bytes_front, whole_front, leb128_front, text_front, number_front, held_front, state_front, item_front, item_front_at}
 use Rattle.mt_item.specs.ItemTypes.{has_items, has_items_at}
 use Rattle.mt_item.proofs.ExactLemmas.{IsExact, as_exact, reads_alike, read_twice, bytes_exact, length_exact, of_bytes, small_back, text_exact, held_exact, held_fits, held_item}

@@ -3,6 +3,7 @@ pub mod TypeLemmas
 pub mod ExactLemmas
 pub mod WholeLemmas
 pub mod NumberLemmas
+pub mod StateLemmas
 pub mod ItemLemmas
 pub mod ReadingLemmas
 pub mod ItemBytes

@@ -10,7 +10,7 @@ ghost use Rattle.mt_types.specs.Numbers.{bits_in};
 ghost use Rattle.mt_types.specs.Parts.{state_in, text_in};
 ghost use Rattle.mt_item.specs.ItemTypes.{has_items};
 
-use mt_agg::Folding;
+use crate::state::put_state;
 use mt_types::{AggState, List, NoMemory, Ty, Value, number_size, varint_put};
 
 /// Appends the item of a value (docs/FORMAT.md, "Substreams"; ClickHouse:
@@ -28,8 +28,8 @@ pub fn put_item(ty: &Ty, value: &Value, out: &mut List<u8>) -> Result<(), NoMemo
         Ty::Moment => append_number(4, bits_in(value), out),
         Ty::FixedString(_) => out.append(text_in(value)),
         Ty::Str => append_text(text_in(value), out),
-        Ty::State(_, argument) => state_in(value).put(Some(argument.get()), out),
-        Ty::CountState => state_in(value).put(None, out),
+        Ty::State(_, argument) => put_state(state_in(value), Some(argument.get()), out),
+        Ty::CountState => put_state(state_in(value), None, out),
         _ => unreachable!(),
     }
 }

@@ -21,56 +21,42 @@ use Rattle.mt_types.specs.Profile.{Kind, Whole, Day, Stored, kind_of, state_kind
 use Rattle.mt_types.proofs.Levels.{kind-State}
 use Rattle.mt_types.proofs.KindLemmas.{IsNumber, known, least_argument, greatest_argument}
 use Rattle.mt_types.proofs.NumberLemmas.{argument_known, argument_number, fits_at, item_at, number_item}
-use Rattle.mt_agg.specs.States.{state_type}
+use Rattle.mt_item.specs.ItemTypes.{state_type}
 
 -- ---- what min and max have gathered
 
--- the low bytes of 64 bits are those of 128
-low_bytes : (w : Width) → is_narrow w ≡ true → (n : ℕ) → take (width_size w) (to_le_bytes w64 (n % 2 ^ 64)) ≡ take (width_size w) (to_le_bytes w128 n)
-low_bytes W8 is n = let one : n % 2 ^ 64 % 256 ≡ n % 256 = omega arith in rw one refl
-low_bytes W16 is n =
-    let one : n % 2 ^ 64 % 256 ≡ n % 256 = omega arith in
-    let two : n % 2 ^ 64 / 256 % 256 ≡ n / 256 % 256 = omega arith in
-    rw (one, two) refl
-low_bytes W32 is n =
-    let one : n % 2 ^ 64 % 256 ≡ n % 256 = omega arith in
-    let two : n % 2 ^ 64 / 256 % 256 ≡ n / 256 % 256 = omega arith in
-    let three : n % 2 ^ 64 / 65536 % 256 ≡ n / 65536 % 256 = omega arith in
-    let four : n % 2 ^ 64 / 16777216 % 256 ≡ n / 16777216 % 256 = omega arith in
-    rw (one, two, three, four) refl
-low_bytes W64 is n =
-    let one : n % 2 ^ 64 % 256 ≡ n % 256 = omega arith in
-    let two : n % 2 ^ 64 / 256 % 256 ≡ n / 256 % 256 = omega arith in
-    let three : n % 2 ^ 64 / 65536 % 256 ≡ n / 65536 % 256 = omega arith in
-    let four : n % 2 ^ 64 / 16777216 % 256 ≡ n / 16777216 % 256 = omega arith in
-    let five : n % 2 ^ 64 / 4294967296 % 256 ≡ n / 4294967296 % 256 = omega arith in
-    let six : n % 2 ^ 64 / 1099511627776 % 256 ≡ n / 1099511627776 % 256 = omega arith in
-    let seven : n % 2 ^ 64 / 281474976710656 % 256 ≡ n / 281474976710656 % 256 = omega arith in
-    let eight : n % 2 ^ 64 / 72057594037927936 % 256 ≡ n / 72057594037927936 % 256 = omega arith in
-    rw (one, two, three, four, five, six, seven, eight) refl
+-- the first 8 bytes
+abbrev pub first_eight : List ℕ → List ℕ
+first_eight bs = get_or bs 0 0 ∷ get_or bs 1 0 ∷ get_or bs 2 0 ∷ get_or bs 3 0 ∷ get_or bs 4 0 ∷ get_or bs 5 0 ∷ get_or bs 6 0 ∷ get_or bs 7 0 ∷ []
+
+-- a number of at most 64 bits has no more
+low_bytes : (w : Width) → is_narrow w ≡ true → (n : ℕ) → take (width_size w) (first_eight (to_le_bytes w128 n)) ≡ take (width_size w) (to_le_bytes w128 n)
+low_bytes W8 is n = refl
+low_bytes W16 is n = refl
+low_bytes W32 is n = refl
+low_bytes W64 is n = refl
 low_bytes W128 is n = cc
 
-low_level : (level : Ty-F Ty) (n : ℕ) → is_argument_at level ≡ true → take (number_size_at level) (to_le_bytes w64 (n % 2 ^ 64)) ≡ take (number_size_at level) (to_le_bytes w128 n)
+low_level : (level : Ty-F Ty) (n : ℕ) → is_argument_at level ≡ true → take (number_size_at level) (first_eight (to_le_bytes w128 n)) ≡ take (number_size_at level) (to_le_bytes w128 n)
 low_level (Ty-F.UInt w) n is = low_bytes w is n
 low_level (Ty-F.Int w) n is = low_bytes w is n
 low_level Ty-F.Date n is = low_bytes W16 refl n
 low_level _ n is = cc
 
--- the item of a number of a type that min and max are over is the first of its low bytes
-argument_item : (t : Ty) (n : ℤ) → is_argument_type t ≡ true → fits_of t (Num n) ≡ true → item_bytes t (Num n) ≡ take (number_size t) (to_le_bytes w64 (cast_unsigned w128 n % 2 ^ 64))
+-- the item of a number of a type that min and max are over is the first of those
+argument_item : (t : Ty) (n : ℤ) → is_argument_type t ≡ true → fits_of t (Num n) ≡ true → item_bytes t (Num n) ≡ take (number_size t) (first_eight (to_le_bytes w128 (cast_unsigned w128 n)))
 argument_item t n is fits =
     number_item t (Num n) (argument_number t is) fits
     ∙ ap (λ m. take (number_size t) (to_le_bytes w128 m)) (ap bits_in (outs-Num n))
     ∙ sym (low_level (out-Ty t) (cast_unsigned w128 n) is)
 
 -- what a state of min or max that has a number is stored as
-pub held_number : (t : Ty) (held_one : Option ℤ) (n : ℤ) (low size : ℕ) (eight : List ℕ) → is_argument_type t ≡ true → is_least_of (fits_of t) held_one ≡ true → held_one ≡ Some n
-    → low ≡ cast_unsigned w128 n % 2 ^ 64 → eight ≡ to_le_bytes w64 low → size ≡ number_size t
-    → take (1 + size) (1 ∷ (get_or eight 0 0 ∷ (get_or eight 1 0 ∷ (get_or eight 2 0 ∷ (get_or eight 3 0 ∷ (get_or eight 4 0 ∷ (get_or eight 5 0 ∷ (get_or eight 6 0 ∷ (get_or eight 7 0 ∷ []))))))))) ≡ held (item_bytes t) held_one
-held_number t held_one n low size eight is fits some l e s =
+pub held_number : (t : Ty) (held_one : Option ℤ) (n : ℤ) (size : ℕ) (bytes : List ℕ) → is_argument_type t ≡ true → is_least_of (fits_of t) held_one ≡ true → held_one ≡ Some n
+    → bytes ≡ to_le_bytes w128 (cast_unsigned w128 n) → size ≡ number_size t → take (1 + size) (1 ∷ first_eight bytes) ≡ held (item_bytes t) held_one
+held_number t held_one n size bytes is fits some e s =
     let fit : fits_of t (Num n) ≡ true = ap (is_least_of (fits_of t)) (sym some) ∙ fits in
-    let one : take (1 + size) (1 ∷ to_le_bytes w64 low) ≡ 1 ∷ take size (to_le_bytes w64 low) = ap (λ k. take k (1 ∷ to_le_bytes w64 low)) (add_comm 1 size ∙ add-one size) in
-    rw e (one ∙ rw (l, s, some) (ap (λ bs. 1 ∷ bs) (sym (argument_item t n is fit))))
+    let one : take (1 + size) (1 ∷ first_eight bytes) ≡ 1 ∷ take size (first_eight bytes) = ap (λ k. take k (1 ∷ first_eight bytes)) (add_comm 1 size ∙ add-one size) in
+    one ∙ rw (e, s, some) (ap (λ bs. 1 ∷ bs) (sym (argument_item t n is fit)))
 
 -- ---- states as values
 
