@@ -1,5 +1,5 @@
 -- States as values of their types.
-use Rattle.std.proofs.Common.{◌≡◌, ℕ, ◌+◌, ◌/◌, ◌%◌, ◌^◌, ℤ, Bool, true, false, List, [], ◌∷◌, take, get_or, add_comm, add-one, Bor, refl, ap, sym, ◌∙◌, subst, arith}
+use Rattle.std.proofs.Common.{◌≡◌, ℕ, ◌+◌, ℤ, true, false, List, [], ◌∷◌, take, get_or, add_comm, add-one, Bor, refl, ap, sym, ◌∙◌, subst}
 use Rattle.std.specs.Prelude.{Option, Some, None, IsSome, option_copied}
 use Rattle.std.specs.Int.{w64, w128, to_le_bytes, cast_unsigned}
 use Rattle.mt_types.specs.declared.ty.Agg.{Agg}
@@ -11,7 +11,6 @@ use Rattle.mt_types.specs.declared.ty.Ty.TheOpen.{Ty-F}
 use Rattle.mt_types.specs.declared.ty.Ty.TheVariants.{CountState, outs-CountState, State as StateOf, outs-State as outs-StateOf}
 use Rattle.mt_types.specs.declared.value.AggState.{AggState}
 use Rattle.mt_types.specs.declared.value.AggState.TheVariants as state
-use Rattle.mt_types.specs.declared.value.Value.{Value}
 use Rattle.mt_types.specs.declared.value.Value.TheVariants.{Num, outs-Num, State, outs-State}
 use Rattle.mt_types.specs.Leb128.{leb128}
 use Rattle.mt_types.specs.Fits.{state_at, fits_of, is_state_of, is_count, is_least_of}
