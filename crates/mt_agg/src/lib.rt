@@ -6,7 +6,9 @@
 mod folding;
 mod join;
 mod law;
+mod place;
 mod state;
 
 pub use folding::Folding;
 pub use law::merged_states_are_folds;
+pub use place::aggregate_index;

@@ -29,8 +29,9 @@ use Rattle.mt_defs.specs.Rows.{Row, RowFits, ArePartRows, cell, key_cmp, key_of}
 use Rattle.mt_defs.specs.Sorting.{sorted_rows}
 use Rattle.mt_defs.specs.Writer.{folded_row, projection_rows}
 use Rattle.mt_defs.proofs.Sorted.{IsSorted-sorted_rows, length-sorted_rows, some_sorted_rows}
-use Rattle.mt_proj.proofs.OrderLemmas.{IsPermutation-sorted_by, map-sorted_by, sorted_same}
-use Rattle.mt_proj.proofs.StableLemmas.{Starts, Rises, sorted_rises}
+use Rattle.mt_sort.proofs.StableLemmas.{Starts, Rises, sorted_rises}
+use Rattle.mt_sort.proofs.SortedLemmas.{IsPermutation-sorted_by, map-sorted_by}
+use Rattle.mt_sort.proofs.KeyLemmas.{sorted_same}
 use Rattle.mt_build.proofs.ProjectionRowLemmas.{All-distinct_by, projection_fits}
 use Rattle.mt_command.specs.Targets.{has_many_cells}
 use Rattle.mt_command.proofs.CellLemmas.{grouped_cells, grouped_rows, normal_cells}

@@ -8,8 +8,8 @@ use Rattle.mt_table.specs.declared.column.Column.{Column}
 use Rattle.mt_table.specs.declared.definition.Table.{Table}
 use Rattle.mt_defs.specs.Rows.{Row}
 use Rattle.mt_defs.specs.Sorting.{sorted_by}
-use Rattle.mt_proj.specs.Keys.{rows_in}
-use Rattle.mt_proj.proofs.OrderLemmas.{map-sorted_by}
+use Rattle.mt_sort.specs.References.{rows_in}
+use Rattle.mt_sort.proofs.SortedLemmas.{map-sorted_by}
 use Rattle.mt_tsv.specs.Printing.{row_text, rows_text}
 use Rattle.mt_query.specs.declared.query.Item.{Item}
 use Rattle.mt_query.specs.declared.query.Query.{Query}

@@ -6,7 +6,7 @@ ghost use Rattle.std.specs.List.{flat_map};
 ghost use Rattle.mt_defs.specs.Rows.{cell};
 ghost use Rattle.mt_defs.specs.Rows as defined;
 ghost use Rattle.mt_defs.specs.Sorting.{sorted_by};
-ghost use Rattle.mt_proj.specs.Keys.{rows_in};
+ghost use Rattle.mt_sort.specs.References.{rows_in};
 ghost use Rattle.mt_tsv.specs.Printing.{row_text};
 ghost use Rattle.mt_fold.specs.Answer as answer;
 ghost use Rattle.mt_exec.specs.Plain.{items_cmp};

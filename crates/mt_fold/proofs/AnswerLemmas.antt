@@ -17,9 +17,8 @@ use Rattle.mt_table.specs.declared.definition.Table.{Table}
 use Rattle.mt_defs.specs.Lists.{distinct_by}
 use Rattle.mt_defs.specs.Rows.{Row, key_of}
 use Rattle.mt_defs.specs.Projections.{is_same_key, with_key}
-use Rattle.mt_proj.proofs.OrderLemmas.{one_key, sorted_same, IsPermutation-sorted_by}
-use Rattle.mt_proj.proofs.RunLemmas.{same_keys}
-use Rattle.mt_proj.proofs.GroupLemmas.{any_map}
+use Rattle.mt_sort.proofs.SortedLemmas.{IsPermutation-sorted_by}
+use Rattle.mt_sort.proofs.KeyLemmas.{one_key, sorted_same, same_keys, any_map}
 use Rattle.mt_tsv.specs.Printing.{rows_text}
 use Rattle.mt_query.specs.declared.query.Query.{Query}
 use Rattle.mt_fold.specs.Answer.{aggregates, is_empty, is_grouped, kept_rows, group_keys, group_row, plain_row, ordered, limited, item_columns, answer_rows, answer_text}

@@ -17,5 +17,5 @@ pub use aggregate::{aggregate_of, is_grouped};
 pub use condition::{keeps, truth};
 pub use item::item_columns;
 pub use partial::Partial;
-pub use row::key_of;
+pub use row::{index_in, key_of};
 pub use state::empty_states;

@@ -1,6 +1,6 @@
 //! Keys and result rows.
 
-ghost use Rattle.std.specs.Prelude.{◌≡◌, ◌<◌, map, length, IsTrue, IfOk};
+ghost use Rattle.std.specs.Prelude.{◌≡◌, ◌<◌, ◌≤◌, map, length, IsTrue, IfOk};
 ghost use Rattle.std.specs.List.{list_all};
 ghost use Rattle.mt_table.specs.Stored as stored;
 ghost use Rattle.mt_defs.specs.Rows as rows;
@@ -91,8 +91,9 @@ pub fn row_of_states(
 }
 
 /// Where a column stands among some columns; their number where it isn't among them.
-fn index_in(columns: &[u32], column: u32) -> usize
-    ensures { result ≡ stored.index_in columns.now column }
+pub fn index_in(columns: &[u32], column: u32) -> usize
+    ensures index { result ≡ stored.index_in columns.now column }
+    ensures within { result ≤ length columns.now }
 {
     for (index, other) in columns.iter().enumerate() {
         if *other == column {

@@ -13,9 +13,9 @@ use Rattle.mt_defs.specs.Folds.{fold_of}
 use Rattle.mt_defs.specs.Projections.{is_same_key}
 use Rattle.mt_defs.specs.Writer.{folded_row}
 use Rattle.mt_proj.specs.Runs.{rows_by_key, run_of}
-use Rattle.mt_proj.proofs.StableLemmas.{keeps, drops, not_both}
-use Rattle.mt_proj.proofs.OrderLemmas.{one_key}
-use Rattle.mt_proj.proofs.RunLemmas.{same_keys, of_key, after_front, HasNone, after_same, after_other, run_parts, of_key_here, of_key_there}
+use Rattle.mt_sort.proofs.StableLemmas.{keeps, drops, not_both}
+use Rattle.mt_sort.proofs.KeyLemmas.{one_key, same_keys, any_map}
+use Rattle.mt_proj.proofs.RunLemmas.{of_key, after_front, HasNone, after_same, after_other, run_parts, of_key_here, of_key_there}
 
 -- ---- filters
 
@@ -55,10 +55,6 @@ map_filtered p f g same (x ∷ xs) =
       | inl hit ↦ ap (map f) (keeps p x xs hit) ∙ ap (λ y. y ∷ map f (filter p xs)) (same x hit) ∙ ap (λ l. g x ∷ l) (map_filtered p f g same xs) ∙ sym (ap (map g) (keeps p x xs hit))
       | inr miss ↦ ap (map f) (drops p x xs miss) ∙ map_filtered p f g same xs ∙ sym (ap (map g) (drops p x xs miss))
     ]
-
-pub any_map : {X Y : Type 0} (p : Y → Bool) (f : X → Y) (xs : List X) → list_any p (map f xs) ≡ list_any (λ x. p (f x)) xs
-any_map p f [] = refl
-any_map p f (x ∷ xs) = ap (λ b. p (f x) || b) (any_map p f xs)
 
 -- ---- distinct keys
 

@@ -18,10 +18,11 @@ use Rattle.mt_defs.specs.Sorting.{sorted_rows}
 use Rattle.mt_defs.specs.Writer.{folded_row, projection_rows}
 use Rattle.mt_agg.proofs.FoldLemmas.{joins}
 use Rattle.mt_proj.specs.Keys.{projection_at, no_projection}
-use Rattle.mt_proj.proofs.StableLemmas.{keeps, drops}
-use Rattle.mt_proj.proofs.OrderLemmas.{one_key, IsPermutation-sorted_by}
-use Rattle.mt_proj.proofs.RunLemmas.{has_some, any_by_filter, none_kept, same_keys, of_key}
-use Rattle.mt_proj.proofs.GroupLemmas.{keys_met, is_other, filter_comm, any_map, row_of}
+use Rattle.mt_sort.proofs.StableLemmas.{keeps, drops}
+use Rattle.mt_sort.proofs.SortedLemmas.{IsPermutation-sorted_by}
+use Rattle.mt_sort.proofs.KeyLemmas.{one_key, none_kept, same_keys, any_map}
+use Rattle.mt_proj.proofs.RunLemmas.{has_some, any_by_filter, of_key}
+use Rattle.mt_proj.proofs.GroupLemmas.{keys_met, is_other, filter_comm, row_of}
 use Rattle.mt_proj.proofs.StandLemmas.{of_key-sorted_by}
 use Rattle.mt_proj.proofs.WalkLemmas.{one_aggregate}
 

@@ -1,5 +1,3 @@
-pub mod StableLemmas
-pub mod OrderLemmas
 pub mod RunLemmas
 pub mod GroupLemmas
 pub mod StandLemmas

@@ -11,7 +11,8 @@ use Rattle.mt_types.specs.Order.{values_cmp}
 use Rattle.mt_types.specs.Ordered.{values_total, exact_lists}
 use Rattle.mt_defs.specs.Rows.{Row, key_of}
 use Rattle.mt_defs.specs.Sorting.{sorted_by}
-use Rattle.mt_proj.proofs.OrderLemmas.{equal_if, sorted_same, IsPermutation-sorted_by, map-sorted_by}
+use Rattle.mt_sort.proofs.SortedLemmas.{IsPermutation-sorted_by, map-sorted_by}
+use Rattle.mt_sort.proofs.KeyLemmas.{equal_if, sorted_same}
 use Rattle.mt_proj.proofs.RunLemmas.{by_key}
 
 -- lists of rows that tie are the same

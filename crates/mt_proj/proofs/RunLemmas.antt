@@ -14,8 +14,8 @@ use Rattle.mt_types.specs.Ordered.{values_total}
 use Rattle.mt_defs.specs.Rows.{Row}
 use Rattle.mt_defs.specs.Projections.{is_same_key}
 use Rattle.mt_proj.specs.Runs.{alike_at_front, run_of, IsInOrder}
-use Rattle.mt_proj.proofs.StableLemmas.{keeps, drops, not_both, Starts, Rises, rises}
-use Rattle.mt_proj.proofs.OrderLemmas.{one_key}
+use Rattle.mt_sort.proofs.StableLemmas.{keeps, drops, not_both, Starts, Rises, rises}
+use Rattle.mt_sort.proofs.KeyLemmas.{one_key, none_kept, same_keys}
 
 -- whether a list has an element
 abbrev pub has_some : {X : Type 0} → List X → Bool
@@ -29,18 +29,6 @@ any_by_filter p (x ∷ xs) =
       | true ↦ refl
       | false ↦ any_by_filter p xs
     ]
-
-pub none_kept : {X : Type 0} (p : X → Bool) (xs : List X) → list_any p xs ≡ false → filter p xs ≡ []
-none_kept p [] e = refl
-none_kept p (x ∷ xs) e =
-    elim (cases_Bool (p x)) [
-      | inl hit ↦ not_both (p x || list_any p xs) (ap (λ b. b || list_any p xs) hit) e
-      | inr miss ↦ drops p x xs miss ∙ none_kept p xs (ap (λ b. b || list_any p xs) (sym miss) ∙ e)
-    ]
-
--- keys that tie are an equivalence
-pub same_keys : IsEquivalence is_same_key
-same_keys = eq_by_cmp_equiv values_total
 
 pub not_above : (o : Ordering) → is_eq o ≡ true → is_gt o ≡ false
 not_above Less e = refl

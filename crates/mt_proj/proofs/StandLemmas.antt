@@ -12,9 +12,10 @@ use Rattle.mt_defs.specs.Folds.{fold_of, merge_of}
 use Rattle.mt_defs.specs.Projections.{FoldsRows, is_same_key, stored_key, stored_state}
 use Rattle.mt_defs.specs.Sorting.{sorted_by}
 use Rattle.mt_proj.specs.Runs.{run_of, RunStands, HaveOneKey}
-use Rattle.mt_proj.proofs.StableLemmas.{tie, not_both}
-use Rattle.mt_proj.proofs.OrderLemmas.{one_key, filter-sorted_by}
-use Rattle.mt_proj.proofs.RunLemmas.{Rising, not_above, any_by_filter, has_some, none_kept, same_keys, by_key, of_key, front_of, after_front, HasNone, run_parts, after_run, none_after, of_key_here, of_key_there, first_least}
+use Rattle.mt_sort.proofs.StableLemmas.{tie, not_both}
+use Rattle.mt_sort.proofs.SortedLemmas.{filter-sorted_by}
+use Rattle.mt_sort.proofs.KeyLemmas.{one_key, none_kept, same_keys}
+use Rattle.mt_proj.proofs.RunLemmas.{Rising, not_above, any_by_filter, has_some, by_key, of_key, front_of, after_front, HasNone, run_parts, after_run, none_after, of_key_here, of_key_there, first_least}
 
 -- sorting by a key keeps the rows of each key in their order
 pub of_key-sorted_by : (key : Row → List Value) (j : List Value) (rows : List Row) → of_key key j (sorted_by (by_key key) rows) ≡ of_key key j rows

@@ -23,8 +23,7 @@ use Rattle.mt_table.specs.declared.projection.Projection.TheVariants.{Normal, Gr
 use Rattle.mt_defs.specs.Rows.{Row, key_of}
 use Rattle.mt_defs.specs.Folds.{fold_of, merge_of}
 use Rattle.mt_defs.specs.Projections.{FoldsRows, IsProjectionOf, folds_key, folds_rows, has_key, has_stored_key, is_projection_of, is_same_agg, is_same_aggregate, is_same_key, is_state, merged_state, stored_columns, stored_key, stored_state, with_key}
-use Rattle.mt_proj.proofs.OrderLemmas.{equal_if, one_key}
-use Rattle.mt_proj.proofs.RunLemmas.{none_kept, same_keys}
+use Rattle.mt_sort.proofs.KeyLemmas.{equal_if, one_key, none_kept, same_keys}
 use Rattle.mt_proj.proofs.NormalLemmas.{sorted_alike}
 
 -- ---- states

@@ -26,9 +26,9 @@ use Rattle.mt_defs.specs.Projections.{FoldsRows, aggregate_index, state_at, is_s
 use Rattle.mt_defs.specs.Sorting.{sorted_by, sorted_rows}
 use Rattle.mt_defs.specs.Writer.{folded_row}
 use Rattle.mt_defs.proofs.Sorted.{IsSorted-sorted_by}
-use Rattle.mt_proj.specs.Keys.{rows_in}
+use Rattle.mt_sort.specs.References.{rows_in}
 use Rattle.mt_proj.specs.Runs.{IsInOrder, run_of, rows_by_key, HaveOneKey, MergeToFolds, RunStands}
-use Rattle.mt_proj.proofs.StableLemmas.{not_both}
+use Rattle.mt_sort.proofs.StableLemmas.{not_both}
 use Rattle.mt_proj.proofs.RunLemmas.{by_key, Rising, rising, rising_drop, HasNone, after_front, none_after, after_run}
 use Rattle.mt_proj.proofs.GroupLemmas.{row_of, first_row, keys_met}
 use Rattle.mt_proj.proofs.StandLemmas.{of_key-sorted_by, folds_sorted, nothing_stands, stored_alone, walk_fails, walk_holds}

@@ -1,6 +1,5 @@
--- Keys of rows, and lists of rows behind references.
-use Rattle.std.specs.Prelude.{List, map, take}
-use Rattle.std.specs.Borrow.{Bor}
+-- Keys of rows.
+use Rattle.std.specs.Prelude.{List, take}
 use Rattle.mt_types.specs.declared.value.Value.{Value}
 pub use Rattle.mt_table.specs.Stored.{columns_below, projection_at, no_projection}
 use Rattle.mt_defs.specs.Rows.{Row, key_of}
@@ -12,7 +11,3 @@ abbrev pub key_in : Key → Row → List Value
 key_in (Cells columns) row = key_of columns.now row
 key_in (First count) row = take count row
 key_in Whole row = row
-
--- the rows that references point to
-abbrev pub rows_in : List (Bor Row) → List Row
-rows_in rows = map (λ row. row.now) rows

@@ -11,7 +11,7 @@ ghost use Rattle.mt_defs.specs.Projections.{FoldsRows, state_at, stored_key};
 ghost use Rattle.mt_defs.specs.Projections as defined;
 ghost use Rattle.mt_defs.specs.Rows.{cell, key_of};
 ghost use Rattle.mt_defs.specs.Writer.{projection_rows};
-ghost use Rattle.mt_proj.specs.Keys.{rows_in};
+ghost use Rattle.mt_sort.specs.References.{rows_in};
 ghost use Rattle.mt_proj.specs.Runs.{IsInOrder, MergeToFolds, RunStands, rows_by_key};
 
 use crate::column::{compare_with, copy_cells};
@@ -19,8 +19,9 @@ use crate::key::{Key, first_of};
 use crate::run::run_at;
 use crate::sorting::sorted_refs;
 use crate::state::{fold_of, merge_of};
+use mt_agg::aggregate_index;
 use mt_table::{Aggregate, Table};
-use mt_types::{Agg, List, NoMemory, Row, Value};
+use mt_types::{List, NoMemory, Row, Value};
 use std::alloc::Global;
 
 /// A row for each key, in key order: the key, and then the states over the rows of the key.
@@ -159,38 +160,6 @@ fn merges_to_fold(aggregate: &Aggregate, column: usize, rows: &[&Row], stored: &
         Some(merged) => merged == fold_of(aggregate, rows),
         None => false,
     }
-}
-
-/// Where an aggregate first stands among some; their number where it isn't among them.
-fn aggregate_index(aggs: &[Aggregate], aggregate: &Aggregate) -> usize
-    ensures index { result ≡ defined.aggregate_index aggs.now aggregate.now }
-    ensures within { result ≤ length aggs.now }
-{
-    for (place, other) in aggs.iter().enumerate() {
-        if is_same_aggregate(other, aggregate) {
-            return place;
-        }
-    }
-    aggs.len()
-}
-
-fn is_same_aggregate(a: &Aggregate, b: &Aggregate) -> bool
-    ensures { result ≡ defined.is_same_aggregate a.now b.now }
-{
-    match (a, b) {
-        (Aggregate::Count, Aggregate::Count) => true,
-        (Aggregate::Of(f, i), Aggregate::Of(g, j)) => is_same_agg(*f, *g) && *i == *j,
-        _ => false,
-    }
-}
-
-fn is_same_agg(f: Agg, g: Agg) -> bool
-    ensures { result ≡ defined.is_same_agg f g }
-{
-    matches!(
-        (f, g),
-        (Agg::Sum, Agg::Sum) | (Agg::Min, Agg::Min) | (Agg::Max, Agg::Max)
-    )
 }
 
 /// Places of columns as indexes.

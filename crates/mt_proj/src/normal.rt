@@ -9,7 +9,8 @@ ghost use Rattle.mt_table.specs.declared.projection.Projection.TheVariants.{Norm
 ghost use Rattle.mt_defs.specs.Rows.{key_of};
 ghost use Rattle.mt_defs.specs.Projections as defined;
 ghost use Rattle.mt_defs.specs.Writer.{projection_rows};
-ghost use Rattle.mt_proj.specs.Keys.{rows_in, columns_below};
+ghost use Rattle.mt_sort.specs.References.{rows_in};
+ghost use Rattle.mt_proj.specs.Keys.{columns_below};
 
 use crate::column::{compare_with, copy_cells};
 use crate::key::Key;

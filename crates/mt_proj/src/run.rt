@@ -1,7 +1,8 @@
 //! Runs: neighbours of one key in rows that are in the order of the key.
 
 ghost use Rattle.std.specs.Prelude.{◌≡◌, ◌+◌, ◌≤◌, ◌<◌, length, drop};
-ghost use Rattle.mt_proj.specs.Keys.{key_in, rows_in};
+ghost use Rattle.mt_sort.specs.References.{rows_in};
+ghost use Rattle.mt_proj.specs.Keys.{key_in};
 ghost use Rattle.mt_proj.specs.Runs as defined;
 
 use crate::key::{Key, compare_keys};

@@ -3,7 +3,8 @@
 ghost use Rattle.std.specs.Prelude.{◌≡◌, map, IfOk};
 ghost use Rattle.mt_defs.specs.Sorting.{sorted_by, sorted_rows};
 ghost use Rattle.mt_types.specs.Order.{values_cmp};
-ghost use Rattle.mt_proj.specs.Keys.{key_in, rows_in};
+ghost use Rattle.mt_sort.specs.References.{rows_in};
+ghost use Rattle.mt_proj.specs.Keys.{key_in};
 
 use crate::column::compare_cells;
 use crate::key::{Key, compare_keys};

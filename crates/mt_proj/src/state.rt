@@ -6,7 +6,7 @@ ghost use Rattle.mt_table.specs.declared.projection.Aggregate.{Aggregate};
 ghost use Rattle.mt_defs.specs.Folds as defined;
 ghost use Rattle.mt_defs.specs.Projections.{state_at};
 ghost use Rattle.mt_defs.specs.Rows.{cell};
-ghost use Rattle.mt_proj.specs.Keys.{rows_in};
+ghost use Rattle.mt_sort.specs.References.{rows_in};
 
 use mt_agg::Folding;
 use mt_table::Aggregate;

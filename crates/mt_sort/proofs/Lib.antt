@@ -1,5 +1,6 @@
 pub mod StableLemmas
 pub mod SortedLemmas
+pub mod KeyLemmas
 pub mod OrderLemmas
 pub mod RankLemmas
 pub mod ColumnLemmas

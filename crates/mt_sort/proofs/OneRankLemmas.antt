@@ -15,7 +15,7 @@ use Rattle.mt_sort.specs.declared.one_rank.OneRank.{OneRank}
 use Rattle.mt_sort.specs.Ranks.{is_decided, has_huge}
 use Rattle.mt_sort.specs.RankedOnce.{key_left, ranked_row, ranked_cmp}
 use Rattle.mt_sort.proofs.ColumnLemmas.{NoHuge, no_huges, then_whole, left_cmp, rank_in, rows_rise, rows_fall, rows_tie}
-use Rattle.mt_sort.proofs.SortedLemmas.{map-sorted_by, sorted_same}
+use Rattle.mt_sort.proofs.SortedLemmas.{map-sorted_by, sorted_by_either}
 use Rattle.mt_sort.proofs.StableLemmas.{the_one}
 
 module _ (scale : Scale) (column : ℕ) where
@@ -48,5 +48,5 @@ module _ (scale : Scale) (column : ℕ) where
       let R = ranked_cmp scale column in
       let f = ranked_row scale column in
       let bare : List OneRank → List Row = map (λ (r : OneRank). r.row) in
-      ap bare (the_one R ranked_total before after up stable ∙ ap (sorted_by R) made ∙ sym (map-sorted_by f R rows) ∙ ap (map f) (sorted_same (λ a b. R (f a) (f b)) (key_cmp key) (NoHuge key) ranks_agree rows (no_huges key rows plain)))
+      ap bare (the_one R ranked_total before after up stable ∙ ap (sorted_by R) made ∙ sym (map-sorted_by f R rows) ∙ ap (map f) (sorted_by_either (λ a b. R (f a) (f b)) (key_cmp key) (NoHuge key) ranks_agree rows (no_huges key rows plain)))
       ∙ rows_back (sorted_rows key rows)

@@ -17,7 +17,7 @@ use Rattle.mt_sort.specs.declared.two_ranks.Scales.{Scales}
 use Rattle.mt_sort.specs.Ranks.{is_decided, value_rank, has_huge}
 use Rattle.mt_sort.specs.RankedTwice.{are_decided, key_left, second_rank, ranked_row, ranked_cmp}
 use Rattle.mt_sort.proofs.StableLemmas.{the_one}
-use Rattle.mt_sort.proofs.SortedLemmas.{map-sorted_by, sorted_same}
+use Rattle.mt_sort.proofs.SortedLemmas.{map-sorted_by, sorted_by_either}
 use Rattle.mt_sort.proofs.ColumnLemmas.{NoHuge, no_huges, then_whole, left_cmp, rank_in, rows_rise, rows_fall, rows_tie}
 
 -- the order by ranks and then by what is left of the key is total
@@ -112,7 +112,7 @@ module _ (scales : Scales) (column : ℕ) where
   ranked_sorts others rows plain =
       let key = column ∷ others in
       let f = ranked_row scales key in
-      ap (map (λ (r : TwoRanks). r.row)) (sym (map-sorted_by f (ranked_cmp scales key) rows) ∙ ap (map f) (sorted_same (λ a b. ranked_cmp scales key (f a) (f b)) (key_cmp key) (NoHuge key) (ranks_agree others) rows (no_huges key rows plain)))
+      ap (map (λ (r : TwoRanks). r.row)) (sym (map-sorted_by f (ranked_cmp scales key) rows) ∙ ap (map f) (sorted_by_either (λ a b. ranked_cmp scales key (f a) (f b)) (key_cmp key) (NoHuge key) (ranks_agree others) rows (no_huges key rows plain)))
       ∙ rows_back others (sorted_rows key rows)
 
 -- what a stable sort of ranked rows gives, without the ranks

@@ -1,5 +1,7 @@
 -- The rank of a value: a number that never falls along the order on values.
 use Rattle.std.specs.Prelude.{ℕ, zero, suc, ◌+◌, ◌-◌, ◌*◌, ◌^◌, min, nat_lt, Bool, true, false, ◌&&◌, ℤ, pos, negsuc, List, [], ◌∷◌, if◌then◌else◌}
+use Rattle.mt_types.specs.declared.ty.Ty.{Ty, out-Ty}
+use Rattle.mt_types.specs.declared.ty.Ty.TheOpen.{Ty-F}
 use Rattle.mt_types.specs.declared.value.Value.{Value, out-Value}
 use Rattle.mt_types.specs.declared.value.Value.TheOpen.{Value-F}
 use Rattle.std.specs.List.{list_any}
@@ -7,6 +9,18 @@ use Rattle.mt_types.specs.Fits.{Level}
 use Rattle.mt_defs.specs.Rows.{Row, cell}
 use Rattle.mt_sort.specs.declared.rank.Scale.{Scale}
 use Rattle.mt_sort.specs.declared.rank.Scale.TheVariants.{Numbers, Texts}
+
+-- the scale of one level of a type
+abbrev pub scale_at : {X : Type 0} → Ty-F X → Scale
+scale_at (Ty-F.Int width) = Numbers (2 ^ 63)
+scale_at (Ty-F.UInt width) = Numbers 1
+scale_at Ty-F.Date = Numbers 1
+scale_at Ty-F.Moment = Numbers 1
+scale_at _ = Texts
+
+-- the scale of a type's values
+abbrev pub scale_of : Ty → Scale
+scale_of ty = scale_at (out-Ty ty)
 
 -- the greatest rank
 abbrev pub top_rank : ℕ

@@ -2,7 +2,7 @@
 
 ghost use Rattle.std.specs.Prelude.{◌≡◌, pos, slice_index_or};
 ghost use Rattle.mt_defs.specs.Rows.{cell};
-ghost use Rattle.mt_sort.specs.Ranks.{is_decided, number_rank, text_rank, value_rank};
+ghost use Rattle.mt_sort.specs.Ranks.{is_decided, number_rank, scale_of, text_rank, value_rank};
 
 use mt_types::{Row, Ty, Value};
 
@@ -16,7 +16,9 @@ pub enum Scale {
 }
 
 /// The scale of a type's values. The numbers of a type differ in rank, but for its ends.
-pub fn scale_of(ty: &Ty) -> Scale {
+pub fn scale_of(ty: &Ty) -> Scale
+    ensures { result ≡ scale_of ty.now }
+{
     match ty {
         Ty::Int(_) => Scale::Numbers(1 << 63),
         Ty::UInt(_) | Ty::Date | Ty::Moment => Scale::Numbers(1),

@@ -12,9 +12,7 @@ use Rattle.mt_defs.specs.Rows.{Row, cell, key_of}
 use Rattle.mt_defs.specs.Folds.{state_of, states_join, join, merge_of, merge_upon, number_of, fold_of}
 use Rattle.mt_defs.specs.Projections.{is_same_key, with_key, stored_key, stored_state, FoldsRows}
 use Rattle.mt_agg.proofs.FoldLemmas.{joins}
-use Rattle.mt_proj.proofs.OrderLemmas.{one_key}
-use Rattle.mt_proj.proofs.RunLemmas.{none_kept, same_keys}
-use Rattle.mt_proj.proofs.GroupLemmas.{any_map}
+use Rattle.mt_sort.proofs.KeyLemmas.{one_key, none_kept, same_keys, any_map}
 use Rattle.mt_query.specs.declared.query.Query.{Query}
 use Rattle.mt_query.specs.Named.{given_cond_passes}
 use Rattle.mt_fold.specs.Answer.{aggregates, is_grouped, keeps, kept_rows}

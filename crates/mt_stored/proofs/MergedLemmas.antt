@@ -14,8 +14,7 @@ use Rattle.mt_defs.specs.Rows.{Row, key_of}
 use Rattle.mt_defs.specs.Folds.{fold_of, number_of}
 use Rattle.mt_defs.specs.Projections.{is_same_key, with_key}
 use Rattle.mt_agg.proofs.FoldLemmas.{joins}
-use Rattle.mt_proj.proofs.OrderLemmas.{one_key}
-use Rattle.mt_proj.proofs.RunLemmas.{none_kept, same_keys}
+use Rattle.mt_sort.proofs.KeyLemmas.{one_key, none_kept, same_keys}
 use Rattle.mt_query.specs.declared.query.Query.{Query}
 use Rattle.mt_fold.specs.Answer.{aggregates, is_empty}
 use Rattle.mt_fold.specs.Gathered.{Group, folds_of, has_group, group_at, AreGroups}

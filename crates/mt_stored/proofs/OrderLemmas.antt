@@ -16,8 +16,7 @@ use Rattle.mt_defs.specs.Rows.{Row, cell, key_of}
 use Rattle.mt_defs.specs.Folds.{state_of, join, merge_of, number_at, number_of, fold_of}
 use Rattle.mt_defs.specs.Projections.{is_same_key, with_key}
 use Rattle.mt_defs.specs.Sorting.{placed_by, sorted_by}
-use Rattle.mt_proj.proofs.OrderLemmas.{sorted_same}
-use Rattle.mt_proj.proofs.RunLemmas.{none_kept}
+use Rattle.mt_sort.proofs.KeyLemmas.{sorted_same, none_kept}
 use Rattle.mt_query.specs.declared.query.Item.{Item}
 use Rattle.mt_query.specs.declared.query.Item.TheVariants.{Column, Count, Of}
 use Rattle.mt_query.specs.declared.query.Query.{Query}

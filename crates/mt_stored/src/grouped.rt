@@ -1,15 +1,15 @@
 //! An aggregate projection, and the states that its rows have.
 
-ghost use Rattle.std.specs.Prelude.{◌≡◌, ◌+◌, ◌<◌, ◌≤◌, ◌^◌, length, IsTrue};
+ghost use Rattle.std.specs.Prelude.{◌≡◌, ◌+◌, ◌<◌, ◌^◌, length, IsTrue};
 ghost use Rattle.mt_types.specs.declared.value.Value.{out-Value};
 ghost use Rattle.mt_defs.specs.Projections as defined;
 ghost use Rattle.mt_look.specs.Seen.{row_at, value_seen};
 ghost use Rattle.mt_stored.specs.Merged as merged;
 
-use mt_agg::Folding;
+use mt_agg::{Folding, aggregate_index};
 use mt_look::{Look, Seen};
 use mt_table::Aggregate;
-use mt_types::{Agg, AggState, Value};
+use mt_types::{AggState, Value};
 
 /// What the rows of an aggregate projection store: the columns of its key, and then a state per
 /// aggregate (docs/FORMAT.md, "Projections").
@@ -33,7 +33,7 @@ impl<'a> Grouped<'a> {
         ensures { result ≡ merged.given_state self.now.keys.now self.now.aggs.now
             (row_at (L.rows_of from.now) row) aggregate }
     {
-        let column = self.keys.len() as u32 + aggregate_index(self.aggs, aggregate);
+        let column = self.keys.len() as u32 + aggregate_index(self.aggs, &aggregate) as u32;
         match state_in(from.item(column, row)) {
             Some(state) => state,
             None => AggState::empty(&aggregate),
@@ -52,39 +52,4 @@ fn state_in(seen: Seen) -> Option<AggState>
         },
         _ => None,
     }
-}
-
-/// Where an aggregate stands among some; their number where it isn't among them.
-fn aggregate_index(aggs: &[Aggregate], aggregate: Aggregate) -> u32
-    requires few { length aggs.now < 2 ^ 32 }
-    ensures index { result ≡ defined.aggregate_index aggs.now aggregate }
-    ensures within { result ≤ length aggs.now }
-{
-    let mut index: u32 = 0;
-    for other in aggs {
-        if is_same_aggregate(*other, aggregate) {
-            return index;
-        }
-        index += 1;
-    }
-    index
-}
-
-fn is_same_aggregate(a: Aggregate, b: Aggregate) -> bool
-    ensures { result ≡ defined.is_same_aggregate a b }
-{
-    match (a, b) {
-        (Aggregate::Count, Aggregate::Count) => true,
-        (Aggregate::Of(f, i), Aggregate::Of(g, j)) => is_same_agg(f, g) && i == j,
-        _ => false,
-    }
-}
-
-fn is_same_agg(f: Agg, g: Agg) -> bool
-    ensures { result ≡ defined.is_same_agg f g }
-{
-    matches!(
-        (f, g),
-        (Agg::Sum, Agg::Sum) | (Agg::Min, Agg::Min) | (Agg::Max, Agg::Max)
-    )
 }

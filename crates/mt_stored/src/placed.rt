@@ -1,9 +1,10 @@
 //! Stored rows, seen as rows of the table.
 
-ghost use Rattle.std.specs.Prelude.{◌≡◌, ◌&&◌, ◌<◌, ◌^◌, length, map};
+ghost use Rattle.std.specs.Prelude.{◌&&◌, ◌<◌, ◌^◌, length, map};
 ghost use Rattle.mt_table.specs.Stored as defined;
 ghost use Rattle.mt_stored.specs.Placed.{as_row, is_placed};
 
+use mt_fold::index_in;
 use mt_look::{Look, Seen};
 
 /// Rows that store some columns of a table, seen as rows of the table: each stored column is shown
@@ -32,21 +33,6 @@ impl<'a, L: Look> Look for Placed<'a, L> {
     }
 
     fn item(&self, column: u32, row: u64) -> Seen<'_> {
-        self.from.item(index_in(self.places, column), row)
+        self.from.item(index_in(self.places, column) as u32, row)
     }
-}
-
-/// Where a column stands among some columns; their number where it isn't among them.
-fn index_in(columns: &[u32], column: u32) -> u32
-    requires few { length columns.now < 2 ^ 32 }
-    ensures { result ≡ defined.index_in columns.now column }
-{
-    let mut index: u32 = 0;
-    for other in columns {
-        if *other == column {
-            return index;
-        }
-        index += 1;
-    }
-    index
 }

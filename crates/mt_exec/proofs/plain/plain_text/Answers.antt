@@ -1,6 +1,6 @@
 use Rattle.std.proofs.Common.{◌∙◌, ap}
 use Rattle.std.proofs.lemmas.Result.{IfOk-weaker}
-use Rattle.mt_proj.specs.Keys.{rows_in}
+use Rattle.mt_sort.specs.References.{rows_in}
 use Rattle.mt_exec.proofs.PlainLemmas.{plain_answers}
 use Rattle.mt_exec.proofs.plain.plain_text.Goals as goal
 

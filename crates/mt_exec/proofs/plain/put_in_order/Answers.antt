@@ -10,9 +10,9 @@ use Rattle.std.proofs.lemmas.List.Sorted.{ranks_by}
 use Rattle.mt_types.specs.Ordered.{values_total}
 use Rattle.mt_defs.specs.Rows.{Row}
 use Rattle.mt_fold.specs.Answer.{plain_item}
-use Rattle.mt_proj.specs.Keys.{rows_in}
-use Rattle.mt_proj.proofs.StableLemmas.{the_one}
-use Rattle.mt_proj.proofs.OrderLemmas.{map-sorted_by}
+use Rattle.mt_sort.specs.References.{rows_in}
+use Rattle.mt_sort.proofs.StableLemmas.{the_one}
+use Rattle.mt_sort.proofs.SortedLemmas.{map-sorted_by}
 use Rattle.mt_exec.specs.Plain.{items_cmp}
 use Rattle.mt_exec.proofs.plain.put_in_order.Goals as goal
 

@@ -7,7 +7,7 @@ use Rattle.std.proofs.lemmas.List.Sorted.{ranks_by}
 use Rattle.mt_types.specs.Order.{values_cmp}
 use Rattle.mt_types.specs.Ordered.{values_total}
 use Rattle.mt_defs.specs.Rows.{Row}
-use Rattle.mt_proj.proofs.StableLemmas.{the_one}
+use Rattle.mt_sort.proofs.StableLemmas.{the_one}
 use Rattle.mt_fold.proofs.answer.put_in_order.Goals as goal
 
 pub returns : goal.returns

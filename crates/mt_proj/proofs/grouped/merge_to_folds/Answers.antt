@@ -1,4 +1,4 @@
-use Rattle.mt_proj.specs.Keys.{rows_in}
+use Rattle.mt_sort.specs.References.{rows_in}
 use Rattle.mt_proj.proofs.WalkLemmas.{one_fails}
 use Rattle.mt_proj.proofs.grouped.merge_to_folds.Goals as goal
 

@@ -1,5 +1,5 @@
 use Rattle.std.proofs.Common.{take}
-use Rattle.mt_proj.specs.Keys.{rows_in}
+use Rattle.mt_sort.specs.References.{rows_in}
 use Rattle.mt_proj.specs.Runs.{MergeToFolds}
 use Rattle.mt_proj.proofs.grouped.merge_to_folds.Given as goal
 

@@ -3,7 +3,7 @@ use Rattle.std.proofs.lemmas.Result.{IfOk-weaker}
 use Rattle.mt_table.specs.declared.projection.Projection.TheVariants.{Grouped}
 use Rattle.mt_defs.specs.Rows.{key_of}
 use Rattle.mt_defs.specs.Writer.{projection_rows}
-use Rattle.mt_proj.specs.Keys.{rows_in}
+use Rattle.mt_sort.specs.References.{rows_in}
 use Rattle.mt_proj.specs.Runs.{rows_by_key}
 use Rattle.mt_proj.proofs.WalkLemmas.{sorted_in_order, rows_by_key_sorted}
 use Rattle.mt_proj.proofs.grouped.project_grouped.Goals as goal

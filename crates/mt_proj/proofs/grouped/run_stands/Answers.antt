@@ -3,11 +3,10 @@ use Rattle.std.specs.Ordering.{is_eq}
 use Rattle.mt_types.specs.Order.{values_cmp}
 use Rattle.mt_defs.specs.Projections.{stored_key}
 use Rattle.mt_defs.specs.Rows.{key_of}
-use Rattle.mt_proj.specs.Keys.{rows_in}
+use Rattle.mt_sort.specs.References.{rows_in}
 use Rattle.mt_proj.specs.Runs.{HaveOneKey}
-use Rattle.mt_proj.proofs.StableLemmas.{not_both}
-use Rattle.mt_proj.proofs.OrderLemmas.{one_key}
-use Rattle.mt_proj.proofs.RunLemmas.{same_keys}
+use Rattle.mt_sort.proofs.StableLemmas.{not_both}
+use Rattle.mt_sort.proofs.KeyLemmas.{one_key, same_keys}
 use Rattle.mt_proj.proofs.WalkLemmas.{one_key_at, some_rows}
 use Rattle.mt_proj.proofs.grouped.run_stands.Goals as goal
 

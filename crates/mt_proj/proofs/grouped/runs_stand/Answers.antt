@@ -1,7 +1,7 @@
 use Rattle.std.proofs.Common.{length}
 use Rattle.std.proofs.Math.Dec.{leb}
 use Rattle.std.proofs.lemmas.Bool.{leb-true, leb-false}
-use Rattle.mt_proj.proofs.StableLemmas.{not_both}
+use Rattle.mt_sort.proofs.StableLemmas.{not_both}
 use Rattle.mt_proj.proofs.WalkLemmas.{step_fails, step_holds, walk_ends}
 use Rattle.mt_proj.proofs.grouped.runs_stand.Goals as goal
 

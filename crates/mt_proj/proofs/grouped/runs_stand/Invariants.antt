@@ -1,6 +1,6 @@
 use Rattle.std.proofs.Common.{◌≤◌, ◌-◌, ◌↔◌, length, drop}
 use Rattle.mt_defs.specs.Projections.{FoldsRows}
-use Rattle.mt_proj.specs.Keys.{rows_in}
+use Rattle.mt_sort.specs.References.{rows_in}
 use Rattle.mt_proj.proofs.grouped.runs_stand.Given as goal
 
 -- what is left decides

@@ -2,7 +2,7 @@ use Rattle.std.proofs.Common.{◌≡◌, ◌↔◌, ap, ◌∙◌, subst}
 use Rattle.std.specs.Prelude.{IsTrue}
 use Rattle.mt_defs.specs.Projections.{FoldsRows, stored_key}
 use Rattle.mt_defs.specs.Rows.{key_of}
-use Rattle.mt_proj.specs.Keys.{rows_in}
+use Rattle.mt_sort.specs.References.{rows_in}
 use Rattle.mt_proj.proofs.WalkLemmas.{sorted_in_order, stands_sorted}
 use Rattle.mt_proj.proofs.grouped.stands_grouped.Goals as goal
 

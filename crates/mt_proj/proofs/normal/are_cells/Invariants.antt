@@ -2,7 +2,7 @@ use Rattle.std.proofs.Common.{◌≡◌, drop, map}
 use Rattle.std.specs.Cmp.Lexicographic.{slice_cmp}
 use Rattle.mt_types.specs.Order.{values_cmp}
 use Rattle.mt_defs.specs.Rows.{key_of}
-use Rattle.mt_proj.specs.Keys.{rows_in}
+use Rattle.mt_sort.specs.References.{rows_in}
 use Rattle.mt_proj.proofs.normal.are_cells.Given as goal
 
 -- what is left decides

@@ -2,7 +2,8 @@ use Rattle.std.proofs.Common.{◌≡◌, ◌↔◌, map, ap, ◌∙◌, subst}
 use Rattle.std.specs.Prelude.{IsTrue, IsPermutation}
 use Rattle.mt_defs.specs.Projections.{stored_columns}
 use Rattle.mt_defs.specs.Rows.{key_of}
-use Rattle.mt_proj.specs.Keys.{rows_in, columns_below}
+use Rattle.mt_sort.specs.References.{rows_in}
+use Rattle.mt_proj.specs.Keys.{columns_below}
 use Rattle.mt_proj.proofs.NormalLemmas.{selection_stands}
 use Rattle.mt_proj.proofs.normal.stands_normal.Goals as goal
 

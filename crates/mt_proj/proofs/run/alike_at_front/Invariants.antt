@@ -1,5 +1,6 @@
 use Rattle.std.proofs.Common.{◌≡◌, ◌+◌, drop}
-use Rattle.mt_proj.specs.Keys.{key_in, rows_in}
+use Rattle.mt_sort.specs.References.{rows_in}
+use Rattle.mt_proj.specs.Keys.{key_in}
 use Rattle.mt_proj.specs.Runs.{alike_at_front}
 use Rattle.mt_proj.proofs.run.alike_at_front.Given as goal
 

@@ -8,7 +8,7 @@ use Rattle.std.proofs.lemmas.Fn.{always_returns_same}
 use Rattle.std.proofs.lemmas.List.Sorted.{ranks_by}
 use Rattle.mt_types.specs.Ordered.{values_total}
 use Rattle.mt_defs.specs.Rows.{Row, key_of, key_cmp}
-use Rattle.mt_proj.proofs.StableLemmas.{the_one}
+use Rattle.mt_sort.proofs.StableLemmas.{the_one}
 use Rattle.mt_proj.proofs.sorting.sort_rows.Goals as goal
 
 pub returns : goal.returns

@@ -12,9 +12,10 @@ use Rattle.mt_types.specs.Order.{values_cmp}
 use Rattle.mt_types.specs.Ordered.{values_total}
 use Rattle.mt_defs.specs.Rows.{Row}
 use Rattle.mt_defs.specs.Sorting.{sorted_by}
-use Rattle.mt_proj.specs.Keys.{key_in, rows_in}
-use Rattle.mt_proj.proofs.StableLemmas.{the_one}
-use Rattle.mt_proj.proofs.OrderLemmas.{map-sorted_by}
+use Rattle.mt_sort.specs.References.{rows_in}
+use Rattle.mt_proj.specs.Keys.{key_in}
+use Rattle.mt_sort.proofs.StableLemmas.{the_one}
+use Rattle.mt_sort.proofs.SortedLemmas.{map-sorted_by}
 use Rattle.mt_proj.proofs.sorting.sorted_refs.Goals as goal
 
 pub returns : goal.returns

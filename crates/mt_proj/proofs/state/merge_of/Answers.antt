@@ -6,7 +6,7 @@ use Rattle.mt_types.specs.declared.value.Value.{out-Value}
 use Rattle.mt_defs.specs.Folds.{merge_upon, join}
 use Rattle.mt_defs.specs.Projections.{state_at}
 use Rattle.mt_defs.specs.Rows.{Row, cell}
-use Rattle.mt_proj.specs.Keys.{rows_in}
+use Rattle.mt_sort.specs.References.{rows_in}
 use Rattle.mt_proj.proofs.WalkLemmas.{merge_more}
 use Rattle.mt_proj.proofs.state.merge_of.Goals as goal
 

@@ -3,7 +3,7 @@ use Rattle.mt_types.specs.declared.value.Value.{out-Value}
 use Rattle.mt_defs.specs.Folds as defined
 use Rattle.mt_defs.specs.Projections.{state_at}
 use Rattle.mt_defs.specs.Rows.{cell}
-use Rattle.mt_proj.specs.Keys.{rows_in}
+use Rattle.mt_sort.specs.References.{rows_in}
 use Rattle.mt_proj.proofs.state.merge_of.Given as goal
 
 -- what is left decides
