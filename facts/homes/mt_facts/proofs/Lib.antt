@@ -1,0 +1,6 @@
+pub mod Truth
+pub mod Orderings
+pub mod Numbers
+pub mod Lists
+pub mod Splits
+pub mod Digits
