@@ -20,7 +20,7 @@ fixed_read : (k : Kind) (bytes : List ℕ) → size_of k ≤ length bytes → fi
 fixed_read k bytes long = ap (λ (b : Bool). read_as (value_of k) (require b Short >>= λ _. Ok (take (size_of k) bytes, drop (size_of k) bytes))) (le-leb (size_of k) (length bytes) long)
 
 fixed_short : (k : Kind) (bytes : List ℕ) → length bytes < size_of k → fixed_front k bytes ≡ Err Short
-fixed_short k bytes short = ap (λ (b : Bool). read_as (value_of k) (require b Short >>= λ _. Ok (take (size_of k) bytes, drop (size_of k) bytes))) (lt-leb (length bytes) (size_of k) short)
+fixed_short k bytes short = ap (λ (b : Bool). read_as (value_of k) (require b Short >>= λ _. Ok (take (size_of k) bytes, drop (size_of k) bytes))) (lt-leb (size_of k) (length bytes) short)
 
 -- what follows the first item
 abbrev behind : Kind → ℕ → ℕ → First Value → ReadItems Value
@@ -92,7 +92,7 @@ within_room count room size length' few long = let m : count * size ≤ room * s
 
 -- and no more than these
 pub no_more_room : (n size : ℕ) → 1 ≤ size → n < (n / size + 1) * size
-no_more_room n size some = after (n / size) (lt-div-mul-add {n} {size} (omega (arith, some)))
+no_more_room n size some = after (n / size) (lt-div-mul-add {a = n} {b = size} (omega (arith, some)))
   where
     after : (m : ℕ) → n < m * size + size → n < (m + 1) * size
     after m less = omega (arith, less)
