@@ -1,12 +1,11 @@
 -- Items of a fixed width, one after another.
-use Rattle.std.proofs.Common.{◌≡◌, ℕ, zero, suc, ◌+◌, ◌-◌, ◌*◌, ◌/◌, ◌<◌, ◌≤◌, Bool, true, false, List, [], ◌∷◌, length, take, drop, map, refl, ap, sym, ◌∙◌, arith, length-drop}
-use Rattle.std.specs.Prelude.{Result, Ok, Err, nat_le}
+use Rattle.std.proofs.Common.{◌≡◌, ℕ, zero, suc, ◌+◌, ◌*◌, ◌/◌, ◌<◌, ◌≤◌, Bool, List, [], ◌∷◌, length, take, drop, map, ap, sym, ◌∙◌, arith, length-drop}
+use Rattle.std.specs.Prelude.{Ok, Err}
 use Rattle.std.proofs.lemmas.Bool.{le-leb, lt-leb}
 use Rattle.std.proofs.lemmas.List.{drop-drop, take_all}
 use Rattle.std.proofs.Math.Nat.{lt-div-mul-add, mul-le-mul_right}
 use Rattle.mt_types.specs.declared.value.Value.{Value}
 use Rattle.mt_types.specs.Steps.{◌>>=◌, at, require}
-use Rattle.mt_item.specs.declared.fault.CodecWhy.{CodecWhy}
 use Rattle.mt_item.specs.declared.fault.CodecWhy.TheVariants.{Short}
 use Rattle.mt_item.specs.ItemReading.{First, read_as}
 use Rattle.mt_cells.specs.declared.kind.Kind.{Kind}

@@ -1,6 +1,6 @@
 -- What the items of a type stand for, and the column that they make.
-use Rattle.std.proofs.Common.{◌≡◌, ℕ, suc, ◌+◌, ◌<◌, ◌≤◌, ◌^◌, Bool, true, false, List, [], ◌∷◌, length, refl, ap, sym, ◌∙◌, subst, arith, add-one}
-use Rattle.std.specs.Prelude.{Result, Ok, Err, Option, Some, None, nat_le, ◌&&◌, if◌then◌else◌, pos}
+use Rattle.std.proofs.Common.{◌≡◌, ℕ, suc, ◌+◌, ◌≤◌, ◌^◌, Bool, true, false, List, [], ◌∷◌, length, refl, ap, sym, ◌∙◌, subst, arith, add-one}
+use Rattle.std.specs.Prelude.{Ok, Err, Option, Some, None, nat_le, ◌&&◌, if◌then◌else◌, pos}
 use Rattle.std.specs.Int.{byte_len, cast_signed, from_le_bytes}
 use Rattle.std.proofs.lemmas.Bool.{and_parts, leb-true, ltb-true}
 use Rattle.mt_types.specs.declared.limits.TheConstants.{MAX_FIXED_STRING}
@@ -10,13 +10,11 @@ use Rattle.mt_types.specs.declared.ty.Ty.{Ty, map-Ty, out-Ty}
 use Rattle.mt_types.specs.declared.ty.Ty.TheOpen.{Ty-F}
 use Rattle.mt_types.specs.declared.ty.Ty.TheVariants.{Array, Nullable, Str, outs-Array, outs-Nullable, outs-Str}
 use Rattle.mt_types.specs.declared.value.Value.{Value}
-use Rattle.mt_types.specs.declared.value.Value.TheVariants.{Num}
 use Rattle.mt_types.specs.Fits.{bits, number_value}
 use Rattle.mt_types.specs.Items.{width}
 use Rattle.mt_types.specs.Numbers.{width_size}
 use Rattle.mt_types.specs.Profile.{Plain, Unknown, is_known, is_profile}
 use Rattle.mt_types.proofs.Levels.{kind_at, same_level}
-use Rattle.mt_item.specs.declared.fault.CodecWhy.{CodecWhy}
 use Rattle.mt_item.specs.ItemReading.{First, bytes_front, item_front, item_front_at, read_as, whole_front}
 use Rattle.mt_item.specs.ItemTypes.{has_items, has_items_at}
 use Rattle.mt_item.proofs.LengthLemmas.{Small}
@@ -26,7 +24,7 @@ use Rattle.mt_cells.specs.declared.kind.Kind.TheVariants.{Signed, Text, Unsigned
 use Rattle.mt_cells.specs.Items.{ItemKind, OfCells, OfStates, OfTexts}
 use Rattle.mt_cells.specs.Kinds.{size_of, value_of}
 use Rattle.mt_columns.specs.Nesting.{Columned, has_arrays, nested_values}
-use Rattle.mt_columns.specs.Shapes.{IsOfType, Shape, plain_shape, shape_in, shape_of, shape_step}
+use Rattle.mt_columns.specs.Shapes.{IsOfType, Shape, plain_shape, shape_of, shape_step}
 use Rattle.mt_columns.proofs.ShapeLemmas.{shape_at}
 use Rattle.mt_column_codec.specs.FixedItems.{fixed_front}
 

@@ -1,15 +1,13 @@
 -- Null maps that are read.
-use Rattle.std.proofs.Common.{◌≡◌, ℕ, zero, suc, ◌+◌, ◌≤◌, Bool, true, false, List, [], ◌∷◌, length, refl, ap, sym, ◌∙◌, subst}
-use Rattle.std.specs.Prelude.{Result, Ok, Err, nat_le, ◌==◌}
+use Rattle.std.proofs.Common.{◌≡◌, ℕ, zero, suc, ◌+◌, ◌≤◌, Bool, List, [], ◌∷◌, refl, ap, sym, ◌∙◌, subst}
+use Rattle.std.specs.Prelude.{Ok, nat_le, ◌==◌}
 use Rattle.std.specs.List.{All}
 use Rattle.std.proofs.lemmas.Bool.{leb-true}
 use Rattle.std.proofs.lemmas.List.Elements.{All-cons, All-nil}
 use Rattle.mt_types.specs.declared.value.Value.{Value}
-use Rattle.mt_types.specs.Steps.{◌>>=◌, require}
+use Rattle.mt_types.specs.Steps.{◌>>=◌}
 use Rattle.mt_types.proofs.StepLemmas.{at_ok_then, ok_one, ok_pair, ok_then, required}
-use Rattle.mt_item.specs.declared.fault.CodecWhy.{CodecWhy}
 use Rattle.mt_item.specs.declared.fault.CodecWhy.TheVariants.{NullByte}
-use Rattle.mt_item.specs.ItemReading.{First}
 use Rattle.mt_codec.specs.ColumnReading.{after_items, items_from, null_front, nulled, stream_from}
 use Rattle.mt_codec.proofs.LoopLemmas.{items_next, items_none}
 use Rattle.mt_codec.proofs.StreamLemmas.{stream_next, stream_none}

@@ -1,6 +1,6 @@
-//! Columns in memory and their substreams: bytes become a column, and a column bytes.
+//! The serialization of columns in memory.
 //!
-//! Both ways are exactly those of `mt_codec` on the list of the column's values, with the same faults; items of
+//! A range of a column gives exactly the substreams that `mt_codec` gives of the list of its values; items of
 //! a fixed width are moved as one slice.
 #![tactic(auto)]
 
