@@ -38,3 +38,10 @@ array_values levels levels' values is = ap (λ (ls : List (List ℕ)). nested_va
 
 pub array_nested : (levels levels' : List (List ℕ)) (values : List Value) → levels' ≡ [] ∷ levels → nested_values levels values ≡ [] → AreNested levels values → AreNested levels' values
 array_nested levels levels' values is e nested = subst (λ (ls : List (List ℕ)). AreNested ls values) (sym is) (ap (λ (vs : List Value). length vs) e, nested)
+
+-- a level of arrays around
+pub around_values : (sizes : List ℕ) (levels levels' : List (List ℕ)) (values : List Value) → levels' ≡ sizes ∷ levels → nested_values levels' values ≡ map (λ (xs : List Value). Items xs) (cut sizes (nested_values levels values))
+around_values sizes levels levels' values is = ap (λ (ls : List (List ℕ)). nested_values ls values) is
+
+pub around_nested : (sizes : List ℕ) (levels levels' : List (List ℕ)) (values : List Value) → levels' ≡ sizes ∷ levels → length (nested_values levels values) ≡ sum sizes → AreNested levels values → AreNested levels' values
+around_nested sizes levels levels' values is many nested = subst (λ (ls : List (List ℕ)). AreNested ls values) (sym is) (many, nested)

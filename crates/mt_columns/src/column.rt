@@ -1,9 +1,10 @@
 //! The values of one column of any type.
 
-ghost use Rattle.std.specs.Prelude.{All, map, true, ◌+◌, ◌≡◌, ◌++◌, ◌∷◌, [], ◌-◌, ◌<◌, ◌≤◌, length, take, drop, IfOk, IsTrue, OnOk, OnErr, ◌↔◌, ◌==◌, slice_index_or, replicate};
-ghost use Rattle.mt_types.specs.declared.value.Value.TheVariants.{Null};
+ghost use Rattle.std.specs.Prelude.{All, map, true, ◌+◌, ◌≡◌, ◌++◌, ◌∷◌, [], ◌-◌, ◌<◌, ◌≤◌, length, take, drop, IfOk, IsTrue, OnOk, OnErr, ◌↔◌, ◌==◌, slice_index_or, replicate, sum};
+ghost use Rattle.mt_types.specs.declared.value.Value.TheVariants.{Null, List as Items};
 ghost use Rattle.mt_types.specs.Order.{value_cmp};
 ghost use Rattle.mt_cells.specs.Items.{is_narrow_kind};
+ghost use Rattle.mt_cells.specs.Pieces.{cut};
 ghost use Rattle.mt_columns.specs.Leaves.{AreNotHuge};
 ghost use Rattle.mt_columns.specs.Nesting.{AreAlike, AreNested, fits_column, nested_values};
 ghost use Rattle.mt_columns.specs.Shapes.{IsOfType};
@@ -62,6 +63,19 @@ impl Column {
         Ok(Column { levels, leaf })
     }
 
+    /// The values of a leaf, inside no array. It takes no memory.
+    pub fn flat(alloc: Global, leaf: Leaf) -> Column
+        ensures depth { result.depth ≡ 0 }
+        ensures nullable { result.nullable ≡ leaf.nullable }
+        ensures kind { result.kind ≡ leaf.kind }
+        ensures values { result.values ≡ leaf.values }
+    {
+        Column {
+            levels: Vec::new(alloc),
+            leaf,
+        }
+    }
+
     /// The column without values, of items that may be NULL.
     pub fn optional(self, alloc: Global) -> Column
         requires { self.values ≡ [] }
@@ -87,6 +101,20 @@ impl Column {
     {
         let Column { mut levels, leaf } = self;
         levels.insert(0, Sizes::new(alloc))?;
+        Ok(Column { levels, leaf })
+    }
+
+    /// The arrays of these sizes, whose elements its values are one after another. On `NoMemory` it is
+    /// dropped.
+    pub fn arrays(self, sizes: Sizes) -> Result<Column, NoMemory>
+        requires { length self.values ≡ sum sizes }
+        ensures depth { IfOk result (λ column. column.depth ≡ self.depth + 1) }
+        ensures nullable { IfOk result (λ column. column.nullable ≡ self.nullable) }
+        ensures kind { IfOk result (λ column. column.kind ≡ self.kind) }
+        ensures values { IfOk result (λ column. column.values ≡ map (λ items. Items items) (cut sizes self.values)) }
+    {
+        let Column { mut levels, leaf } = self;
+        levels.insert(0, sizes)?;
         Ok(Column { levels, leaf })
     }
 
