@@ -1,0 +1,3 @@
+pub mod OrderLemmas
+pub mod MarkedLemmas
+pub mod ReadyLemmas
