@@ -1,12 +1,14 @@
 //! The bounds of a part's rows, by the files of its partition key's columns.
 
-ghost use Rattle.std.specs.Prelude.{◌≡◌, ◌<◌, length, Option, Some, None, IfOk, IfSome, IsTrue};
-ghost use Rattle.mt_cond.specs.declared.types.Interval.{Interval};
+ghost use Rattle.std.specs.Prelude.{◌≡◌, ◌<◌, length, option_map, IfOk, IsTrue};
+ghost use Rattle.mt_item.specs.Results.{IsFirst};
+ghost use Rattle.mt_types.specs.Fits.{fits_of};
+ghost use Rattle.mt_types.specs.Items.{item_bytes};
 ghost use Rattle.mt_defs.specs.Folder.{folder_of};
 ghost use Rattle.mt_defs.specs.Partition.{expression_column};
 ghost use Rattle.mt_item.specs.ItemTypes.{has_items};
 ghost use Rattle.mt_table.specs.Stored.{column_at};
-ghost use Rattle.mt_plan_known.specs.Bounds.{AreEnds, IsBox, TellsSide};
+ghost use Rattle.mt_plan_known.specs.Bounds.{IsBox, ReadsEnds, TellsSide, ends_between};
 ghost use Rattle.mt_plan_known.specs.Finding.{Finds};
 
 use mt_cond::{End, Interval, Side};
@@ -15,7 +17,7 @@ use mt_files::bytes_of;
 use mt_item::{ItemError, read_item};
 use mt_names::minmax_name;
 use mt_table::{PartExpr, Table};
-use mt_types::{List, NoMemory, Ty, compare};
+use mt_types::{List, NoMemory, Ty, Value, compare};
 use std::alloc::Global;
 use std::cmp::Ordering;
 
@@ -62,24 +64,45 @@ fn read_side(
 /// The interval between two values, if the bytes are two, the first not above the second.
 fn read_ends(alloc: Global, ty: &Ty, bytes: &[u8]) -> Result<Option<Interval>, NoMemory>
     requires { IsTrue (has_items ty.now) }
-    ensures found { IfOk result (λ read. IfSome read (AreEnds ty.now bytes.now)) }
-    ensures only { (interval : Interval) → AreEnds ty.now bytes.now interval → IfOk result (λ read. read ≡ Some interval) }
+    ensures { IfOk result (ReadsEnds ty.now bytes.now) }
 {
-    let (low, rest) = match read_item(alloc, ty, bytes) {
-        Ok(first) => first,
-        Err(ItemError::Bad(_)) => return Ok(None),
-        Err(ItemError::NoMemory) => return Err(NoMemory),
+    let Some((low, rest)) = read_first(alloc, ty, bytes)? else {
+        return Ok(None);
     };
-    let (high, after) = match read_item(alloc, ty, rest) {
-        Ok(second) => second,
-        Err(ItemError::Bad(_)) => return Ok(None),
-        Err(ItemError::NoMemory) => return Err(NoMemory),
+    let Some((high, after)) = read_first(alloc, ty, rest)? else {
+        return Ok(None);
     };
-    if !after.is_empty() || compare(&low, &high) == Ordering::Greater {
+    if !after.is_empty() {
         return Ok(None);
     }
-    Ok(Some(Interval {
+    Ok(between(low, high))
+}
+
+/// The value with which bytes begin, and what follows it.
+fn read_first<'a>(
+    alloc: Global,
+    ty: &Ty,
+    bytes: &'a [u8],
+) -> Result<Option<(Value, &'a [u8])>, NoMemory>
+    requires { IsTrue (has_items ty.now) }
+    ensures { IfOk result (λ read. IsFirst (fits_of ty.now) (item_bytes ty.now) bytes.now (option_map (λ first. (first.0, first.1.now)) read)) }
+{
+    match read_item(alloc, ty, bytes) {
+        Ok(first) => Ok(Some(first)),
+        Err(ItemError::Bad(_)) => Ok(None),
+        Err(ItemError::NoMemory) => Err(NoMemory),
+    }
+}
+
+/// The interval between two values, if the first isn't above the second.
+fn between(low: Value, high: Value) -> Option<Interval>
+    ensures { result ≡ ends_between low high }
+{
+    if compare(&low, &high) == Ordering::Greater {
+        return None;
+    }
+    Some(Interval {
         lo: End::At(low),
         hi: End::At(high),
-    }))
+    })
 }

@@ -1,6 +1,6 @@
 //! The entries of a skip index, judged one after another.
 
-ghost use Rattle.std.specs.Prelude.{◌≡◌, Bool, List as Seq, Option, Some, None, take, option_map, IfOk, IfSome, IsTrue};
+ghost use Rattle.std.specs.Prelude.{◌≡◌, ◌<◌, length, Bool, List as Seq, Option, Some, None, take, option_map, IfOk, IfSome, IsTrue};
 ghost use Rattle.mt_item.specs.ItemTypes.{has_items};
 ghost use Rattle.mt_match.specs.Matching.{JudgesEntry};
 ghost use Rattle.mt_table.specs.Rows.{Pointwise};
@@ -42,7 +42,8 @@ pub(crate) fn judge_entries(
 
 /// The first of the entries that begin at some positions, and where the others begin.
 fn first_entry<'a>(payload: &'a [u8], positions: &'a [u64]) -> Option<(&'a [u8], &'a [u64])>
-    ensures { IsFirstEntry payload.now positions.now (option_map (λ first. (first.0.now, first.1.now)) result) }
+    ensures first { IsFirstEntry payload.now positions.now (option_map (λ first. (first.0.now, first.1.now)) result) }
+    ensures shorter { IfSome result (λ first. length first.1.now < length positions.now) }
 {
     let (position, later) = positions.split_first()?;
     let (_, rest) = payload.split_at(payload.len().min(*position as usize));

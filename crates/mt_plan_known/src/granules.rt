@@ -38,14 +38,20 @@ pub(crate) fn read_granules(
     let compact = is_compact(files);
     let name = granules_name(alloc, definition.columns.as_slice(), order, compact)?;
     let bytes = bytes_of(alloc, files, name.as_slice())?;
-    let per_entry = if compact { order.len() as u64 } else { 1 };
-    match marked_rows(alloc, bytes, per_entry)? {
+    match marked_rows(alloc, bytes, marks_each(order, compact))? {
         Some(rows) => match granules_of(alloc, rows.as_slice(), count)? {
             Some(granules) => Ok(granules),
             None => Err(file_fault(alloc, name.as_slice(), Why::Rows)),
         },
         None => Err(file_fault(alloc, name.as_slice(), Why::Length)),
     }
+}
+
+/// How many marks an entry has.
+fn marks_each(order: &[u32], compact: bool) -> u64
+    ensures { result ≡ marks_each order.now compact }
+{
+    if compact { order.len() as u64 } else { 1 }
 }
 
 /// The rows of the entries of a marks file, if it is a whole number of entries.
@@ -68,12 +74,24 @@ fn granules_of(alloc: Global, rows: &[u64], count: u64) -> Result<Option<List<u6
     let Some((last, granules)) = rows.split_last() else {
         return Ok(None);
     };
-    if *last != 0 || !is_marked(granules, count) {
+    if *last != 0 {
         return Ok(None);
     }
-    let mut copied = List::with_capacity(alloc, granules.len())?;
-    copied.append(granules)?;
-    Ok(Some(copied))
+    if !is_marked(granules, count) {
+        return Ok(None);
+    }
+    Ok(Some(copied(alloc, granules)?))
+}
+
+/// A copy of some numbers.
+fn copied(alloc: Global, numbers: &[u64]) -> Result<List<u64>, NoMemory>
+    ensures { IfOk result (λ copied. copied ≡ numbers.now) }
+{
+    let mut copied = List::with_capacity(alloc, numbers.len())?;
+    for number in numbers {
+        copied.push(*number)?;
+    }
+    Ok(copied)
 }
 
 /// Whether each of some granules has a row, and they have so many together.
