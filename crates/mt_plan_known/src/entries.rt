@@ -30,14 +30,16 @@ pub(crate) fn judge_entries(
 {
     let mut judged = List::with_capacity(alloc, entries.positions.len())?;
     let mut ahead = entries.positions.as_slice();
-    while let Some((entry, later)) = first_entry(entries.payload.as_slice(), ahead) {
-        match may_match(alloc, cond, skip, ty, entry)? {
-            Some(may) => judged.push(may)?,
-            None => return Ok(None),
-        }
+    'entries: loop {
+        let Some((entry, later)) = first_entry(entries.payload.as_slice(), ahead) else {
+            return Ok(Some(judged));
+        };
+        let Some(may) = may_match(alloc, cond, skip, ty, entry)? else {
+            return Ok(None);
+        };
+        judged.push(may)?;
         ahead = later;
     }
-    Ok(Some(judged))
 }
 
 /// The first of the entries that begin at some positions, and where the others begin.

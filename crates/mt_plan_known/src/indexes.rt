@@ -53,10 +53,11 @@ fn judge_used(
     requires skip { IsSkip table.now.columns skip.now }
     ensures { Finds (JudgesUsed table.now (folder_of files.now) cond.now granules skip.now) result }
 {
-    if is_used(alloc, cond, compact, skip, files)? {
-        return judge_index(alloc, table, cond, compact, granules, skip, files);
+    let used = is_used(alloc, cond, compact, skip, files)?;
+    if !used {
+        return Ok(List::new(alloc));
     }
-    Ok(List::new(alloc))
+    judge_index(alloc, table, cond, compact, granules, skip, files)
 }
 
 /// Whether an index is used.
