@@ -12,8 +12,8 @@ use Rattle.mt_cond.specs.declared.types.Side.{Side}
 use Rattle.mt_cond.specs.Cover.{may_hold_of}
 use Rattle.mt_cond.specs.Masks.{mask_of}
 use Rattle.mt_plan_known.specs.declared.known.Known.{Known}
-use Rattle.mt_plan_known.specs.Bounds.{IsBox}
-use Rattle.mt_plan_known.specs.Judging.{JudgesAll}
+use Rattle.mt_plan_judging.specs.Bounds.{IsBox}
+use Rattle.mt_plan_judging.specs.Judging.{JudgesAll}
 
 -- the columns of the table's primary key
 abbrev pub primary_columns : Table → List KeyColumn
