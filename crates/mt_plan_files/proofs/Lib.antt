@@ -1,0 +1,4 @@
+pub mod TakenLemmas
+pub mod ListedLemmas
+pub mod CostLemmas
+pub mod NameLemmas
