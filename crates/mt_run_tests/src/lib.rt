@@ -9,3 +9,7 @@ mod commands;
 mod failures;
 #[cfg(test)]
 mod objects;
+#[cfg(test)]
+mod pair_gate;
+#[cfg(test)]
+mod rounds;

@@ -1,0 +1,3 @@
+mod ResultLemmas
+pub mod RoundLemmas
+mod Turns
