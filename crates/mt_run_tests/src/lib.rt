@@ -10,4 +10,8 @@ mod failures;
 #[cfg(test)]
 mod objects;
 #[cfg(test)]
+mod pair_gate;
+#[cfg(test)]
+mod rounds;
+#[cfg(test)]
 mod swaps;
