@@ -1,5 +1,5 @@
 -- Rows by rank and then by key are in key order.
-use Rattle.std.proofs.Common.{◌≡◌, ℕ, ◌+◌, ◌<◌, Bool, true, false, cond, List, [], ◌∷◌, ◌++◌, map, get_or, refl, ap, sym, ◌∙◌, subst, arith, inl, inr}
+use Rattle.std.proofs.Common.{◌≡◌, ℕ, ◌+◌, ◌<◌, Bool, true, false, cond, List, [], ◌∷◌, ◌++◌, map, get_or, refl, ap, ap₂, sym, ◌∙◌, subst, arith, inl, inr}
 use Rattle.std.specs.Prelude.{◌==◌, if◌then◌else◌}
 use Rattle.std.specs.Borrow.{Bor}
 use Rattle.std.specs.Cmp.{IsTotalOrder, ranked}
@@ -10,7 +10,7 @@ use Rattle.std.specs.declared.cmp.Ordering.{Ordering}
 use Rattle.std.specs.declared.cmp.Ordering.TheVariants.{Less, Equal, Greater}
 use Rattle.std.proofs.lemmas.Bool.{cases_Bool, eqb-true, not-true}
 use Rattle.std.proofs.lemmas.Cmp.{nat_cmp_total, then_total, on_total}
-use Rattle.std.proofs.lemmas.List.Elements.{All-head}
+use Rattle.std.proofs.lemmas.List.Elements.{All-head, All-tail}
 use Rattle.std.proofs.lemmas.List.FromFn.{map-range_with_len_more, get_or-range_with_len, length-range_with_len}
 use Rattle.mt_types.specs.declared.ty.Width.TheVariants.{W8, W16, W32, W64, W128}
 use Rattle.mt_types.specs.declared.value.Value.{out-Value}
@@ -25,19 +25,14 @@ use Rattle.mt_columns.specs.Nesting.{Columned}
 use Rattle.mt_blocks.specs.declared.rank.Scale.{Scale}
 use Rattle.mt_blocks.specs.declared.rank.Scale.TheVariants.{Numbers, Wide, Texts}
 use Rattle.mt_blocks.specs.declared.sort.Place.{Place}
+use Rattle.mt_blocks.specs.declared.sort.Scales.{Scales}
 use Rattle.mt_blocks.specs.Ranks.{IsRanked, is_decided, kind_scale, rank_in, scale_of, value_rank}
 use Rattle.mt_blocks.specs.Rows.{indexes}
-use Rattle.mt_blocks.specs.Sorting.{key_at, index_cmp, first_rank, second_rank, place_at, place_cmp, tied_cmp}
+use Rattle.mt_blocks.specs.Sorting.{key_at, index_cmp, first_rank, second_rank, place_at, place_cmp, first_scale, scales_of, tied_cmp, untold, untold_behind, untold_key}
 use Rattle.mt_blocks.proofs.RankLemmas.{values_rise, values_tie}
 use Rattle.mt_sort.proofs.SortedLemmas.{map-sorted_by}
 use Rattle.mt_blocks.proofs.SortedLemmas.{sorted_same}
 use Rattle.mt_sort.proofs.StableLemmas.{the_one}
-
--- a comparison that the whole agrees with, where it does not tie, goes before the whole
-then_whole : (r whole : Ordering) → (r ≡ Less → whole ≡ Less) → (r ≡ Greater → whole ≡ Greater) → ordering_then r whole ≡ whole
-then_whole Less whole less greater = sym (less refl)
-then_whole Equal whole less greater = refl
-then_whole Greater whole less greater = sym (greater refl)
 
 keys_total : (columns : List (Bor Columned)) → IsTotalOrder (index_cmp columns)
 keys_total columns = on_total (key_at columns) values_total
@@ -133,27 +128,76 @@ then_tied Less rest whole less greater equal = sym (less refl)
 then_tied Equal rest whole less greater equal = equal refl
 then_tied Greater rest whole less greater equal = sym (greater refl)
 
-module _ (columns : List (Bor Columned)) (known : All (λ (c : Bor Columned). IsRanked c.now) columns) where
-  pub places_total : IsTotalOrder (place_cmp columns)
-  places_total = then_total (on_total (λ (p : Place). p.rank) nat_cmp_total) (then_total (on_total (λ (p : Place). p.second) nat_cmp_total) (on_total (λ (p : Place). p.index) (keys_total columns)))
+-- ---- what ranks that tie don't tell
 
-  places_agree : (a b : ℕ) → place_cmp columns (place_at columns a) (place_at columns b) ≡ index_cmp columns a b
+-- rows of one decided rank compare as without the column
+first_ties : (column : Bor Columned) (columns : List (Bor Columned)) (a b : ℕ) → IsRanked column.now → is_decided (scale_of column.now) (rank_in column.now a) ≡ true → rank_in column.now a ≡ rank_in column.now b
+    → index_cmp (column ∷ columns) a b ≡ index_cmp columns a b
+first_ties column columns a b known d same = ap (λ o. ordering_then o (values_cmp (key_at columns a) (key_at columns b))) (column_tie column.now a b known d same)
+
+second_untold : (columns : List (Bor Columned)) (a b : ℕ) → All (λ (c : Bor Columned). IsRanked c.now) columns → first_rank columns a ≡ first_rank columns b
+    → index_cmp (untold_behind columns (first_scale columns) (first_rank columns a)) a b ≡ index_cmp columns a b
+second_untold [] a b known same = refl
+second_untold (column ∷ columns) a b known same =
+    let behind : Bool → Ordering = λ d. index_cmp (cond d columns (column ∷ columns)) a b in
+    elim (cases_Bool (is_decided (scale_of column.now) (rank_in column.now a))) [
+      | inl one ↦ ap behind one ∙ sym (first_ties column columns a b (All-head (λ (c : Bor Columned). IsRanked c.now) column columns known) one same)
+      | inr many ↦ ap behind many
+    ]
+
+-- what the ranks of one row don't tell decides, where those of another tie
+untold_whole : (columns : List (Bor Columned)) (a b : ℕ) → All (λ (c : Bor Columned). IsRanked c.now) columns → first_rank columns a ≡ first_rank columns b → second_rank columns (first_rank columns a) a ≡ second_rank columns (first_rank columns b) b
+    → index_cmp (untold columns (scales_of columns) (first_rank columns a) (second_rank columns (first_rank columns a) a)) a b ≡ index_cmp columns a b
+untold_whole [] a b known same e = refl
+untold_whole (column ∷ columns) a b known same e =
+    let decided : ℕ → Bool = is_decided (scale_of column.now) in
+    let x = first_rank columns a in
+    let y = first_rank columns b in
+    let behind : Bool → Ordering = λ d. index_cmp (cond d (untold_behind columns (first_scale columns) (cond d x 0)) (column ∷ columns)) a b in
+    elim (cases_Bool (decided (rank_in column.now a))) [
+      | inl one ↦
+          (let next : x ≡ y = sym (ap (λ (d : Bool). cond d x 0) one) ∙ e ∙ ap (λ (d : Bool). cond d y 0) (ap decided (sym same) ∙ one) in
+          ap behind one ∙ second_untold columns a b (All-tail (λ (c : Bor Columned). IsRanked c.now) column columns known) next
+          ∙ sym (first_ties column columns a b (All-head (λ (c : Bor Columned). IsRanked c.now) column columns known) one same))
+      | inr many ↦ ap behind many
+    ]
+
+-- it is compared on either side by the ranks of that side
+pub untold_both : (columns : List (Bor Columned)) (scales : Scales) (a b : Place) → a.rank ≡ b.rank → a.second ≡ b.second
+    → index_cmp (untold columns scales a.rank a.second) a.index b.index ≡ values_cmp (untold_key columns scales a) (untold_key columns scales b)
+untold_both columns scales a b ranks seconds =
+    ap₂ (λ (r s : ℕ). values_cmp (untold_key columns scales a) (key_at (untold columns scales r s) b.index)) ranks seconds
+
+module _ (columns : List (Bor Columned)) (known : All (λ (c : Bor Columned). IsRanked c.now) columns) (scales : Scales) (are : scales ≡ scales_of columns) where
+  pub places_total : IsTotalOrder (place_cmp columns scales)
+  places_total = then_total (on_total (λ (p : Place). p.rank) nat_cmp_total) (then_total (on_total (λ (p : Place). p.second) nat_cmp_total) (on_total (untold_key columns scales) values_total))
+
+  tied_agree : (a b : ℕ) → first_rank columns a ≡ first_rank columns b → tied_cmp columns (scales_of columns) (place_at columns a) (place_at columns b) ≡ index_cmp columns a b
+  tied_agree a b same =
+      let s = second_rank columns (first_rank columns a) a in
+      let t = second_rank columns (first_rank columns b) b in
+      let p = place_at columns a in
+      let q = place_at columns b in
+      then_tied (nat_cmp s t) (values_cmp (untold_key columns (scales_of columns) p) (untold_key columns (scales_of columns) q)) (index_cmp columns a b) (second_rise columns a b known same) (second_fall columns a b known same) (λ e.
+      let seconds : s ≡ t = ranked s t Equal (sym e) in
+      sym (untold_both columns (scales_of columns) p q same seconds) ∙ untold_whole columns a b known same seconds)
+
+  places_agree : (a b : ℕ) → place_cmp columns scales (place_at columns a) (place_at columns b) ≡ index_cmp columns a b
   places_agree a b =
       let x = first_rank columns a in
       let y = first_rank columns b in
-      then_tied (nat_cmp x y) (tied_cmp columns (place_at columns a) (place_at columns b)) (index_cmp columns a b) (rows_rise columns a b) (rows_fall columns a b) (λ e.
-      let same : x ≡ y = ranked x y Equal (sym e) in
-      then_whole (nat_cmp (second_rank columns x a) (second_rank columns y b)) (index_cmp columns a b) (second_rise columns a b known same) (second_fall columns a b known same))
+      ap (λ (both : Scales). place_cmp columns both (place_at columns a) (place_at columns b)) are
+      ∙ then_tied (nat_cmp x y) (tied_cmp columns (scales_of columns) (place_at columns a) (place_at columns b)) (index_cmp columns a b) (rows_rise columns a b) (rows_fall columns a b) (λ e. tied_agree a b (ranked x y Equal (sym e)))
 
   back : (order : List ℕ) → map (λ (p : Place). p.index) (map (place_at columns) order) ≡ order
   back [] = refl
   back (i ∷ order) = ap (λ l. i ∷ l) (back order)
 
   -- what a stable sort of places gives, without the ranks
-  pub sorted_places : (order : List ℕ) (before after : List Place) → before ≡ map (place_at columns) order → IsSorted (place_cmp columns) after → IsStable (place_cmp columns) before after
+  pub sorted_places : (order : List ℕ) (before after : List Place) → before ≡ map (place_at columns) order → IsSorted (place_cmp columns scales) after → IsStable (place_cmp columns scales) before after
       → map (λ (p : Place). p.index) after ≡ sorted_by (index_cmp columns) order
   sorted_places order before after made up stable =
-      let R = place_cmp columns in
+      let R = place_cmp columns scales in
       let f = place_at columns in
       let bare : List Place → List ℕ = map (λ (p : Place). p.index) in
       ap bare (the_one R places_total before after up stable ∙ ap (sorted_by R) made ∙ sym (map-sorted_by f R order) ∙ ap (map f) (sorted_same (λ a b. R (f a) (f b)) (index_cmp columns) places_agree order))

@@ -8,7 +8,9 @@ use Rattle.mt_types.specs.declared.value.Value.TheVariants.{Null}
 use Rattle.mt_types.specs.Order.{values_cmp}
 use Rattle.mt_columns.specs.Nesting.{Columned}
 use Rattle.mt_blocks.specs.declared.rank.Scale.{Scale}
+use Rattle.mt_blocks.specs.declared.rank.Scale.TheVariants.{Texts}
 use Rattle.mt_blocks.specs.declared.sort.Place.{Place}
+use Rattle.mt_blocks.specs.declared.sort.Scales.{Scales}
 use Rattle.mt_blocks.specs.Ranks.{is_decided, rank_in, scale_of}
 
 -- the key of a row: its values in some columns
@@ -41,10 +43,34 @@ second_rank (column ∷ columns) rank index = rank_after (scale_of column.now) r
 abbrev pub place_at : List (Bor Columned) → ℕ → Place
 place_at columns index = record { rank = first_rank columns index; second = second_rank columns (first_rank columns index) index; index = index }
 
--- by the second rank, and by the columns where it ties
-abbrev pub tied_cmp : List (Bor Columned) → Place → Place → Ordering
-tied_cmp columns a b = ordering_then (nat_cmp a.second b.second) (index_cmp columns a.index b.index)
+-- the scale of the first column
+abbrev pub first_scale : List (Bor Columned) → Scale
+first_scale [] = Texts
+first_scale (column ∷ columns) = scale_of column.now
 
--- by rank, by the second, and by the columns where both tie
-abbrev pub place_cmp : List (Bor Columned) → Place → Place → Ordering
-place_cmp columns a b = ordering_then (nat_cmp a.rank b.rank) (tied_cmp columns a b)
+-- the scales of the first two columns
+abbrev pub scales_of : List (Bor Columned) → Scales
+scales_of [] = record { first = Texts; second = Texts }
+scales_of (column ∷ columns) = record { first = scale_of column.now; second = first_scale columns }
+
+-- the columns without the first, where this rank leaves one value of it
+abbrev pub untold_behind : List (Bor Columned) → Scale → (rank : ℕ) → List (Bor Columned)
+untold_behind [] scale rank = []
+untold_behind (column ∷ columns) scale rank = if is_decided scale rank then columns else column ∷ columns
+
+-- the columns without those, of the first two, of which these ranks leave one value
+abbrev pub untold : List (Bor Columned) → Scales → (rank second : ℕ) → List (Bor Columned)
+untold [] scales rank second = []
+untold (column ∷ columns) scales rank second = if is_decided scales.first rank then untold_behind columns scales.second second else column ∷ columns
+
+-- what the ranks of a place don't tell of its row's key
+abbrev pub untold_key : List (Bor Columned) → Scales → Place → List Value
+untold_key columns scales p = key_at (untold columns scales p.rank p.second) p.index
+
+-- by the second rank, and where it ties by what the ranks don't tell
+abbrev pub tied_cmp : List (Bor Columned) → Scales → Place → Place → Ordering
+tied_cmp columns scales a b = ordering_then (nat_cmp a.second b.second) (values_cmp (untold_key columns scales a) (untold_key columns scales b))
+
+-- by rank, by the second, and where both tie by what they don't tell
+abbrev pub place_cmp : List (Bor Columned) → Scales → Place → Place → Ordering
+place_cmp columns scales a b = ordering_then (nat_cmp a.rank b.rank) (tied_cmp columns scales a b)

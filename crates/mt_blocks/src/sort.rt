@@ -6,8 +6,9 @@ ghost use Rattle.mt_types.specs.declared.value.Value.TheVariants.{Null};
 ghost use Rattle.mt_defs.specs.Sorting.{sorted_by};
 ghost use Rattle.mt_blocks.specs.Ranks.{IsRanked};
 ghost use Rattle.mt_blocks.specs.Rows.{indexes};
-ghost use Rattle.mt_blocks.specs.Sorting.{NeverFalls, first_rank, index_cmp, place_at, place_cmp};
-ghost use Rattle.mt_blocks.specs.Sorting.{rank_after, second_rank, tied_cmp};
+ghost use Rattle.mt_blocks.specs.Sorting.{NeverFalls, first_rank, first_scale, index_cmp, place_at};
+ghost use Rattle.mt_blocks.specs.Sorting.{place_cmp, rank_after, scales_of, second_rank, tied_cmp, untold};
+ghost use Rattle.mt_blocks.specs.Sorting.{untold_behind};
 
 use crate::rank::{Scale, is_decided, rank_at, scale_of};
 use mt_columns::Column;
@@ -26,8 +27,18 @@ pub(crate) struct Place {
     pub index: usize,
 }
 
+/// How the first two key columns are ranked; as texts, of which no rank is decided, where there is none.
+#[derive(Clone, Copy)]
+pub(crate) struct Scales {
+    /// The scale of the first.
+    pub first: Scale,
+    /// The scale of the second.
+    pub second: Scale,
+}
+
 /// The indexes of so many rows in the order of key columns, rows of equal key in the order that they
-/// had. Columns are compared only where ranks tie. A value that a column lacks counts as NULL.
+/// had. Only where ranks tie are columns compared, and of these only those that the ranks don't decide. A
+/// value that a column lacks counts as NULL.
 pub fn sorted_order(
     alloc: Global,
     columns: &[&Column],
@@ -38,8 +49,9 @@ pub fn sorted_order(
     ensures within { IfOk result (λ order. All (λ index. index < count) order.items) }
 {
     know_ranked(columns);
+    let scales = scales_of(columns);
     let mut places = places_of(alloc, columns, count)?;
-    places.sort_by(|a, b| compare_places(columns, a, b))?;
+    places.sort_by(|a, b| compare_places(columns, scales, a, b))?;
     indexes_of(alloc, places)
 }
 
@@ -122,22 +134,84 @@ fn rank_after(scale: Scale, rank: u64, others: &[&Column], index: usize) -> u64
     }
 }
 
-/// By rank, and by the columns only where ranks tie.
-fn compare_places(columns: &[&Column], a: &Place, b: &Place) -> Ordering
-    ensures { result ≡ place_cmp columns.now a.now b.now }
+/// The scales of the first two columns.
+fn scales_of(columns: &[&Column]) -> Scales
+    ensures { result ≡ scales_of columns.now }
+{
+    match columns.split_first() {
+        Some((first, others)) => Scales {
+            first: scale_of(first),
+            second: first_scale(others),
+        },
+        None => Scales {
+            first: Scale::Texts,
+            second: Scale::Texts,
+        },
+    }
+}
+
+/// The scale of the first column.
+fn first_scale(columns: &[&Column]) -> Scale
+    ensures { result ≡ first_scale columns.now }
+{
+    match columns.split_first() {
+        Some((first, _)) => scale_of(first),
+        None => Scale::Texts,
+    }
+}
+
+/// By rank, and by what the ranks don't decide only where they tie.
+fn compare_places(columns: &[&Column], scales: Scales, a: &Place, b: &Place) -> Ordering
+    ensures { result ≡ place_cmp columns.now scales a.now b.now }
 {
     match a.rank.cmp(&b.rank) {
-        Ordering::Equal => compare_tied(columns, a, b),
+        Ordering::Equal => compare_tied(columns, scales, a, b),
         order => order,
     }
 }
 
-fn compare_tied(columns: &[&Column], a: &Place, b: &Place) -> Ordering
-    ensures { result ≡ tied_cmp columns.now a.now b.now }
+#[tactic(auto, using(crate::proofs::SortLemmas::untold_both))]
+fn compare_tied(columns: &[&Column], scales: Scales, a: &Place, b: &Place) -> Ordering
+    requires { a.now.rank ≡ b.now.rank }
+    ensures { result ≡ tied_cmp columns.now scales a.now b.now }
 {
     match a.second.cmp(&b.second) {
-        Ordering::Equal => compare_rows(columns, a.index, b.index),
+        Ordering::Equal => compare_untold(columns, scales, a, b),
         order => order,
+    }
+}
+
+/// By the columns that the ranks of the first place don't decide. Out of line, so that the sort's own
+/// loop stays small.
+#[inline(never)]
+fn compare_untold(columns: &[&Column], scales: Scales, a: &Place, b: &Place) -> Ordering
+    ensures { result ≡ index_cmp (untold columns.now scales a.now.rank a.now.second) a.now.index b.now.index }
+{
+    match columns.split_first() {
+        Some((_, others)) => {
+            if is_decided(scales.first, a.rank) {
+                compare_behind(others, scales.second, a, b)
+            } else {
+                compare_rows(columns, a.index, b.index)
+            }
+        }
+        None => Ordering::Equal,
+    }
+}
+
+/// The same of the columns from the second on.
+fn compare_behind(columns: &[&Column], scale: Scale, a: &Place, b: &Place) -> Ordering
+    ensures { result ≡ index_cmp (untold_behind columns.now scale a.now.second) a.now.index b.now.index }
+{
+    match columns.split_first() {
+        Some((_, others)) => {
+            if is_decided(scale, a.second) {
+                compare_rows(others, a.index, b.index)
+            } else {
+                compare_rows(columns, a.index, b.index)
+            }
+        }
+        None => Ordering::Equal,
     }
 }
 

@@ -18,12 +18,13 @@ use Rattle.mt_blocks.proofs.sort.sorted_order.Goals as goal
 sorts_of : (c : goal.After-indexes_of) → map (λ (p : Place). p.index) c.sort_by.new.self.items ≡ sorted_by (index_cmp c.args.columns.now) (indexes c.args.count)
 sorts_of c =
     let columns = c.args.columns.now in
-    let R : Place → Place → Ordering = place_cmp columns in
+    let scales = c.scales_of-scales.result in
+    let R : Place → Place → Ordering = place_cmp columns scales in
     let lt : Place → Place → Bool = λ a b. is_lt (R a b) in
-    let weak : IsStrictWeakOrder lt = ranks_by (places_total columns c.know_ranked.ensures) (λ v. v) in
+    let weak : IsStrictWeakOrder lt = ranks_by (places_total columns c.know_ranked.ensures scales c.scales_of-scales.ensures) (λ v. v) in
     let up : IsSorted R c.sort_by.new.self.items = c.in_ok-sort_by.ensures.sorted lt weak (always_returns_same _ _ _ (λ a r f' k. search rules)) in
     let stable : IsStable R c.in_ok-places.places.items c.sort_by.new.self.items = c.in_ok-sort_by.ensures.stable lt weak (always_returns_same _ _ _ (λ a r f' k. search rules)) in
-    sorted_places columns c.know_ranked.ensures (indexes c.args.count) c.in_ok-places.places.items c.sort_by.new.self.items c.in_ok-places.ensures up stable
+    sorted_places columns c.know_ranked.ensures scales c.scales_of-scales.ensures (indexes c.args.count) c.in_ok-places.places.items c.sort_by.new.self.items c.in_ok-places.ensures up stable
 
 pub returns-clause-sorted : goal.returns-clause-sorted
 returns-clause-sorted c = IfOk-weaker c.indexes_of.result (λ order. order.items ≡ map (λ (p : Place). p.index) c.sort_by.new.self.items) (λ order. order.items ≡ sorted_by (index_cmp c.args.columns.now) (indexes c.args.count)) (λ order e. e ∙ sorts_of c) c.indexes_of.ensures
