@@ -39,7 +39,7 @@ pub(crate) fn definition_files(
 }
 
 /// The files of a definition's rows, laid out like this.
-pub(crate) fn files_with(
+fn files_with(
     alloc: Global,
     definition: &PartDef,
     rows: &[Row],
@@ -60,7 +60,7 @@ pub(crate) fn files_with(
 }
 
 /// columns.txt, count.txt and primary.idx.
-fn text_files(
+pub(crate) fn text_files(
     alloc: Global,
     definition: &PartDef,
     rows: &[Row],

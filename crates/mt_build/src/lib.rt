@@ -3,8 +3,11 @@
 //! `build` gives exactly the files of the writer's folder, and `mt_sort::sort_rows` the rows in key order.
 #![tactic(auto)]
 
+mod content;
 mod definition;
 mod folder;
+mod groups;
+mod partition;
 mod projections;
 mod skips;
 mod sorting;

@@ -1,7 +1,6 @@
 //! The folders of projections, below the part.
 
 ghost use Rattle.std.specs.Prelude.{◌≡◌, ◌<◌, ◌++◌, length, map, All, IfOk, OnOk};
-ghost use Rattle.std.specs.List.{flat_map};
 ghost use Rattle.mt_table.specs.Stored.{projection_at};
 ghost use Rattle.mt_defs.specs.Projections as defined;
 ghost use Rattle.mt_defs.specs.Rows.{RowFits};
@@ -15,26 +14,9 @@ use mt_table::{Projection, Table};
 use mt_types::{List, NoMemory, Row};
 use std::alloc::Global;
 
-/// Appends the files of all projections of the table.
-pub(crate) fn append_projections(
-    alloc: Global,
-    table: &Table,
-    rows: &[Row],
-    files: &mut Vec<FileBytes>,
-) -> Result<(), NoMemory>
-    requires fit { All (RowFits table.now.columns) rows.now }
-    ensures { OnOk result (files.new.items ≡
-        files.old.items ++ flat_map (projection_files table.now rows.now) table.now.projections) }
-{
-    for projection in 0..table.projections.len() {
-        append_projection(alloc, table, projection, rows, files)?;
-    }
-    Ok(())
-}
-
 /// Appends the files of a projection, by its place from 0: those of its own definition and rows, below
 /// its folder (docs/FORMAT.md, "Projections"; ClickHouse: `MergeTreeDataWriter`).
-fn append_projection(
+pub(crate) fn append_projection(
     alloc: Global,
     table: &Table,
     projection: usize,

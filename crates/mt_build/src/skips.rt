@@ -26,28 +26,9 @@ const MARK_BYTES: usize = 24;
 /// The third number of each mark of an index, which readers pass over.
 const PASSED_OVER: u64 = 1;
 
-/// Appends the files of all skip indexes of the table, over the granules of its own part.
-pub(crate) fn append_skips(
-    alloc: Global,
-    table: &Table,
-    rows: &[Row],
-    layout: &Layout,
-    files: &mut Vec<FileBytes>,
-) -> Result<(), NoMemory>
-    requires layout { IsLayout table.now.settings table.now.columns rows.now layout.now }
-    requires fit { All (RowFits table.now.columns) rows.now }
-    ensures { OnOk result (files.new.items ≡
-        files.old.items ++ flat_map (skip_files table.now rows.now) table.now.skips) }
-{
-    for skip in table.skips.as_slice() {
-        append_skip(alloc, table, skip, rows, layout, files)?;
-    }
-    Ok(())
-}
-
 /// Appends the data file and the marks file of an index (docs/FORMAT.md, "Skip indexes"; ClickHouse:
 /// `MergeTreeDataPartWriterOnDisk`).
-fn append_skip(
+pub(crate) fn append_skip(
     alloc: Global,
     table: &Table,
     skip: &Skip,

@@ -13,3 +13,5 @@ mod objects;
 mod pair_gate;
 #[cfg(test)]
 mod rounds;
+#[cfg(test)]
+mod workers;

@@ -11,4 +11,4 @@ mod writing;
 pub use column::read_column;
 pub use law::{wide_parts_are_read_exactly, wide_parts_have_one_list_of_rows};
 pub use reading::{first_granules, read_wide};
-pub use writing::write_wide;
+pub use writing::{append_column, write_wide};

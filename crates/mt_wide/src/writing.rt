@@ -43,8 +43,9 @@ pub fn write_wide(
     Ok(List::of(files))
 }
 
-/// Appends the files of a column.
-fn append_column(
+/// Appends the files of a column, whose place in the rows this is: per substream the data file, and then its
+/// marks file.
+pub fn append_column(
     alloc: Global,
     column: &Column,
     column_index: usize,
