@@ -3,7 +3,7 @@ use Rattle.std.proofs.Common.{◌≡◌, ℕ, zero, suc, ◌+◌, ◌<◌, arith
 use Rattle.std.specs.Prelude.{Err, Result}
 use Rattle.std.proofs.lemmas.List.{get_or_default, length-map, map-append, take_more}
 use Rattle.mt_types.specs.declared.ty.Ty.{Ty}
-use Rattle.mt_types.specs.declared.ty.Ty.TheVariants.{Date}
+use Rattle.mt_types.specs.declared.ty.Ty.TheVariants.{Date, outs-Date}
 use Rattle.mt_fault.specs.declared.error.FileError.{FileError}
 use Rattle.mt_fault.specs.declared.error.FileError.TheVariants.{AtFault, NoMemory}
 use Rattle.mt_table.specs.declared.column.Column.{Column}
@@ -14,7 +14,7 @@ use Rattle.mt_table.specs.Rows.{Pointwise}
 use Rattle.mt_table.specs.Stored.{column_at, expression_column}
 use Rattle.mt_table.proofs.PointwiseLemmas.{Pointwise-get_or}
 use Rattle.mt_defs.specs.Folder.{Folder}
-use Rattle.mt_item.specs.ItemTypes.{has_items}
+use Rattle.mt_item.specs.ItemTypes.{has_items, is_scalar_at}
 use Rattle.mt_item.proofs.TypeLemmas.{scalar_has_items}
 use Rattle.mt_meta.specs.PartitionKeys.{IsKeyExpression}
 use Rattle.mt_files.proofs.TableLemmas.{partition_checked}
@@ -31,7 +31,7 @@ known_of columns (Month i) is = is.0
 
 items_of : (columns : List Column) (expression : PartExpr) → IsKeyExpression columns expression → has_items (column_at columns (expression_column expression)).ty ≡ true
 items_of columns (Plain i) is = scalar_has_items (column_at columns i).ty is.1
-items_of columns (Month i) is = subst (λ (t : Ty). has_items t ≡ true) (sym is.1) (scalar_has_items Date refl)
+items_of columns (Month i) is = subst (λ (t : Ty). has_items t ≡ true) (sym is.1) (scalar_has_items Date (ap is_scalar_at outs-Date))
 
 module _ (table : Table) (items : List PartExpr) (i : ℕ) (d : PartExpr) (column : ℕ) where
   expression_at : items ≡ table.partition → i < length items → d ≡ get_or items i d → IsKeyExpression table.columns d

@@ -1,4 +1,4 @@
-use Rattle.std.proofs.Common.{◌≡◌, ◌∙◌, List, Bool, ℕ, sym, ap, subst}
+use Rattle.std.proofs.Common.{◌≡◌, ◌∙◌, List, Bool, ℕ, get_or, sym, ap, subst}
 use Rattle.std.specs.Prelude.{Option, Some, None, IfSome}
 use Rattle.std.proofs.lemmas.Result.{err_from_is_err_and}
 use Rattle.mt_defs.specs.Folder.{folder_of}
@@ -33,7 +33,7 @@ returns-in-Some c =
     let entries = pieces_at c.in_ok-entries.entries.payload c.in_ok-entries.entries.positions in
     index_judged c.args.table.now (folder_of c.args.files.now) c.args.cond.now c.args.granules c.args.skip.now c.args.compact c.entry_count-count.result c.requires.layout c.entry_count-count.ensures entries _ c.in_ok-entries.ensures
     (type_at c.args.table.now.columns c.as_slice.result.now c.args.skip.now.column c.index-as_slice-skip.result c.as_slice.ensures c.requires.skip.known) c.in-Some.judged
-    (subst (λ (o : Option (List Bool)). IfSome o (JudgesEach c.args.cond.now c.args.skip.now _ entries)) c.in-Some.is c.in_ok-judged.ensures.found)
+    (subst (λ (o : Option (List Bool)). IfSome o (JudgesEach c.args.cond.now c.args.skip.now (get_or c.as_slice.result.now c.args.skip.now.column c.index-as_slice-skip.result).ty entries)) c.in-Some.is c.in_ok-judged.ensures.found)
 
 pub returns : goal.returns
 returns c =
