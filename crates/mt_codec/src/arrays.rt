@@ -18,7 +18,7 @@ use std::vec::IntoIter;
 const SIZE_BYTES: usize = 8;
 
 /// The sizes of so many arrays, and the substreams behind them.
-pub(crate) fn read_sizes<'a>(
+pub fn read_sizes<'a>(
     alloc: Global,
     stream: u64,
     count: u128,
@@ -83,7 +83,7 @@ fn read_size(bytes: &[u8]) -> Result<(u64, &[u8]), CodecWhy>
 }
 
 /// How many elements arrays of these sizes have.
-pub(crate) fn sum_of(sizes: &[u64]) -> u128
+pub fn sum_of(sizes: &[u64]) -> u128
     ensures { result ≡ sum sizes.now }
 {
     let mut total: u128 = 0;

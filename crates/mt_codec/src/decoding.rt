@@ -48,7 +48,7 @@ pub fn decode(
 }
 
 /// Does nothing: the numbers of each slice are bytes, which its type says.
-fn know_lists(streams: &[&[u8]])
+pub fn know_lists(streams: &[&[u8]])
     ensures { All AreBytes (bytes_of streams.now) }
 {
     for stream in streams {

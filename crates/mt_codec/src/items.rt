@@ -67,7 +67,7 @@ fn items_in<'a>(
 }
 
 /// The error of an item, as that of a column.
-fn item_error(stream: u64, item: u64, error: ItemError) -> CodecError
+pub fn item_error(stream: u64, item: u64, error: ItemError) -> CodecError
     ensures { result ≡ item_error stream item error }
 {
     match error {

@@ -14,12 +14,16 @@ mod nulls;
 mod stream;
 mod streams;
 
-pub use decoding::{decode, decode_front, know_bytes};
+pub use arrays::{read_sizes, sum_of};
+pub use decoding::{decode, decode_front, know_bytes, know_lists};
 pub use encoding::{encode, encode_runs};
 pub use fault::CodecError;
+pub use items::item_error;
 pub use law::{
     first_values_are_unique, serializations_differ_only_under_null, written_streams_are_decoded,
     written_streams_are_decoded_in_front, written_streams_encode_their_values,
 };
 pub use mt_item::CodecWhy;
+pub use nulls::read_nulls;
 pub use stream::{Stream, streams_of};
+pub use streams::Streams;

@@ -12,7 +12,7 @@ use mt_item::CodecWhy;
 use mt_types::{List, Value};
 
 /// The null map of so many values, and the substreams behind it.
-pub(crate) fn read_nulls(
+pub fn read_nulls(
     stream: u64,
     count: u128,
     streams: Streams<'_>,

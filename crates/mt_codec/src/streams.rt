@@ -9,7 +9,7 @@ use mt_item::CodecWhy;
 
 /// The substreams that are still to be read.
 #[derive(Clone, Copy)]
-pub(crate) enum Streams<'a> {
+pub enum Streams<'a> {
     /// Each in its own bytes.
     Apart(&'a [&'a [u8]]),
     /// One after another in these bytes, which others may follow.
@@ -18,7 +18,7 @@ pub(crate) enum Streams<'a> {
 
 impl<'a> Streams<'a> {
     /// The bytes that the next substream begins with, if there is one.
-    pub(crate) fn first(self) -> Option<&'a [u8]>
+    pub fn first(self) -> Option<&'a [u8]>
         ensures { MatchOption result (lists self.entry ≡ [])
             (λ bytes. lists self.entry ≡ bytes.now ∷ others (lists self.entry)) }
     {
@@ -32,7 +32,7 @@ impl<'a> Streams<'a> {
     }
 
     /// What follows the next substream, of so many items, after which these bytes are left.
-    pub(crate) fn after(
+    pub fn after(
         self,
         stream: u64,
         count: u64,

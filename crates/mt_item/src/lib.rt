@@ -16,4 +16,5 @@ pub use fault::{CodecWhy, ItemError};
 pub use law::{only_items_are_read, written_items_are_read};
 pub use number::read_u64;
 pub use reading::read_item;
+pub use text::read_text;
 pub use writing::put_item;

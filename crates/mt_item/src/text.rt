@@ -8,7 +8,7 @@ use crate::fault::CodecWhy;
 use mt_types::{MAX_TEXT, VarInt, varint_get};
 
 /// The text at the start, and what follows it.
-pub(crate) fn read_text(bytes: &[u8]) -> Result<(&[u8], &[u8]), CodecWhy>
+pub fn read_text(bytes: &[u8]) -> Result<(&[u8], &[u8]), CodecWhy>
     ensures { GivesText result (text_front bytes.now) }
 {
     let (size, rest) = match read_length(bytes) {
