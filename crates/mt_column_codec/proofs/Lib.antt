@@ -1,0 +1,5 @@
+pub mod FixedLemmas
+pub mod KindLemmas
+pub mod NullLemmas
+pub mod ArrayLemmas
+pub mod WrittenLemmas
