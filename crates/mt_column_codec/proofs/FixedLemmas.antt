@@ -1,14 +1,21 @@
 -- Items of a fixed width, one after another.
 use Rattle.std.proofs.Common.{◌≡◌, ℕ, zero, suc, ◌+◌, ◌-◌, ◌*◌, ◌/◌, ◌<◌, ◌≤◌, Bool, true, false, List, [], ◌∷◌, length, take, drop, map, refl, ap, sym, ◌∙◌, arith, length-drop}
 use Rattle.std.specs.Prelude.{Result, Ok, Err, nat_le}
-use Rattle.std.proofs.lemmas.Bool.{le-leb, lt-leb}
+use Rattle.std.proofs.lemmas.Bool.{le-leb, leb-true, lt-leb}
 use Rattle.std.proofs.lemmas.List.{drop-drop, take_all}
 use Rattle.std.proofs.Math.Nat.{lt-div-mul-add, mul-le-mul_right}
 use Rattle.mt_types.specs.declared.value.Value.{Value}
 use Rattle.mt_types.specs.Steps.{◌>>=◌, at, require}
 use Rattle.mt_item.specs.declared.fault.CodecWhy.{CodecWhy}
 use Rattle.mt_item.specs.declared.fault.CodecWhy.TheVariants.{Short}
-use Rattle.mt_item.specs.ItemReading.{First, read_as}
+use Rattle.mt_types.specs.declared.ty.Ty.{Ty}
+use Rattle.mt_item.specs.ItemReading.{First, item_front, read_as}
+use Rattle.mt_item.specs.ItemTypes.{has_items}
+use Rattle.mt_item.proofs.LengthLemmas.{Small}
+use Rattle.mt_cells.specs.Items.{OfCells}
+use Rattle.mt_cells.proofs.NumberLemmas.{small_drop}
+use Rattle.mt_columns.specs.Shapes.{shape_of}
+use Rattle.mt_column_codec.proofs.KindLemmas.{item_fixed}
 use Rattle.mt_cells.specs.declared.kind.Kind.{Kind}
 use Rattle.mt_cells.specs.Kinds.{chunks, size_of, value_of, values_of}
 use Rattle.mt_cells.proofs.Chunks.{chunks-take, length-chunks}
@@ -20,7 +27,7 @@ fixed_read : (k : Kind) (bytes : List ℕ) → size_of k ≤ length bytes → fi
 fixed_read k bytes long = ap (λ (b : Bool). read_as (value_of k) (require b Short >>= λ _. Ok (take (size_of k) bytes, drop (size_of k) bytes))) (le-leb (size_of k) (length bytes) long)
 
 fixed_short : (k : Kind) (bytes : List ℕ) → length bytes < size_of k → fixed_front k bytes ≡ Err Short
-fixed_short k bytes short = ap (λ (b : Bool). read_as (value_of k) (require b Short >>= λ _. Ok (take (size_of k) bytes, drop (size_of k) bytes))) (lt-leb (length bytes) (size_of k) short)
+fixed_short k bytes short = ap (λ (b : Bool). read_as (value_of k) (require b Short >>= λ _. Ok (take (size_of k) bytes, drop (size_of k) bytes))) (lt-leb (size_of k) (length bytes) short)
 
 -- what follows the first item
 abbrev behind : Kind → ℕ → ℕ → First Value → ReadItems Value
@@ -92,7 +99,31 @@ within_room count room size length' few long = let m : count * size ≤ room * s
 
 -- and no more than these
 pub no_more_room : (n size : ℕ) → 1 ≤ size → n < (n / size + 1) * size
-no_more_room n size some = after (n / size) (lt-div-mul-add {n} {size} (omega (arith, some)))
+no_more_room n size some = after (n / size) (lt-div-mul-add {a = n} {b = size} (omega (arith, some)))
   where
     after : (m : ℕ) → n < m * size + size → n < (m + 1) * size
     after m less = omega (arith, less)
+
+-- ---- the same of a type
+
+-- where a type has items of this kind
+pub fixed_items : (t : Ty) (k : Kind) (item count : ℕ) (bytes : List ℕ) → Small bytes → has_items t ≡ true → (shape_of t).kind ≡ OfCells k → items_from (item_front t) item count bytes ≡ items_from (fixed_front k) item count bytes
+fixed_items t k item zero bytes small has own = items_none (item_front t) item bytes ∙ sym (items_none (fixed_front k) item bytes)
+fixed_items t k item (suc count) bytes small has own =
+    items_next (item_front t) item count bytes
+    ∙ ap (λ (r : First Value). at item r >>= λ first. (items_from (item_front t) (item + 1) count first.1 >>= λ more. Ok (first.0 ∷ more.0, more.1))) (item_fixed t k bytes small has own)
+    ∙ by_room (nat_le (size_of k) (length bytes)) refl ∙ sym (items_next (fixed_front k) item count bytes)
+  where
+    then_more : First Value → (List ℕ → ReadItems Value) → ReadItems Value
+    then_more read rest = at item read >>= λ first. (rest first.1 >>= λ more. Ok (first.0 ∷ more.0, more.1))
+    by_room : (b : Bool) → nat_le (size_of k) (length bytes) ≡ b → then_more (fixed_front k bytes) (items_from (item_front t) (item + 1) count) ≡ then_more (fixed_front k bytes) (items_from (fixed_front k) (item + 1) count)
+    by_room true is =
+        let read = fixed_read k bytes (leb-true (size_of k) (length bytes) is) in
+        let rest = fixed_items t k (item + 1) count (drop (size_of k) bytes) (small_drop (size_of k) bytes small) has own in
+        ap (λ (r : First Value). then_more r (items_from (item_front t) (item + 1) count)) read
+        ∙ ap (λ (r : ReadItems Value). r >>= λ more. Ok (value_of k (take (size_of k) bytes) ∷ more.0, more.1)) rest
+        ∙ sym (ap (λ (r : First Value). then_more r (items_from (fixed_front k) (item + 1) count)) read)
+    by_room false is =
+        let short : fixed_front k bytes ≡ Err Short = ap (λ (b : Bool). read_as (value_of k) (require b Short >>= λ _. Ok (take (size_of k) bytes, drop (size_of k) bytes))) is in
+        ap (λ (r : First Value). then_more r (items_from (item_front t) (item + 1) count)) short
+        ∙ sym (ap (λ (r : First Value). then_more r (items_from (fixed_front k) (item + 1) count)) short)

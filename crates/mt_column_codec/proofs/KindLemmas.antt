@@ -9,9 +9,12 @@ use Rattle.mt_types.specs.declared.ty.Width.TheVariants.{W8, W16, W32, W64, W128
 use Rattle.mt_types.specs.declared.ty.Ty.{Ty, map-Ty, out-Ty}
 use Rattle.mt_types.specs.declared.ty.Ty.TheOpen.{Ty-F}
 use Rattle.mt_types.specs.declared.ty.Ty.TheVariants.{Array, Nullable, Str, outs-Array, outs-Nullable, outs-Str}
-use Rattle.mt_types.specs.declared.value.Value.{Value}
-use Rattle.mt_types.specs.declared.value.Value.TheVariants.{Num}
-use Rattle.mt_types.specs.Fits.{bits, number_value}
+use Rattle.mt_types.specs.declared.value.AggState.{AggState}
+use Rattle.mt_types.specs.declared.value.Value.{Value, out-Value, roll-Value}
+use Rattle.mt_types.specs.declared.value.Value.TheOpen.{Value-F}
+use Rattle.mt_types.specs.declared.value.Value.TheViews.{roll-out-Value}
+use Rattle.mt_types.specs.declared.value.Value.TheVariants.{Num, State, outs-State}
+use Rattle.mt_types.specs.Fits.{bits, fits_of, number_value, state_at}
 use Rattle.mt_types.specs.Items.{width}
 use Rattle.mt_types.specs.Numbers.{width_size}
 use Rattle.mt_types.specs.Profile.{Plain, Unknown, is_known, is_profile}
@@ -27,7 +30,7 @@ use Rattle.mt_cells.specs.Items.{ItemKind, OfCells, OfStates, OfTexts}
 use Rattle.mt_cells.specs.Kinds.{size_of, value_of}
 use Rattle.mt_columns.specs.Nesting.{Columned, has_arrays, nested_values}
 use Rattle.mt_columns.specs.Shapes.{IsOfType, Shape, plain_shape, shape_in, shape_of, shape_step}
-use Rattle.mt_columns.proofs.ShapeLemmas.{shape_at}
+use Rattle.mt_columns.proofs.ShapeLemmas.{fits_shape, shape_at, shape_fits}
 use Rattle.mt_column_codec.specs.FixedItems.{fixed_front}
 
 -- ---- the kind of a type's items
@@ -226,3 +229,18 @@ flat_values (sizes ∷ levels) values depth many none = absurd (omega (arith, ma
 pub has_level : (levels : List (List ℕ)) (depth depth' : ℕ) → length levels ≡ depth → depth ≡ suc depth' → has_arrays levels ≡ true
 has_level [] depth depth' many one = absurd (omega (arith, many, one))
 has_level (sizes ∷ levels) depth depth' many one = refl
+
+-- ---- states
+
+-- a value of a type of states is a state
+pub not_other : (t : Ty) (v : Value) → is_profile t ≡ true → has_items t ≡ true → (shape_of t).kind ≡ OfStates → fits_of t v ≡ true → ((s : AggState) → v ≡ State s → ⊥) → ⊥
+not_other t v profile items own fits not =
+    at_level (out-Value v) refl (sym (ap (λ (s : Shape). fits_shape s v) (flat_at t (out-Ty t) refl items ∙ ap plain_shape own)) ∙ shape_fits t profile v fits)
+  where
+    at_level : (level : Value-F Value) → out-Value v ≡ level → state_at (λ s. true) level ≡ true → ⊥
+    at_level (Value-F.State s) is e = not s (sym (roll-out-Value v) ∙ ap roll-Value (is ∙ sym (outs-State s)) ∙ roll-out-Value (State s))
+    at_level (Value-F.Num n) is e = cc
+    at_level (Value-F.Huge n) is e = cc
+    at_level (Value-F.Text bytes) is e = cc
+    at_level (Value-F.List items) is e = cc
+    at_level Value-F.Null is e = cc

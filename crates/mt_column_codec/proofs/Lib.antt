@@ -1,5 +1,6 @@
-pub mod FixedLemmas
 pub mod KindLemmas
+pub mod FixedLemmas
 pub mod NullLemmas
 pub mod ArrayLemmas
 pub mod WrittenLemmas
+pub mod DecodeLemmas

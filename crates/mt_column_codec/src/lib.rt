@@ -5,7 +5,12 @@
 #![tactic(auto)]
 
 mod cells;
+mod decoding;
 mod encoding;
+mod items;
+mod nulls;
+mod states;
 mod written;
 
+pub use decoding::{decode_column, decode_column_front};
 pub use encoding::encode_column;

@@ -37,7 +37,7 @@ append_items-requires c =
     let bytes = c.args.bytes.now in
     let few : count ≤ c.room_in-room.result = omega (arith, c.as_count-count.ensures, c.if-room-count.false) in
     ap (λ (bs : List ℕ). length bs) c.split_items.ensures.items ∙ length-take-le (count * size) bytes (within_room count c.room_in-room.result size (length bytes) few c.room_in-room.ensures.have)
-    ∙ ap (λ (s : ℕ). count * s) (c.size-size.ensures ∙ sym (ap size_of c.new.ensures.kind))
+    ∙ ap (λ (s : ℕ). count * s) (c.size-size.ensures ∙ sym (ap size_of c.new-cells.ensures.kind))
 
 pub returns-clause-reads : goal.returns-clause-reads
 returns-clause-reads c =
@@ -52,7 +52,7 @@ returns-clause-reads c =
     let front = subst (λ (s : ℕ). items ≡ take (count * s) bytes) c.size-size.ensures c.split_items.ensures.items in
     let back = subst (λ (s : ℕ). rest ≡ drop (count * s) bytes) c.size-size.ensures c.split_items.ensures.rest in
     let values : c.append_items.new.self.values ≡ values_of kind count items =
-    c.in_ok-append_items.ensures.ok ∙ ap (λ (vs : List Value). vs ++ values_of c.new.result.kind count items) c.new.ensures.values ∙ ap (λ (k : Kind). values_of k count items) c.new.ensures.kind in
+    c.in_ok-append_items.ensures.ok ∙ ap (λ (vs : List Value). vs ++ values_of c.new-cells.result.kind count items) c.new-cells.ensures.values ∙ ap (λ (k : Kind). values_of k count items) c.new-cells.ensures.kind in
     at_found c.args.stream _ _ (ap (λ (n : ℕ). items_from (fixed_front kind) 0 n bytes) (sym c.as_count-count.ensures) ∙ fixed_all kind count bytes items rest long front back
     ∙ ap (λ (vs : List Value). let r : ReadItems Value = Ok (vs, rest) in r) (sym values))
 
@@ -61,5 +61,5 @@ returns-clause-many c =
     let count = c.as_count-count.result in
     let items = c.split_items.result.0.now in
     let values : c.append_items.new.self.values ≡ values_of c.args.kind count items =
-    c.in_ok-append_items.ensures.ok ∙ ap (λ (vs : List Value). vs ++ values_of c.new.result.kind count items) c.new.ensures.values ∙ ap (λ (k : Kind). values_of k count items) c.new.ensures.kind in
+    c.in_ok-append_items.ensures.ok ∙ ap (λ (vs : List Value). vs ++ values_of c.new-cells.result.kind count items) c.new-cells.ensures.values ∙ ap (λ (k : Kind). values_of k count items) c.new-cells.ensures.kind in
     ap (λ (vs : List Value). length vs) values ∙ length-values_of c.args.kind count items ∙ c.as_count-count.ensures

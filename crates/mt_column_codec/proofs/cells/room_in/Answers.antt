@@ -4,7 +4,7 @@ use Rattle.mt_column_codec.proofs.FixedLemmas.{no_more_room}
 use Rattle.mt_column_codec.proofs.cells.room_in.Goals as goal
 
 pub returns-clause-have : goal.returns-clause-have
-returns-clause-have c = rw c.len.ensures (div-mul-le_self (length c.args.bytes.now) c.args.size)
+returns-clause-have c = div-mul-le_self (length c.args.bytes.now) c.args.size
 
 pub returns-clause-no_more : goal.returns-clause-no_more
-returns-clause-no_more c = rw c.len.ensures (no_more_room (length c.args.bytes.now) c.args.size c.requires)
+returns-clause-no_more c = no_more_room (length c.args.bytes.now) c.args.size c.requires

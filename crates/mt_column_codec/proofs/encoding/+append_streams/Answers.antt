@@ -67,8 +67,8 @@ null_map-requires t c =
       within = omega (arith, ap (λ (vs : List Value). length vs) flat, c.requires.within);
     }
 
-pub items_of-requires-in-Nullable : goal.items_of-requires-in-Nullable
-items_of-requires-in-Nullable t c =
+pub items_of-requires : goal.items_of-requires
+items_of-requires t c =
     let u = c.get-inner.result.now in
     let ty = c.args.ty.now in
     let items = items_in c.items.result.now in
