@@ -1,10 +1,10 @@
 -- The items and the sizes of a range of values.
-use Rattle.std.proofs.Common.{◌≡◌, ℕ, zero, suc, ◌+◌, ◌-◌, ◌≤◌, Bool, true, false, List, [], ◌∷◌, ◌++◌, length, map, take, drop, sum, refl, ap, ap₂, sym, ◌∙◌, subst, arith, length-drop}
-use Rattle.std.specs.Prelude.{◌&&◌, if◌then◌else◌}
+use Rattle.std.proofs.Common.{◌≡◌, ℕ, zero, suc, ◌-◌, ◌≤◌, Bool, true, false, List, [], ◌∷◌, ◌++◌, length, map, take, drop, sum, refl, ap, ap₂, sym, ◌∙◌, arith, length-drop}
+use Rattle.std.specs.Prelude.{if◌then◌else◌}
 use Rattle.std.specs.List.{flat_map, list_all}
 use Rattle.std.specs.Int.{w64, to_le_bytes}
 use Rattle.std.proofs.lemmas.Bool.{and_from, and_parts}
-use Rattle.std.proofs.lemmas.List.{drop-map, length-map, length-take-le, take-append-drop, take-map}
+use Rattle.std.proofs.lemmas.List.{drop-map, length-take-le, take-append-drop, take-map}
 use Rattle.std.proofs.lemmas.List.Concat.{flat_map_single}
 use Rattle.std.proofs.lemmas.List.Folds.{flat_map-map}
 use Rattle.std.proofs.lemmas.List.Sums.{sum_by-take-drop}
@@ -48,6 +48,7 @@ all_in_range {X} test from n xs all = front n (drop from xs) (behind from xs all
     front zero xs all = refl
     front (suc n) [] all = refl
     front (suc n) (x ∷ xs) all = let p = and_parts (test x) (list_all test xs) all in and_from (test x) (list_all test (take n xs)) p.0 (front n xs p.1)
+
     behind : (n : ℕ) (xs : List X) → list_all test xs ≡ true → list_all test (drop n xs) ≡ true
     behind zero xs all = all
     behind (suc n) [] all = all
@@ -92,6 +93,7 @@ texts_written t from n texts items own =
   where
     one : (text : List ℕ) → text_item text ≡ item_bytes Str (Text text)
     one text = sym (ap (λ f. f (Text text)) (item_at Str Ty-F.Str outs-Str) ∙ ap text_at (outs-Text text))
+
     each : (texts : List (List ℕ)) → flat_map text_item texts ≡ flat_map (item_bytes Str) (map (λ (text : List ℕ). Text text) texts)
     each [] = refl
     each (text ∷ texts) = ap₂ ◌++◌ (one text) (each texts)

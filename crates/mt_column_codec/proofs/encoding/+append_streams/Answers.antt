@@ -1,21 +1,20 @@
-use Rattle.std.proofs.Common.{◌≡◌, ◌<◌, ◌≤◌, ◌+◌, ◌-◌, ℕ, List, [], ◌∷◌, ◌++◌, length, map, take, drop, sum, true, ap, sym, subst, ◌∙◌, arith, rules}
+use Rattle.std.proofs.Common.{◌≡◌, ◌<◌, ◌+◌, ◌-◌, ℕ, List, [], ◌∷◌, length, take, drop, true, ap, sym, subst, ◌∙◌, arith, rules}
 use Rattle.std.specs.Prelude.{OnOk}
-use Rattle.std.specs.Int.{w64, to_le_bytes}
 use Rattle.std.specs.List.{flat_map, list_all}
 use Rattle.std.proofs.lemmas.List.{length-map}
 use Rattle.mt_types.specs.declared.ty.Ty.TheVariants.{Array, Nullable}
-use Rattle.mt_types.specs.declared.value.Value.{Value, out-Value}
+use Rattle.mt_types.specs.declared.value.Value.{Value}
 use Rattle.mt_types.specs.Defaults.{default_of}
 use Rattle.mt_types.specs.Fits.{fits_of}
 use Rattle.mt_types.specs.Items.{item_bytes}
 use Rattle.mt_types.specs.Profile.{is_profile}
-use Rattle.mt_defs.specs.WrittenStreams.{elements_at, or_default, written_streams}
+use Rattle.mt_defs.specs.WrittenStreams.{or_default, written_streams}
 use Rattle.mt_cells.specs.Items.{default_item, items_in}
 use Rattle.mt_columns.specs.Nesting.{AreNested, nested_values}
 use Rattle.mt_columns.specs.Shapes.{shape_of}
 use Rattle.mt_columns.proofs.NestLemmas.{nested_length}
-use Rattle.mt_codec.specs.Runs.{fits_or_null, null_item, size_item, written_item}
-use Rattle.mt_codec.proofs.WrittenLemmas.{array_fit, array_inside, array_written, more_after, nullable_fit, nullable_inside, nullable_items, nullable_single, nullable_written, one_more, single_items, single_of, two_more}
+use Rattle.mt_codec.specs.Runs.{null_item, size_item, written_item}
+use Rattle.mt_codec.proofs.WrittenLemmas.{array_fit, array_inside, array_written, more_after, nullable_fit, nullable_items, nullable_single, nullable_written, one_more, single_items, single_of, two_more}
 use Rattle.mt_column_codec.proofs.KindLemmas.{array_shape, flat_values, has_level, nullable_shape}
 use Rattle.mt_column_codec.proofs.WrittenLemmas.{all_elements, flat_items_are, nullable_items_are, nullable_items_fit, nullable_items_written, nulls_written, range_elements, range_order, range_sizes, range_within}
 use Rattle.mt_column_codec.proofs.encoding.+append_streams.Goals as goal
