@@ -1,0 +1,4 @@
+pub mod TakenLemmas
+pub mod ReadyLemmas
+pub mod GivenLemmas
+pub mod GranuleLemmas
